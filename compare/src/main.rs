@@ -1,0 +1,59 @@
+//! Prints the answers of the Rust map reader, for the runs that hold the port against it.
+
+mod answer;
+mod differences;
+mod figures;
+mod leaves;
+mod source;
+
+use std::env;
+use std::io::{self, ErrorKind};
+use std::path::Path;
+use std::process::ExitCode;
+
+const HELP: &str = "\
+compare/run [--rust FOLDER] COMMAND ARGS...
+
+  leaves-exhaustive   digests of the leaves over all inputs of 1 and 2 bytes, and over all texts of 3
+  leaves-sample DIR   writes DIR/stdin, records of operation and input, and DIR/stdout, their answers and those digests
+  figures             checks document 01's worked figures; fails on a difference
+  help                this text
+
+FOLDER holds the Rust: error.rs, io.rs and so on. By default it is ../shared/docs/src of the repository.
+";
+
+fn main() -> ExitCode {
+    let arguments: Vec<String> = env::args().skip(1).collect();
+    let arguments: Vec<&str> = arguments.iter().map(String::as_str).collect();
+    match run(&arguments) {
+        Ok(code) => code,
+        // the reader of the output has seen enough, as `head` does
+        Err(error) if error.kind() == ErrorKind::BrokenPipe => ExitCode::SUCCESS,
+        Err(error) => {
+            eprintln!("compare: {error}");
+            ExitCode::FAILURE
+        }
+    }
+}
+
+fn run(arguments: &[&str]) -> io::Result<ExitCode> {
+    match arguments {
+        ["leaves-exhaustive"] => leaves::exhaustive::print()?,
+        ["leaves-sample", folder] => leaves::sample::write(Path::new(folder))?,
+        ["figures"] => return Ok(checked(figures::check())),
+        ["help"] => print!("{HELP}"),
+        _ => {
+            eprint!("{HELP}");
+            return Ok(ExitCode::from(2));
+        }
+    }
+    Ok(ExitCode::SUCCESS)
+}
+
+fn checked(good: bool) -> ExitCode {
+    if good {
+        ExitCode::SUCCESS
+    } else {
+        ExitCode::FAILURE
+    }
+}

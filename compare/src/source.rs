@@ -1,0 +1,52 @@
+//! The byte source of the runs (document 01, error.rs and io.rs): a lent map and a position.
+
+use mapsforge_rs::error::MapforgeError;
+use mapsforge_rs::io::{ByteRead, ByteSource};
+use mapsforge_rs::Result;
+
+/// Seeking always succeeds, also past the end; a read that needs bytes past the end is refused and
+/// leaves the position; a read of 0 bytes succeeds anywhere.
+pub struct Source<'a> {
+    map: &'a [u8],
+    at: u64,
+}
+
+impl<'a> Source<'a> {
+    pub fn new(map: &'a [u8]) -> Self {
+        Source { map, at: 0 }
+    }
+
+    /// The place of the next byte.
+    pub fn at(&self) -> u64 {
+        self.at
+    }
+
+    /// The next `size` bytes, if the map has them.
+    fn ahead(&self, size: usize) -> Option<&'a [u8]> {
+        let start = usize::try_from(self.at).ok()?;
+        self.map.get(start..start.checked_add(size)?)
+    }
+}
+
+impl ByteRead for Source<'_> {
+    fn read_bytes(&mut self, buf: &mut [u8]) -> Result<()> {
+        if buf.is_empty() {
+            return Ok(());
+        }
+        let bytes = self.ahead(buf.len()).ok_or(MapforgeError::Source)?;
+        buf.copy_from_slice(bytes);
+        self.at += bytes.len() as u64;
+        Ok(())
+    }
+}
+
+impl ByteSource for Source<'_> {
+    fn seek_to(&mut self, pos: u64) -> Result<()> {
+        self.at = pos;
+        Ok(())
+    }
+
+    fn position(&mut self) -> Result<u64> {
+        Ok(self.at)
+    }
+}

@@ -1,0 +1,34 @@
+-- Laws of numbers cut at 2 ^ 64 - 1.
+use Prim.Native.Nat.{ℕ, _+_, _-_, _^_, _<_, _≤_}
+use native.Mathlib.Omega.{arith}
+use mathlib.Core.Path.{_≡_, refl, sym, _∙_}
+use mathlib.Core.Bool.{Bool, true, false, cond}
+use lib.Dec.{ltb}
+use borrow.Author.Tests.{lt-ltb, ltb-true, ltb-false}
+use Rattle.arithmetic.specs.Cut.{cut}
+
+pub cut-fits : (n : ℕ) → n < 2 ^ 64 → cut n ≡ n
+cut-fits n h = rw (lt-ltb n (2 ^ 64) h)
+
+pub cut-over : (n : ℕ) → 2 ^ 64 - 1 ≤ n → cut n ≡ 2 ^ 64 - 1
+cut-over n h = go (ltb n (2 ^ 64)) refl
+  where
+    go : (x : Bool) → ltb n (2 ^ 64) ≡ x → cond x n (2 ^ 64 - 1) ≡ 2 ^ 64 - 1
+    go true e = omega (arith, ltb-true n (2 ^ 64) e)
+    go false e = refl
+
+pub cut-add : (a b : ℕ) → cut (cut a + b) ≡ cut (a + b)
+cut-add a b = go (ltb a (2 ^ 64)) refl
+  where
+    go : (x : Bool) → ltb a (2 ^ 64) ≡ x → cut (cond x a (2 ^ 64 - 1) + b) ≡ cut (a + b)
+    go true e = refl
+    go false e =
+        let h : 2 ^ 64 ≤ a = ltb-false a (2 ^ 64) e in
+        cut-over (2 ^ 64 - 1 + b) (omega arith) ∙ sym (cut-over (a + b) (omega arith))
+
+pub cut-small : (n k : ℕ) → k ≡ cut n → k < 2 ^ 64
+cut-small n k e = go (ltb n (2 ^ 64)) refl
+  where
+    go : (x : Bool) → ltb n (2 ^ 64) ≡ x → k < 2 ^ 64
+    go true q = omega (arith, ltb-true n (2 ^ 64) q, e ∙ cut-fits n (ltb-true n (2 ^ 64) q))
+    go false q = let h : 2 ^ 64 ≤ n = ltb-false n (2 ^ 64) q in omega (arith, e ∙ cut-over n (omega arith))

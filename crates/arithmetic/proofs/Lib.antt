@@ -1,0 +1,2 @@
+pub mod ArithmeticLaws
+pub mod CutLaws

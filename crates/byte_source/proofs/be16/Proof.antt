@@ -1,0 +1,16 @@
+use Rattle.byte_source.proofs.ByteLaws.{parts}
+use Rattle.byte_source.proofs.be16.Statement.{statement}
+use Rattle.byte_source.proofs.be16.Tie as tie
+
+pub be16-spec : {M : Type 1} → statement M
+be16-spec =
+    tie.close
+    (tie.spec
+    (search parts)
+    (search parts)
+    (search parts)
+    (search parts)
+    (search parts)
+    (search parts)
+    (search parts)
+    (λ c. search parts))

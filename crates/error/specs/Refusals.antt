@@ -1,0 +1,59 @@
+-- Document 01, "Answers other than a result": the number and the values of each refusal. Every promise goes through these.
+use Prim.Native.Nat.{ℕ}
+use mathlib.Core.List.{List, [], _∷_}
+use Rattle.parsing.specs.Parse.{Res, ok, no}
+use Rattle.error.specs.declared.Lengths.{Lengths}
+use Rattle.error.specs.declared.Refusal.{Refusal}
+use Rattle.error.specs.declared.Refusal.the-variants.{Source, InvalidMagic, UnsupportedVersion, InvalidBoundingBox, InvalidHeaderSize, InvalidIndexSignature, InvalidTagId, InvalidTileIndex, TextTooLong, TooManyNodes, NumberTooLong, CoordinateTooLarge, ReversedInterval, InvalidGrid, TooShort, OutOfTurn, InvalidFeature, ZoomTooLarge}
+
+abbrev pub numberOf : Refusal → ℕ
+numberOf Source = 1
+numberOf InvalidMagic = 2
+numberOf (UnsupportedVersion v) = 3
+numberOf InvalidBoundingBox = 4
+numberOf InvalidHeaderSize = 5
+numberOf InvalidIndexSignature = 6
+numberOf (InvalidTagId i) = 7
+numberOf InvalidTileIndex = 8
+numberOf TextTooLong = 9
+numberOf TooManyNodes = 10
+numberOf NumberTooLong = 11
+numberOf CoordinateTooLarge = 12
+numberOf ReversedInterval = 13
+numberOf InvalidGrid = 14
+numberOf (TooShort l) = 15
+numberOf OutOfTurn = 16
+numberOf InvalidFeature = 17
+numberOf ZoomTooLarge = 18
+
+-- the lengths needed, of five lists and a buffer; 0 where a call lends none
+abbrev pub lengths : ℕ → ℕ → ℕ → ℕ → ℕ → ℕ → List ℕ
+lengths a b c d e buffer = a ∷ b ∷ c ∷ d ∷ e ∷ buffer ∷ []
+
+abbrev pub valuesOf : Refusal → List ℕ
+valuesOf Source = []
+valuesOf InvalidMagic = []
+valuesOf (UnsupportedVersion v) = v ∷ []
+valuesOf InvalidBoundingBox = []
+valuesOf InvalidHeaderSize = []
+valuesOf InvalidIndexSignature = []
+valuesOf (InvalidTagId i) = i ∷ []
+valuesOf InvalidTileIndex = []
+valuesOf TextTooLong = []
+valuesOf TooManyNodes = []
+valuesOf NumberTooLong = []
+valuesOf CoordinateTooLarge = []
+valuesOf ReversedInterval = []
+valuesOf InvalidGrid = []
+valuesOf (TooShort l) = lengths (l .list1) (l .list2) (l .list3) (l .list4) (l .list5) (l .buffer)
+valuesOf OutOfTurn = []
+valuesOf InvalidFeature = []
+valuesOf ZoomTooLarge = []
+
+-- a refusal as a result
+abbrev pub refused : {A : Type 0} → Refusal → Res A
+refused r = no (numberOf r) (valuesOf r)
+
+-- only the buffer is too short
+abbrev pub shortBuffer : ℕ → Refusal
+shortBuffer n = TooShort (record { list1 = 0; list2 = 0; list3 = 0; list4 = 0; list5 = 0; buffer = n })

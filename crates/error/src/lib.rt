@@ -1,0 +1,93 @@
+// error.rs: why a call has no result.
+ghost use mathlib.Core.Path.{_≡_};
+ghost use Rattle.error.specs.Refusals.{numberOf, shortBuffer};
+
+// The lengths that a call needs: of the lists in the order in which it takes them, and of the buffer. 0 where it takes none.
+pub struct Lengths {
+    pub list1: u64,
+    pub list2: u64,
+    pub list3: u64,
+    pub list4: u64,
+    pub list5: u64,
+    pub buffer: u64,
+}
+
+// The table "Answers other than a result" of document 01, in its order. The first ten are the Rust's `MapforgeError`.
+pub enum Refusal {
+    // 1: the map ends too early
+    Source,
+    // 2
+    InvalidMagic,
+    // 3, with the version
+    UnsupportedVersion(u32),
+    // 4
+    InvalidBoundingBox,
+    // 5: the header size is 0
+    InvalidHeaderSize,
+    // 6
+    InvalidIndexSignature,
+    // 7, with the id
+    InvalidTagId(u64),
+    // 8: no such sub file or tile
+    InvalidTileIndex,
+    // 9: a text over 2^20 bytes
+    TextTooLong,
+    // 10: a block over 2^20 nodes
+    TooManyNodes,
+    // 11: the ninth byte of a number has its top bit
+    NumberTooLong,
+    // 12: a coordinate above 2^53
+    CoordinateTooLarge,
+    // 13: min zoom above max
+    ReversedInterval,
+    // 14: a reversed grid, or one of over 2^32 - 1 tiles
+    InvalidGrid,
+    // 15: a lent list or buffer is shorter than the result, with the lengths needed
+    TooShort(Lengths),
+    // 16: a call out of turn
+    OutOfTurn,
+    // 17: a feature number at or above the count
+    InvalidFeature,
+    // 18: a zoom above 63 in column or longitude arithmetic
+    ZoomTooLarge,
+}
+
+// Document 01's number of a refusal.
+pub fn number_of(refusal: Refusal) -> u8
+    ensures { λ r. ⌜ r ≡ numberOf refusal ⌝ }
+{
+    match refusal {
+        Refusal::Source => 1,
+        Refusal::InvalidMagic => 2,
+        Refusal::UnsupportedVersion(_) => 3,
+        Refusal::InvalidBoundingBox => 4,
+        Refusal::InvalidHeaderSize => 5,
+        Refusal::InvalidIndexSignature => 6,
+        Refusal::InvalidTagId(_) => 7,
+        Refusal::InvalidTileIndex => 8,
+        Refusal::TextTooLong => 9,
+        Refusal::TooManyNodes => 10,
+        Refusal::NumberTooLong => 11,
+        Refusal::CoordinateTooLarge => 12,
+        Refusal::ReversedInterval => 13,
+        Refusal::InvalidGrid => 14,
+        Refusal::TooShort(_) => 15,
+        Refusal::OutOfTurn => 16,
+        Refusal::InvalidFeature => 17,
+        Refusal::ZoomTooLarge => 18,
+    }
+}
+
+// The refusal that only the buffer is too short.
+pub fn short_buffer(needed: u64) -> Refusal
+    ensures { λ r. ⌜ r ≡ shortBuffer needed ⌝ }
+{
+    Refusal::TooShort(Lengths {
+        list1: 0,
+        list2: 0,
+        list3: 0,
+        list4: 0,
+        list5: 0,
+        buffer: needed,
+    })
+}

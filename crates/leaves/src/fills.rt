@@ -1,0 +1,38 @@
+// Long texts: a map that is a given prefix, filled up with the letter a.
+use crate::answers;
+use byte_source::WordRead;
+use report::Words;
+
+// The first bytes of the map become the prefix.
+fn put_prefix(map: &mut [u8], prefix: &[u8]) {
+    let mut i = 0;
+    while i < prefix.len() {
+        if map.len() <= i {
+            return;
+        }
+        map[i] = prefix[i];
+        i += 1;
+    }
+}
+
+// The text of a map that is the prefix and so many bytes of the filling.
+fn text_of_front(map: &mut [u8], prefix: &[u8], fill: usize) -> Words {
+    put_prefix(map, prefix);
+    let size = arithmetic::saturating_add_usize(prefix.len(), fill);
+    if map.len() < size {
+        return report::no_words();
+    }
+    answers::text_at_start(&map[..size])
+}
+
+// The input is the number of filling bytes, and then the prefix.
+pub fn filled_text(input: &[u8]) -> Words {
+    let WordRead::Value(fill, at) = byte_source::read_u32_be(input, 0) else {
+        return report::no_words();
+    };
+    if input.len() < at {
+        return report::no_words();
+    }
+    let mut map = answers::large();
+    text_of_front(&mut map, &input[at..], fill as usize)
+}

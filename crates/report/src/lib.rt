@@ -1,0 +1,112 @@
+// What the programs that are run against the Rust print: an answer as a list of words, and digests of many answers.
+ghost use mathlib.Core.Path.{_≡_};
+ghost use Prim.Native.Nat.{_+_, _*_, _%_, _^_};
+ghost use Rattle.report.specs.Words.{pushed, mixed, digestOf, signOf, bitsOf};
+ghost use lib.IntN.{natAbs};
+use libc::STDOUT_FILENO;
+
+// An answer: 0 and its values, or a refusal's number and its values. No answer that is printed has more than 32 words.
+pub struct Words {
+    pub words: [u64; 32],
+    pub count: usize,
+}
+
+pub fn no_words() -> Words
+    ensures { λ r. ⌜ r .count ≡ 0 ⌝ }
+{
+    Words {
+        words: [0; 32],
+        count: 0,
+    }
+}
+
+// One word more, while there is room.
+pub fn push(to: Words, word: u64) -> Words
+    ensures { λ r. ⌜ r ≡ pushed to word ⌝ }
+{
+    let at = to.count;
+    if 32 <= at {
+        return to;
+    }
+    let mut words = to.words;
+    words[at] = word;
+    Words {
+        words,
+        count: at + 1,
+    }
+}
+
+// A word mixed into a digest.
+pub fn mix(digest: u64, word: u64) -> u64
+    ensures { λ r. ⌜ r ≡ mixed digest word ⌝ }
+{
+    std::num::wrapping_add_u64(arithmetic::wrapping_mul_u64(digest, 1099511628211), word)
+}
+
+// An answer mixed into a digest: the number of its words, and then these.
+pub fn mix_words(digest: u64, words: Words) -> u64
+    ensures { λ r. ⌜ r ≡ digestOf digest words ⌝ }
+{
+    let list = words.words;
+    let count = words.count;
+    let mut out = mix(digest, count as u64);
+    let mut i = 0;
+    while i < 32 {
+        if count <= i {
+            return out;
+        }
+        out = mix(out, list[i]);
+        i += 1;
+    }
+    out
+}
+
+// A number's magnitude.
+pub fn magnitude(v: i64) -> u64
+    ensures { λ r. ⌜ r ≡ natAbs v ⌝ }
+{
+    if 0 <= v {
+        return v as u64;
+    }
+    ((-1 - v) as u64) + 1
+}
+
+// 1 for a negative number, and 0 for any other.
+pub fn sign(v: i64) -> u64
+    ensures { λ r. ⌜ r ≡ signOf v ⌝ }
+{
+    if 0 <= v {
+        return 0;
+    }
+    1
+}
+
+// The bits of a float; one pattern stands for every NaN.
+pub fn float_bits(x: f64) -> u64
+    ensures { λ r. ⌜ r ≡ bitsOf x ⌝ }
+{
+    if x != x {
+        return 9221120237041090560;
+    }
+    f64::to_bits(x)
+}
+
+fn print_word(word: u64) {
+    io::write_all(STDOUT_FILENO, b" ");
+    io::print_decimal(STDOUT_FILENO, word);
+}
+
+// A line: the letter of what was asked, and the words of the answer. What is written cannot be stated in a contract.
+pub fn print_line(letter: u8, words: Words) {
+    let list = words.words;
+    let count = words.count;
+    io::write_all(STDOUT_FILENO, &[letter]);
+    let mut i = 0;
+    while i < 32 {
+        if i < count {
+            print_word(list[i]);
+        }
+        i += 1;
+    }
+    io::write_all(STDOUT_FILENO, b"\n");
+}

@@ -1,0 +1,12 @@
+use borrow.Author.Needs.{needs}
+use Rattle.tag.proofs.TagLaws.{tags}
+use Rattle.tag.proofs.inline_value_kind.Statement.{statement}
+use Rattle.tag.proofs.inline_value_kind.Tie as tie
+
+pub inline-value-kind-spec : {M : Type 1} → statement M
+inline-value-kind-spec =
+    tie.close
+    (tie.spec
+    (search needs)
+    (search needs)
+    (λ c. search tags))

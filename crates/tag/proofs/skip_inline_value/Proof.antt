@@ -1,0 +1,28 @@
+use Rattle.tag.specs.Value.{value}
+use Rattle.tag.proofs.ValueLaws.{values}
+use Rattle.tag.proofs.skip_inline_value.Statement.{statement}
+use Rattle.tag.proofs.skip_inline_value.Tie as tie
+
+pub skip-inline-value-spec : {M : Type 1} → statement M
+unfolding value
+skip-inline-value-spec =
+    tie.close
+    (tie.spec
+    (search values)
+    (search values)
+    (search values)
+    (search values)
+    (search values)
+    (search values)
+    (search values)
+    (search values)
+    (search values)
+    (search values)
+    (search values)
+    (search values)
+    (λ c. search values)
+    (λ c. search values)
+    (λ c. search values)
+    (λ c. search values)
+    (λ c. search values)
+    (λ c. search values))

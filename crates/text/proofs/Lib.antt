@@ -1,0 +1,5 @@
+pub mod Utf8Laws
+pub mod ReplacedLaws
+pub mod WriteLaws
+pub mod WrittenLaws
+pub mod HashLaws

@@ -1,0 +1,17 @@
+use borrow.Author.Needs.{needs}
+use Rattle.text.proofs.WriteLaws.{writes}
+use Rattle.text.proofs.write_replaced.Statement.{statement}
+use Rattle.text.proofs.write_replaced.Tie as tie
+
+pub write-replaced-spec : {M : Type 1} → statement M
+write-replaced-spec =
+    tie.close
+    (tie.spec
+    (search needs)
+    (λ c κs. search writes)
+    (search needs)
+    (λ c. search writes)
+    (search needs)
+    (search needs)
+    (search needs)
+    (λ c. search writes))

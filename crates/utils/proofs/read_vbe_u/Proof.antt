@@ -1,0 +1,18 @@
+use Rattle.utils.specs.Vbe.{text}
+use Rattle.utils.proofs.NumberLaws.{reads}
+use Rattle.utils.proofs.read_vbe_u.Statement.{statement}
+use Rattle.utils.proofs.read_vbe_u.Tie as tie
+
+pub read-vbe-u-spec : {M : Type 1} → statement M
+unfolding text
+read-vbe-u-spec =
+    tie.close
+    (tie.spec
+    (search reads)
+    (search reads)
+    (search reads)
+    (search reads)
+    (λ c. search reads)
+    (λ c. search reads)
+    (search reads)
+    (λ c. search reads))

@@ -1,0 +1,3 @@
+pub mod Vbe
+pub mod Answers
+pub mod Degree
