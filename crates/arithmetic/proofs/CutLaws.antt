@@ -1,10 +1,14 @@
--- Laws of numbers cut at 2 ^ 64 - 1.
+-- Laws of numbers and places cut at 2 ^ 64 - 1.
 use Prim.Native.Nat.{ℕ, _+_, _-_, _^_, _<_, _≤_}
 use native.Mathlib.Omega.{arith}
 use mathlib.Core.Path.{_≡_, refl, sym, _∙_}
 use mathlib.Core.Bool.{Bool, true, false, cond}
+use mathlib.Core.List.{List}
 use lib.Dec.{ltb}
+use lib.ListN.{length}
 use borrow.Author.Tests.{lt-ltb, ltb-true, ltb-false}
+use Rattle.parsing.specs.Parse.{Parser}
+use Rattle.parsing.proofs.Ends.{PastEnd}
 use Rattle.arithmetic.specs.Cut.{cut}
 
 pub cut-fits : (n : ℕ) → n < 2 ^ 64 → cut n ≡ n
@@ -32,3 +36,11 @@ cut-small n k e = go (ltb n (2 ^ 64)) refl
     go : (x : Bool) → ltb n (2 ^ 64) ≡ x → k < 2 ^ 64
     go true q = omega (arith, ltb-true n (2 ^ 64) q, e ∙ cut-fits n (ltb-true n (2 ^ 64) q))
     go false q = let h : 2 ^ 64 ≤ n = ltb-false n (2 ^ 64) q in omega (arith, e ∙ cut-over n (omega arith))
+
+-- a map is shorter than 2 ^ 64 bytes, so a read of one or more bytes is refused at a cut place as at the true one
+pub at-cut : {A : Type 0} {p : Parser A} → PastEnd p → (m : List ℕ) (i : ℕ) → length m < 2 ^ 64 → p m (cut i) ≡ p m i
+at-cut {p = p} e m i h = go (ltb i (2 ^ 64)) refl
+  where
+    go : (c : Bool) → ltb i (2 ^ 64) ≡ c → p m (cond c i (2 ^ 64 - 1)) ≡ p m i
+    go true t = refl
+    go false t = let l : 2 ^ 64 ≤ i = ltb-false i (2 ^ 64) t in e .stops m (2 ^ 64 - 1) (omega arith) ∙ sym (e .stops m i (omega arith))

@@ -16,6 +16,7 @@ use mir.Val.{SFits, toZ, ofZ}
 use mir.Facts.{toZ-pos, toZ-ofZ}
 use Rattle.parsing.specs.Parse.{Res, ok, no, Part, part, chunk}
 use Rattle.parsing.proofs.Steps.{chunk-none, chunk-here, chunk-behind, chunk-past}
+use Rattle.parsing.proofs.Ends.{PastEnd, bind-end, chunk-end}
 use Rattle.byte_source.specs.BigEndian.{valueOf, bigEndian, twosComplement, Holds}
 use Rattle.byte_source.specs.declared.Span.{Span}
 use Rattle.byte_source.specs.Answers.{spanBytes, partIn}
@@ -59,6 +60,9 @@ pair16 s at x y f e b d a = joined 1 1 s at x y f (single s at x (omega arith) e
 pub pair32 : (s : List ℕ) (at x y : ℕ) → at + 4 ≤ length s → Holds 2 s at x → Holds 2 s (at + 2) y → Holds 4 s at (x * 65536 + y)
 pair32 s at x y f h g = joined 2 2 s at x y f h g
 
+pub pair40 : (s : List ℕ) (at x y : ℕ) → at + 5 ≤ length s → x ≡ getD s at 0 → x < 256 → Holds 4 s (at + 1) y → Holds 5 s at (x * 4294967296 + y)
+pair40 s at x y f e b g = joined 1 4 s at x y f (single s at x (omega arith) e b) g
+
 pub pair64 : (s : List ℕ) (at x y : ℕ) → at + 8 ≤ length s → Holds 4 s at x → Holds 4 s (at + 4) y → Holds 8 s at (x * 4294967296 + y)
 pair64 s at x y f h g = joined 4 4 s at x y f h g
 
@@ -75,6 +79,10 @@ module _ (k : ℕ) (s : List ℕ) (at : ℕ) where
   pub number-past : 1 ≤ k → at ≤ length s → length s - at < k → no 1 [] ≡ bigEndian k s at
   unfolding bigEndian
   number-past b h l = rw (← chunk-past s at k b h l)
+
+pub bigEndian-end : (k : ℕ) → 1 ≤ k → PastEnd (bigEndian k)
+unfolding bigEndian
+bigEndian-end k b = bind-end _ (chunk-end k b)
 
 -- a part of the map
 module _ (s : List ℕ) (at n : ℕ) where
@@ -126,4 +134,4 @@ module _ (m : List ℕ) (s : Span) where
   pub span-in : take (s .start + s .size - s .start) (drop (s .start) m) ≡ spanBytes m s
   span-in = let e : s .start + s .size - s .start ≡ s .size = omega arith in rw e
 
-pub ruleset parts = (reads, pair16, pair32, pair64, number-here, number-behind, number-past, part-none, part-here, part-behind, part-past, low-bits, high-fits, high-bits, span-out, span-rest, span-in)
+pub ruleset parts = (reads, pair16, pair32, pair40, pair64, number-here, number-behind, number-past, part-none, part-here, part-behind, part-past, low-bits, high-fits, high-bits, span-out, span-rest, span-in)

@@ -129,6 +129,13 @@ fn be32(map: &[u8], at: usize) -> u64
     be16(map, at) * 65536 + be16(map, at + 2)
 }
 
+fn be40(map: &[u8], at: usize) -> u64
+    requires { ⌜ at + 5 ≤ length (now map) ⌝ }
+    ensures { λ r. ⌜ Holds 5 (now (map .entry)) at r ⌝ }
+{
+    wide(map[at]) * 4294967296 + be32(map, at + 1)
+}
+
 fn be64(map: &[u8], at: usize) -> u64
     requires { ⌜ at + 8 ≤ length (now map) ⌝ }
     ensures { λ r. ⌜ Holds 8 (now (map .entry)) at r ⌝ }
@@ -158,6 +165,19 @@ pub fn read_u32_be(map: &[u8], at: usize) -> WordRead
         return WordRead::Refused(Refusal::Source);
     }
     WordRead::Value(be32(map, at) as u32, at + 4)
+}
+
+// 5 bytes, as an entry of the tile index has.
+pub fn read_u40_be(map: &[u8], at: usize) -> NumberRead
+    ensures { λ r. ⌜ numberRes r ≡ bigEndian 5 (now (map .entry)) at ⌝ }
+{
+    if map.len() < at {
+        return NumberRead::Refused(Refusal::Source);
+    }
+    if map.len() - at < 5 {
+        return NumberRead::Refused(Refusal::Source);
+    }
+    NumberRead::Value(be40(map, at), at + 5)
 }
 
 pub fn read_u64_be(map: &[u8], at: usize) -> NumberRead

@@ -1,21 +1,30 @@
 -- Sub files, their grids, and the tile index, from the format document, "Tile index entry", and document 01, tile.rs, visit.rs and
 -- "Order for a tile".
-use Prim.Native.Nat.{ℕ, zero, suc, _+_, _*_, _-_, _/_, _%_, _^_}
+use Prim.Native.Nat.{ℕ, zero, suc, _+_, _*_, _-_, _%_, _^_}
 use mathlib.Core.Bool.{Bool, true, false, cond, _&&_}
 use mathlib.Core.List.{List, [], _∷_}
 use lib.Dec.{leb, ltb}
 use lib.IntN.{ℤ, natAbs, _-ℤ_}
 use lib.Signed.{leZ}
-use Rattle.parsing.specs.Parse.{Res, ok, no, Parser, andThen, _>>=_, return, Maybe, none, some}
+use Rattle.parsing.specs.Parse.{Res, ok, no, Parser, andThen, mapRes, _>>=_, return, Maybe, none, some}
 use Rattle.parsing.specs.Good.{Good, goods}
 use Rattle.byte_source.specs.BigEndian.{bigEndian, bytes}
-use Rattle.format.specs.Header.{Interval}
+use Rattle.format.specs.Header.{Interval, between}
+
+-- a result that no read goes on from: it has no next place, and 0 stands there
+abbrev pub answer : {A : Type 0} → A → Res A
+answer a = ok a 0
 
 -- the sub file of a number, counted from 0
 abbrev pub subFile : List Interval → ℕ → Maybe Interval
 subFile [] k = none
 subFile (z ∷ zs) zero = some z
 subFile (z ∷ zs) (suc k) = subFile zs k
+
+-- what is asked of a sub file, or the answer for a missing one
+abbrev pub inSubFile : {A : Type 0} → Maybe Interval → Res A → (Interval → Res A) → Res A
+inSubFile none r f = r
+inSubFile (some z) r f = f z
 
 -- the first interval that holds the zoom; none exactly if no interval holds it
 abbrev pub holdsZoom : Interval → ℕ → Bool
@@ -35,9 +44,9 @@ pub record Grid : Type 0 where
   pub xMax : ℤ
   pub yMax : ℤ
 
--- from low to high, both included
+-- from low to high, both included; 0 if they are reversed
 abbrev pub width : ℤ → ℤ → ℕ
-width low high = natAbs (high -ℤ low) + 1
+width low high = cond (leZ low high) (natAbs (high -ℤ low) + 1) 0
 
 abbrev pub tilesOf : Grid → ℕ
 tilesOf g = width (g .xMin) (g .xMax) * width (g .yMin) (g .yMax)
@@ -46,29 +55,31 @@ tilesOf g = width (g .xMin) (g .xMax) * width (g .yMin) (g .yMax)
 abbrev pub goodGrid : Grid → Bool
 goodGrid g = leZ (g .xMin) (g .xMax) && leZ (g .yMin) (g .yMax) && leb (tilesOf g) (2 ^ 32 - 1)
 
--- a number, none, or a refusal's number
-pub data Lookup : Type 0 where
-  missing : Lookup
-  found : ℕ → Lookup
-  refusal : ℕ → Lookup
+-- the number of a grid's tiles, or 14
+unfoldable pub gridTiles : Grid → Res ℕ
+gridTiles g = cond (goodGrid g) (answer (tilesOf g)) (no 14 [])
 
 -- none for a missing sub file, then 14 for a bad grid
-abbrev pub inSubFile : Maybe Interval → Grid → Lookup → Lookup
-inSubFile none g x = missing
-inSubFile (some z) g x = cond (goodGrid g) x (refusal 14)
-
-abbrev pub tileCount : List Interval → ℕ → Grid → Lookup
-tileCount zs s g = inSubFile (subFile zs s) g (found (tilesOf g))
+unfoldable pub tileCount : List Interval → ℕ → Grid → Res (Maybe ℕ)
+tileCount zs s g = inSubFile (subFile zs s) (answer none) (λ z. mapRes some (gridTiles g))
 
 abbrev pub inGrid : Grid → ℤ → ℤ → Bool
-inGrid g x y = leZ (g .xMin) x && leZ x (g .xMax) && leZ (g .yMin) y && leZ y (g .yMax)
+inGrid g x y = between (g .xMin) (g .xMax) x && between (g .yMin) (g .yMax) y
 
 -- row by row, and within a row column by column
 abbrev pub rowMajor : Grid → ℤ → ℤ → ℕ
 rowMajor g x y = natAbs (y -ℤ g .yMin) * width (g .xMin) (g .xMax) + natAbs (x -ℤ g .xMin)
 
-abbrev pub tileIndexOf : List Interval → ℕ → Grid → ℤ → ℤ → Lookup
-tileIndexOf zs s g x y = inSubFile (subFile zs s) g (cond (inGrid g x y) (found (rowMajor g x y)) missing)
+abbrev pub indexIn : Grid → ℤ → ℤ → Maybe ℕ
+indexIn g x y = cond (inGrid g x y) (some (rowMajor g x y)) none
+
+-- 14 for a bad grid, then none outside it
+unfoldable pub gridIndex : Grid → ℤ → ℤ → Res (Maybe ℕ)
+gridIndex g x y = andThen (gridTiles g) (λ _ _. answer (indexIn g x y))
+
+-- none for a missing sub file first
+unfoldable pub tileIndexOf : List Interval → ℕ → Grid → ℤ → ℤ → Res (Maybe ℕ)
+tileIndexOf zs s g x y = inSubFile (subFile zs s) (answer none) (λ z. gridIndex g x y)
 
 -- 5 bytes: the top bit is water, the other 39 bits are the tile's offset in the sub file
 pub record Entry : Type 0 where
@@ -85,14 +96,14 @@ entry start = do
 abbrev pub entryAt : Bool → ℕ → ℕ → ℕ
 entryAt d start tile = start + cond d 16 0 + 5 * tile
 
-abbrev pub entryIn : Bool → Maybe Interval → Grid → ℕ → List ℕ → Res Entry
-entryIn d none g tile m = no 8 []
-entryIn d (some z) g tile m =
-    cond (goodGrid g) (cond (ltb tile (tilesOf g)) (entry (z .start) m (entryAt d (z .start) tile)) (no 8 [])) (no 14 [])
+-- grid (14), tile (8), entry (1), in the sub file with this start; d is the debug flag
+unfoldable pub entryIn : Bool → ℕ → Grid → ℕ → List ℕ → Res Entry
+entryIn d start g tile m =
+    andThen (gridTiles g) (λ n _. cond (ltb tile n) (entry start m (entryAt d start tile)) (no 8 []))
 
--- sub file (8), grid (14), tile (8), entry (1); d is the debug flag
+-- sub file (8) first
 unfoldable pub tileIndexEntry : Bool → List Interval → ℕ → Grid → ℕ → List ℕ → Res Entry
-tileIndexEntry d zs s g tile m = entryIn d (subFile zs s) g tile m
+tileIndexEntry d zs s g tile m = inSubFile (subFile zs s) (no 8 []) (λ z. entryIn d (z .start) g tile m)
 
 -- the laws
 pub entry-good : (start : ℕ) → Good (entry start)

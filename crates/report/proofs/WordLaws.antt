@@ -1,5 +1,5 @@
 -- Laws of words and digests.
-use Prim.Native.Nat.{ℕ, zero, suc, _+_, _-_, _^_, _<_, _≤_, min}
+use Prim.Native.Nat.{ℕ, zero, suc, _+_, _-_, _%_, _^_, _<_, _≤_, min}
 use native.Mathlib.Numerals.{add-one}
 use native.Mathlib.Omega.{arith}
 use mathlib.Core.Path.{_≡_, refl, sym, ap, _∙_}
@@ -11,18 +11,19 @@ use lib.Signed.{leZ, mag, nonNeg}
 use mir.Syntax.{w64}
 use mir.Val.{Fits, SFits, toZ, ofZ}
 use mir.Facts.{toZ-ofZ}
-use lib.Ieee.{Float, nan, inf, fin, ne, eq, isNan}
+use lib.Ieee.{Float, nan, inf, fin, binary64, ne, eq, isNan, nanBits}
+use lib.Ieee.Bits.{nanBits-above}
 use lib.ListN.{getD, set}
 use borrow.Author.Needs.{needs}
 use borrow.Author.Tests.{lt-ltb, le-ltb, lt-leb, leb-false}
 use Rattle.report.specs.Words.{pushed, mixed, mixedUpto}
 use Rattle.report.specs.declared.Words.{Words}
 
-pub push-full : (w : Words) (x : ℕ) → 32 ≤ w .count → w ≡ pushed w x
-push-full w x h = rw (le-ltb (w .count) 32 h)
+pub push-full : (w : Words) (x : ℕ) → 40 ≤ w .count → w ≡ pushed w x
+push-full w x h = rw (le-ltb (w .count) 40 h)
 
-pub push-more : (w : Words) (x : ℕ) → w .count < 32 → record { words = set (w .words) (w .count) x; count = w .count + 1 } ≡ pushed w x
-push-more w x h = rw (lt-ltb (w .count) 32 h)
+pub push-more : (w : Words) (x : ℕ) → w .count < 40 → record { words = set (w .words) (w .count) x; count = w .count + 1 } ≡ pushed w x
+push-more w x h = rw (lt-ltb (w .count) 40 h)
 
 pub mix-none : (l : List ℕ) (d h : ℕ) → h ≡ d → h ≡ mixedUpto d l 0
 unfolding mixedUpto
@@ -33,11 +34,11 @@ module _ (l : List ℕ) (i d h : ℕ) (e : h ≡ mixedUpto d l i) where
   unfolding mixedUpto
   mix-more y q = rw (add-one i) (q ∙ ap (λ x. mixed x (getD l i 0)) e)
 
-  pub mix-count : (n : ℕ) → i ≤ n → n ≤ i → i < 32 → h ≡ mixedUpto d l (min n 32)
-  mix-count n b c f = let z : i ≡ min n 32 = omega arith in e ∙ ap (mixedUpto d l) z
+  pub mix-count : (n : ℕ) → i ≤ n → n ≤ i → i < 40 → h ≡ mixedUpto d l (min n 40)
+  mix-count n b c f = let z : i ≡ min n 40 = omega arith in e ∙ ap (mixedUpto d l) z
 
-  pub mix-all : (n : ℕ) → i ≤ n → i ≤ 32 → 32 ≤ i → h ≡ mixedUpto d l (min n 32)
-  mix-all n b c f = let z : i ≡ min n 32 = omega arith in e ∙ ap (mixedUpto d l) z
+  pub mix-all : (n : ℕ) → i ≤ n → i ≤ 40 → 40 ≤ i → h ≡ mixedUpto d l (min n 40)
+  mix-all n b c f = let z : i ≡ min n 40 = omega arith in e ∙ ap (mixedUpto d l) z
 
 -- a float that equals itself is a number
 pub no-nan : (x : Float) → ne x x ≡ false → T (not (isNan x))
@@ -45,6 +46,13 @@ unfolding ne eq isNan
 no-nan nan e = let z : _≡_ {A = ℕ} 0 1 = cc in absurd (omega arith)
 no-nan (inf s) e = tt
 no-nan (fin s m k) e = tt
+
+-- patterns of floats
+pub pattern-nan : (n : ℕ) → 9218868437227405312 < n % 9223372036854775808 → nanBits binary64 n ≡ true
+pattern-nan n h = nanBits-above binary64 n ∙ lt-ltb 9218868437227405312 (n % 9223372036854775808) h
+
+pub pattern-number : (n : ℕ) → n % 9223372036854775808 ≤ 9218868437227405312 → nanBits binary64 n ≡ false
+pattern-number n h = nanBits-above binary64 n ∙ le-ltb 9218868437227405312 (n % 9223372036854775808) h
 
 -- magnitudes
 pub abs-up : (z : ℤ) → leZ (pos 0) z ≡ true → T (nonNeg z)

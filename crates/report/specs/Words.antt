@@ -6,12 +6,12 @@ use lib.Dec.{ltb}
 use lib.IntN.{ℤ, pos}
 use lib.Signed.{leZ}
 use lib.ListN.{set, getD}
-use lib.Ieee.{Float, binary64, ne, toBits}
+use lib.Ieee.{Float, nan, binary64, ne, toBits, ofBits, nanBits}
 use Rattle.report.specs.declared.Words.{Words}
 
 -- one word more, while there is room
 abbrev pub pushed : Words → ℕ → Words
-pushed w x = cond (ltb (w .count) 32) (record { words = set (w .words) (w .count) x; count = w .count + 1 }) w
+pushed w x = cond (ltb (w .count) 40) (record { words = set (w .words) (w .count) x; count = w .count + 1 }) w
 
 unfoldable pub mixed : ℕ → ℕ → ℕ
 mixed h x = (h * 1099511628211 % 2 ^ 64 + x) % 2 ^ 64
@@ -23,7 +23,7 @@ mixedUpto h l (suc n) = mixed (mixedUpto h l n) (getD l n 0)
 
 -- the number of words, and then these
 abbrev pub digestOf : ℕ → Words → ℕ
-digestOf h w = mixedUpto (mixed h (w .count)) (w .words) (min (w .count) 32)
+digestOf h w = mixedUpto (mixed h (w .count)) (w .words) (min (w .count) 40)
 
 abbrev pub signOf : ℤ → ℕ
 signOf z = cond (leZ (pos 0) z) 0 1
@@ -31,3 +31,7 @@ signOf z = cond (leZ (pos 0) z) 0 1
 -- the bits of a float; one pattern stands for every NaN
 abbrev pub bitsOf : Float → ℕ
 bitsOf x = cond (ne x x) 9221120237041090560 (toBits binary64 x)
+
+-- the float of a bit pattern; every pattern of a NaN is the NaN
+abbrev pub floatOf : ℕ → Float
+floatOf n = cond (nanBits binary64 n) nan (ofBits binary64 n)

@@ -1,13 +1,13 @@
 // What the programs that are run against the Rust print: an answer as a list of words, and digests of many answers.
 ghost use mathlib.Core.Path.{_≡_};
 ghost use Prim.Native.Nat.{_+_, _*_, _%_, _^_};
-ghost use Rattle.report.specs.Words.{pushed, mixed, digestOf, signOf, bitsOf};
+ghost use Rattle.report.specs.Words.{pushed, mixed, digestOf, signOf, bitsOf, floatOf};
 ghost use lib.IntN.{natAbs};
 use libc::STDOUT_FILENO;
 
-// An answer: 0 and its values, or a refusal's number and its values. No answer that is printed has more than 32 words.
+// An answer: 0 and its values, or a refusal's number and its values. No answer that is printed has more than 40 words.
 pub struct Words {
-    pub words: [u64; 32],
+    pub words: [u64; 40],
     pub count: usize,
 }
 
@@ -15,7 +15,7 @@ pub fn no_words() -> Words
     ensures { λ r. ⌜ r .count ≡ 0 ⌝ }
 {
     Words {
-        words: [0; 32],
+        words: [0; 40],
         count: 0,
     }
 }
@@ -25,7 +25,7 @@ pub fn push(to: Words, word: u64) -> Words
     ensures { λ r. ⌜ r ≡ pushed to word ⌝ }
 {
     let at = to.count;
-    if 32 <= at {
+    if 40 <= at {
         return to;
     }
     let mut words = to.words;
@@ -51,7 +51,7 @@ pub fn mix_words(digest: u64, words: Words) -> u64
     let count = words.count;
     let mut out = mix(digest, count as u64);
     let mut i = 0;
-    while i < 32 {
+    while i < 40 {
         if count <= i {
             return out;
         }
@@ -91,6 +91,16 @@ pub fn float_bits(x: f64) -> u64
     f64::to_bits(x)
 }
 
+// The float of a bit pattern.
+pub fn float_of(bits: u64) -> f64
+    ensures { λ r. ⌜ r ≡ floatOf bits ⌝ }
+{
+    if 9218868437227405312 < bits % 9223372036854775808 {
+        return 0.0 / 0.0;
+    }
+    f64::from_bits(bits)
+}
+
 fn print_word(word: u64) {
     io::write_all(STDOUT_FILENO, b" ");
     io::print_decimal(STDOUT_FILENO, word);
@@ -102,7 +112,7 @@ pub fn print_line(letter: u8, words: Words) {
     let count = words.count;
     io::write_all(STDOUT_FILENO, &[letter]);
     let mut i = 0;
-    while i < 32 {
+    while i < 40 {
         if i < count {
             print_word(list[i]);
         }

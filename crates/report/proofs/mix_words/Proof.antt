@@ -7,10 +7,10 @@ use Rattle.report.proofs.mix_words.Statement.{statement}
 use Rattle.report.proofs.mix_words.Tie as tie
 
 abbrev Inv-loop : tie.InvT-loop
-Inv-loop digest list count out₀ i₀ out i = (i ≤ 32) × (i ≤ count) × (out ≡ mixedUpto (mixed digest count) list i)
+Inv-loop digest list count out₀ i₀ out i = (i ≤ 40) × (i ≤ count) × (out ≡ mixedUpto (mixed digest count) list i)
 
 abbrev μ-loop : tie.MeasureT-loop
-μ-loop digest list count out₀ i₀ out i = 32 - i
+μ-loop digest list count out₀ i₀ out i = 40 - i
 
 pub mix-words-spec : {M : Type 1} → statement M
 mix-words-spec =

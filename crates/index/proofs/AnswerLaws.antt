@@ -1,0 +1,70 @@
+-- An answer that was received, in a definition that goes on from it, for `search`.
+use Prim.Native.Nat.{ℕ, _<_, _^_}
+use native.Mathlib.Omega.{arith}
+use mir.Syntax.{w32}
+use mir.Val.{Fits}
+use lib.IntN.{ℤ}
+use mathlib.Core.Bool.{Bool, false, not}
+use mathlib.Core.Path.{_≡_, refl, sym, ap, _∙_}
+use Rattle.parsing.specs.Parse.{Res, ok, no, andThen, Maybe, none, some}
+use Rattle.parsing.proofs.Steps.{step}
+use Rattle.error.specs.Refusals.{refused}
+use Rattle.error.specs.declared.Refusal.{Refusal}
+use Rattle.byte_source.proofs.ReadLaws as reading
+use Rattle.byte_source.proofs.ReadLaws.{stop, taken}
+use Rattle.format.specs.Header.{Interval}
+use Rattle.format.specs.Index.{Grid as TileGrid, inSubFile, gridTiles, inGrid}
+use Rattle.types.specs.Types.{intervalOf}
+use Rattle.types.specs.declared.ZoomInterval.{ZoomInterval}
+use Rattle.index.specs.Asked.{Inside}
+use Rattle.index.specs.Answers.{intervalFound, gridRes, gridRefusal, entryRefusal}
+use Rattle.index.specs.declared.IntervalRead.{IntervalRead}
+use Rattle.index.specs.declared.IntervalRead.the-variants as interval
+use Rattle.index.specs.declared.GridRead.{GridRead}
+use Rattle.index.specs.declared.GridRead.the-variants as grid
+use Rattle.index.specs.declared.EntryRead.{EntryRead}
+use Rattle.index.specs.declared.EntryRead.the-variants as entry
+use Rattle.index.proofs.SignLaws.{passed}
+use Rattle.index.proofs.GridLaws.{Counted, counted-grid, good-size, indices}
+
+pub grid-refused : (g : GridRead) (e : Refusal) → g ≡ grid.Refused e → e ≡ gridRefusal g
+grid-refused g e h = taken gridRefusal h refl
+
+pub entry-refused : (g : EntryRead) (e : Refusal) → g ≡ entry.Refused e → e ≡ entryRefusal g
+entry-refused g e h = taken entryRefusal h refl
+
+pub ruleset refusals = (reading.refusals, grid-refused, entry-refused)
+
+module _ {B : Type 0} where
+  pub interval-at : (g : IntervalRead) (z : ZoomInterval) (r : Maybe Interval) (q : Res B) (f : Interval → Res B) (x : Res B) → intervalFound g ≡ r → g ≡ interval.At z → x ≡ f (intervalOf z) → x ≡ inSubFile r q f
+  interval-at g z r q f x e h p = p ∙ ap (λ s. inSubFile s q f) (ap intervalFound (sym h) ∙ e)
+
+  pub interval-missing : (g : IntervalRead) (r : Maybe Interval) (q : Res B) (f : Interval → Res B) (x : Res B) → intervalFound g ≡ r → g ≡ interval.Missing → x ≡ q → x ≡ inSubFile r q f
+  interval-missing g r q f x e h p = p ∙ ap (λ s. inSubFile s q f) (ap intervalFound (sym h) ∙ e)
+
+  -- a definition over a sub file, put through another
+  pub file-then : {A : Type 0} (r : Maybe Interval) (q : Res A) (f : Interval → Res A) (g : A → ℕ → Res B) (x : Res B) → x ≡ inSubFile r (andThen q g) (λ z. andThen (f z) g) → x ≡ andThen (inSubFile r q f) g
+  file-then none q f g x h = h
+  file-then (some z) q f g x h = h
+
+  pub grid-ok : (g : GridRead) (n : ℕ) (r : Res ℕ) (f : ℕ → ℕ → Res B) (x : Res B) → gridRes g ≡ r → g ≡ grid.Tiles n → x ≡ f n 0 → x ≡ andThen r f
+  grid-ok g n r f x e h p = step gridRes r f e h p
+
+  pub grid-no : (g : GridRead) (e′ e : Refusal) (r : Res ℕ) (f : ℕ → ℕ → Res B) → gridRes g ≡ r → g ≡ grid.Refused e → e′ ≡ gridRefusal g → refused e′ ≡ andThen r f
+  grid-no g e′ e r f q h p = stop gridRes gridRefusal r f q h p refl refl
+
+-- a grid whose tiles were counted has fewer than 2 ^ 32
+module _ (r : GridRead) (n : ℕ) (g : TileGrid) (e : gridRes r ≡ gridTiles g) (h : r ≡ grid.Tiles n) where
+  tiles-counted : Counted g n
+  tiles-counted = counted-grid g n (ap gridRes (sym h) ∙ e)
+
+  pub tiles-small : n < 2 ^ 32
+  tiles-small = omega (arith, good-size g (tiles-counted .good), tiles-counted .count)
+
+  pub tiles-fit : Fits w32 n
+  tiles-fit = record { fits = tiles-small }
+
+  pub tile-inside : (x y : ℤ) (c : Bool) → c ≡ inGrid g x y → not c ≡ false → Inside g x y
+  tile-inside x y c d k = record { good = tiles-counted .good; inside = passed c _ d k }
+
+pub ruleset reads = (reading.reads, interval-at, interval-missing, file-then, grid-ok, grid-no, tiles-small, tiles-fit, tile-inside, indices)

@@ -1,0 +1,72 @@
+-- Where an entry of the tile index stands, and what it says.
+use Prim.Native.Nat.{ℕ, _+_, _*_, _/_, _%_, _^_, _<_}
+use native.Mathlib.Nat.{add-assoc}
+use native.Mathlib.Omega.{arith}
+use mathlib.Core.Path.{_≡_, refl, sym, ap, _∙_}
+use mathlib.Core.Bool.{Bool, cond}
+use mathlib.Core.List.{List}
+use lib.Dec.{leb, lit≤}
+use lib.ListN.{length}
+use borrow.Author.Tests.{eq-eqb, ne-eqb}
+use Rattle.parsing.specs.Parse.{Res, ok, no, Parser, andThen}
+use Rattle.parsing.specs.Good.{ok-val, no-ok}
+use Rattle.parsing.proofs.Ends.{PastEnd, bind-end}
+use Rattle.error.specs.Refusals.{refused}
+use Rattle.error.specs.declared.Refusal.{Refusal}
+use Rattle.arithmetic.specs.Cut.{cut}
+use Rattle.arithmetic.proofs.CutLaws.{at-cut}
+use Rattle.byte_source.proofs.ByteLaws.{bigEndian-end}
+use Rattle.format.specs.Header.{bit}
+use Rattle.format.specs.Index.{Grid as TileGrid, gridTiles, Entry, entry, entryAt}
+use Rattle.index.specs.Answers.{gridRes, heldEntry, heldRes, entryRes, entryRefusal}
+use Rattle.index.specs.declared.TileIndexEntry.{TileIndexEntry}
+use Rattle.index.specs.declared.EntryRead.{EntryRead}
+use Rattle.index.specs.declared.EntryRead.the-variants as read
+use Rattle.index.specs.declared.GridRead.{GridRead}
+use Rattle.index.specs.declared.GridRead.the-variants as grid
+use Rattle.index.proofs.AnswerLaws.{reads, tiles-small, entry-refused}
+
+-- the debug flag
+pub bit-set : (b x y : ℕ) → b / 128 % 2 ≡ 1 → x ≡ cond (bit 7 b) x y
+bit-set b x y h = rw (eq-eqb (b / 128 % 2) 1 h)
+
+pub bit-clear : (b x y : ℕ) → (b / 128 % 2 ≡ 1 → ⊥) → y ≡ cond (bit 7 b) x y
+bit-clear b x y h = rw (ne-eqb (b / 128 % 2) 1 h)
+
+-- the entry's place
+pub place-is : (d : Bool) (size tile start r : ℕ) → size ≡ cond d 16 0 → r ≡ cut (start + (size + 5 * tile)) → r ≡ cut (entryAt d start tile)
+place-is d size tile start r e h = h ∙ rw (e, add-assoc start (cond d 16 0) (5 * tile))
+
+pub tile-small : (r : GridRead) (n : ℕ) (g : TileGrid) (tile : ℕ) → gridRes r ≡ gridTiles g → r ≡ grid.Tiles n → tile < n → tile < 2 ^ 32
+tile-small r n g tile e h k = omega (arith, tiles-small r n g e h)
+
+-- the entry as it is handed out
+pub entry-held : (n start absolute : ℕ) → absolute ≡ cut (start + n % 549755813888) → ok (record { «is_water» = leb 549755813888 n; offset = n % 549755813888; «offset_abs» = absolute }) 0 ≡ ok (heldEntry (record { water = leb (2 ^ 39) n; offset = n % 2 ^ 39; absolute = start + n % 2 ^ 39 })) 0
+entry-held n start absolute h = rw h
+
+-- a read at a place that the code holds cut is the read at the true place
+entry-end : (start : ℕ) → PastEnd (entry start)
+unfolding entry
+entry-end start = bind-end _ (bigEndian-end 5 (lit≤ tt))
+
+pub entry-cut : {B : Type 0} (m : List ℕ) (start place at : ℕ) (f : Entry → ℕ → Res B) (x : Res B) → length m < 2 ^ 64 → at ≡ cut place → x ≡ andThen (entry start m at) f → x ≡ andThen (entry start m place) f
+entry-cut m start place at f x l h e = e ∙ ap (λ r. andThen r f) (ap (entry start m) h ∙ at-cut (entry-end start) m place l)
+
+pub ruleset entries = (reads, bit-set, bit-clear, place-is, tile-small, entry-held, entry-cut)
+
+-- for callers: what a definition reads at the entry's tile, the code may read at the place that it holds
+pub entry-ok : {B : Type 0} (g : EntryRead) (v : TileIndexEntry) (m : List ℕ) (r : Res Entry) (body : Bool → Parser B) (x : Res B) → entryRes g ≡ heldRes r → g ≡ read.Entry v → length m < 2 ^ 64 → ((water : Bool) → PastEnd (body water)) → x ≡ body (v .«is_water») m (v .«offset_abs») → x ≡ andThen r (λ e _. body (e .water) m (e .absolute))
+entry-ok {B = B} g v m r body x e h l p q = go r (ap entryRes (sym h) ∙ e)
+  where
+    go : (r : Res Entry) → ok v 0 ≡ heldRes r → x ≡ andThen r (λ e _. body (e .water) m (e .absolute))
+    go (ok a n) d =
+        let c : v ≡ heldEntry a = ok-val d in
+        q ∙ ap (λ (u : TileIndexEntry). body (u .«is_water») m (u .«offset_abs»)) c ∙ at-cut (p (a .water)) m (a .absolute) l
+    go (no n w) d = no-ok (sym d)
+
+pub entry-no : {B : Type 0} (g : EntryRead) (e′ e : Refusal) (r : Res Entry) (f : Entry → ℕ → Res B) → entryRes g ≡ heldRes r → g ≡ read.Refused e → e′ ≡ entryRefusal g → refused e′ ≡ andThen r f
+entry-no {B = B} g e′ e r f q h p = ap refused (p ∙ sym (entry-refused g e h)) ∙ go r (ap entryRes (sym h) ∙ q)
+  where
+    go : (r : Res Entry) → refused e ≡ heldRes r → refused e ≡ andThen r f
+    go (ok a n) d = no-ok d
+    go (no n w) d = cc

@@ -1,0 +1,5 @@
+pub mod SignLaws
+pub mod GridLaws
+pub mod SubFileLaws
+pub mod AnswerLaws
+pub mod EntryLaws

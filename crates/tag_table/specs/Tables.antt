@@ -1,0 +1,31 @@
+-- Tag tables as the code holds them (document 01, header.rs): where the names stand and how many there are.
+use Prim.Native.Nat.{ℕ}
+use lib.ListN.{length}
+use Rattle.parsing.specs.Parse.{Res, ok, no, mapRes}
+use Rattle.error.specs.Refusals.{refused}
+use Rattle.error.specs.declared.Refusal.{Refusal}
+use Rattle.error.specs.declared.Refusal.the-variants.{Source}
+use Rattle.format.specs.Header.{Tags}
+use Rattle.format.specs.TagTable.{Table}
+use Rattle.types.specs.declared.TagTable.{TagTable}
+use Rattle.tag_table.specs.declared.TagTableRead.{TagTableRead}
+use Rattle.tag_table.specs.declared.TagTableRead.the-variants as table
+
+-- the table of tag names that were read
+abbrev pub tagTable : Tags → TagTable
+tagTable t = record { start = t .start; count = length (t .texts) }
+
+abbrev pub tableIn : TagTable → Table
+tableIn t = record { start = t .start; count = t .count }
+
+abbrev pub tableRes : TagTableRead → Res TagTable
+tableRes (table.Value t n) = ok t n
+tableRes (table.Refused r) = refused r
+
+abbrev pub tableRefusal : TagTableRead → Refusal
+tableRefusal (table.Value t n) = Source
+tableRefusal (table.Refused r) = r
+
+-- the place behind what was read, without the value
+abbrev pub passed : {A : Type 0} → Res A → Res Unit
+passed r = mapRes (λ _. tt) r

@@ -1,0 +1,115 @@
+-- Way data delivered, or not: the replies by the tests that the code makes.
+use Prim.Native.Nat.{ℕ, _≤_, _<_}
+use native.Mathlib.Omega.{arith}
+use mathlib.Core.Path.{_≡_, refl, sym, ap, _∙_}
+use mathlib.Core.Bool.{Bool, true, false, cond, _||_}
+use mathlib.Core.List.{List}
+use lib.Dec.{ltb}
+use lib.ListN.{length, length-map}
+use lib.Ieee.{Float}
+use borrow.Author.Needs.{needs}
+use borrow.Author.Tests.{le-ltb, lt-ltb, ltb-false}
+use Rattle.parsing.specs.Parse.{Res, ok, no, mapRes, listOf}
+use Rattle.parsing.specs.Good.{ok-val, ok-at, no-ok}
+use Rattle.error.specs.Refusals.{refused}
+use Rattle.error.specs.declared.Refusal.{Refusal}
+use Rattle.format.specs.Lent.{sets-front}
+use Rattle.format.specs.WayData.{Node, concat, nodeCount}
+use Rattle.format.specs.Nodes.{latitudeOf, longitudeOf, nodeCounts, latitudes, longitudes}
+use Rattle.way_measure.specs.Answers.{waySizes, wayDataRes, wayDataRefusal}
+use Rattle.way_measure.specs.declared.Sizes.{Sizes}
+use Rattle.way_measure.specs.declared.WayDataRead.{WayDataRead}
+use Rattle.way_measure.specs.declared.WayDataRead.the-variants as way-data
+use Rattle.way_data.specs.Reply.{tooShort, shorter, delivered, unchanged, readWayData}
+use Rattle.way_data.specs.Writes.{BlocksFit, BlocksWritten}
+use Rattle.way_data.specs.declared.Progress.{Progress}
+use Rattle.way_data.proofs.BlockLaws.{length-along}
+
+abbrev WayData : Type 0
+WayData = Res (List (List (List Node)))
+
+-- the test of the lengths
+module _ (z : Sizes) (c l o : ℕ) where
+  pub shorter-counts : c < z .blocks → true ≡ shorter z c l o
+  shorter-counts h = rw (lt-ltb c (z .blocks) h)
+
+  pub shorter-lats : z .blocks ≤ c → l < z .nodes → true ≡ shorter z c l o
+  shorter-lats h k = rw (le-ltb c (z .blocks) h, lt-ltb l (z .nodes) k)
+
+  pub shorter-lons : z .blocks ≤ c → z .nodes ≤ l → ltb o (z .nodes) ≡ shorter z c l o
+  shorter-lons h k = rw (le-ltb c (z .blocks) h, le-ltb l (z .nodes) k)
+
+  long-enough : shorter z c l o ≡ false → (z .blocks ≤ c) × (z .nodes ≤ l) × (z .nodes ≤ o)
+  long-enough h =
+      let u = neither (ltb c (z .blocks) || ltb l (z .nodes)) (ltb o (z .nodes)) h in
+      let v = neither (ltb c (z .blocks)) (ltb l (z .nodes)) (u .0) in
+      (ltb-false c (z .blocks) (v .0), ltb-false l (z .nodes) (v .1), ltb-false o (z .nodes) (u .1))
+    where
+      neither : (a b : Bool) → (a || b) ≡ false → (a ≡ false) × (b ≡ false)
+      neither true b h = (h, absurd (let x : _≡_ {A = ℕ} 0 1 = ap (λ (y : Bool). cond y 0 1) h in omega arith))
+      neither false b h = (refl, h)
+
+module _ (t : Bool) (c : List ℕ) (la lo : List Float) where
+  pub reply-no : (r : WayData) (g : WayDataRead) (x y : Refusal) → wayDataRes g ≡ mapRes waySizes r → g ≡ way-data.Refused x → y ≡ wayDataRefusal g → unchanged c la lo (refused y) ≡ readWayData t r c la lo
+  reply-no (ok d e) g x y q h w = no-ok (sym (ap wayDataRes h) ∙ q)
+  reply-no (no n v) g x y q h w =
+      let k : refused y ≡ no n v = ap refused (w ∙ ap wayDataRefusal h) ∙ sym (ap wayDataRes h) ∙ q in
+      ap (unchanged c la lo) k
+
+  module _ (z : Sizes) (e : ℕ) where
+    -- what a caller that has measured gets
+    pub short-is : (r : WayData) → mapRes waySizes r ≡ ok z e → shorter z (length c) (length la) (length lo) ≡ true → readWayData t r c la lo ≡ unchanged c la lo (refused (tooShort z))
+    short-is (no n v) m f = no-ok m
+    short-is (ok d i) m f =
+        let f′ : shorter (waySizes d) (length c) (length la) (length lo) ≡ true = ap (λ s. shorter s (length c) (length la) (length lo)) (ok-val m) ∙ f in
+        rw f′ (ap (λ s. unchanged c la lo (refused (tooShort s))) (ok-val m))
+
+    pub delivered-is : (r : WayData) → mapRes waySizes r ≡ ok z e → shorter z (length c) (length la) (length lo) ≡ false → readWayData t r c la lo ≡ delivered c la lo t (concat (listOf r)) e
+    delivered-is (no n v) m f = no-ok m
+    delivered-is (ok d x) m f =
+        let f′ : shorter (waySizes d) (length c) (length la) (length lo) ≡ false = ap (λ s. shorter s (length c) (length la) (length lo)) (ok-val m) ∙ f in
+        rw f′ (ap (delivered c la lo t (concat d)) (ok-at m))
+
+    -- where the second pass starts
+    module _ (at : ℕ) (f : shorter z (length c) (length la) (length lo) ≡ false) where
+      abbrev start : Progress
+      start = record { next = at; blocks = 0; nodes = 0 }
+
+      fit-as : (r : WayData) → mapRes waySizes r ≡ ok z e → BlocksFit (mapRes concat r) start c la lo
+      fit-as (no n v) m = no-ok m
+      fit-as (ok d x) m =
+          let l = long-enough z (length c) (length la) (length lo) f in
+          let u : length (concat d) ≡ z .blocks = ap (λ (s : Sizes). s .blocks) (ok-val m) in
+          let v : nodeCount (concat d) ≡ z .nodes = ap (λ (s : Sizes). s .nodes) (ok-val m) in
+          record { fine = tt; counts = omega arith; lats = omega arith; lons = omega arith }
+
+      done-as : (r : WayData) (p : Progress) (c′ : List ℕ) (la′ lo′ : List Float) → mapRes waySizes r ≡ ok z e → BlocksWritten t (mapRes concat r) start c la lo p c′ la′ lo′ → unchanged c′ la′ lo′ (ok z e) ≡ readWayData t r c la lo
+      done-as (no n v) p c′ la′ lo′ m w = no-ok m
+      done-as (ok d x) p c′ la′ lo′ m w =
+          let b = concat d in
+          let l = long-enough z (length c) (length la) (length lo) f in
+          let q : waySizes d ≡ z = ok-val m in
+          let u : length b ≡ z .blocks = ap (λ (s : Sizes). s .blocks) q in
+          let v : nodeCount b ≡ z .nodes = ap (λ (s : Sizes). s .nodes) q in
+          let n = length-along t latitudeOf b in
+          let o = length-along t longitudeOf b in
+          let y = length-map b length in
+          rw (
+            w .counts ∙ sets-front (nodeCounts b) c (omega arith),
+            w .lats ∙ sets-front (latitudes t b) la (omega arith),
+            w .lons ∙ sets-front (longitudes t b) lo (omega arith),
+            ← q,
+          ) (sym (delivered-is (ok d x) m f))
+
+    -- the same by the code's answer
+    module _ (r : WayData) (g : WayDataRead) (q : wayDataRes g ≡ mapRes waySizes r) (h : g ≡ way-data.Value z e) (k : Bool) (i : k ≡ shorter z (length c) (length la) (length lo)) where
+      pub reply-short : (x : Refusal) → k ≡ true → x ≡ tooShort z → unchanged c la lo (refused x) ≡ readWayData t r c la lo
+      reply-short x j w = rw w (sym (short-is r (sym q ∙ ap wayDataRes h) (sym i ∙ j)))
+
+      pub reply-fit : (at : ℕ) → k ≡ false → BlocksFit (mapRes concat r) (record { next = at; blocks = 0; nodes = 0 }) c la lo
+      reply-fit at j = fit-as at (sym i ∙ j) r (sym q ∙ ap wayDataRes h)
+
+      pub reply-done : (at : ℕ) (p : Progress) (c′ : List ℕ) (la′ lo′ : List Float) → k ≡ false → BlocksWritten t (mapRes concat r) (record { next = at; blocks = 0; nodes = 0 }) c la lo p c′ la′ lo′ → unchanged c′ la′ lo′ (ok z e) ≡ readWayData t r c la lo
+      reply-done at p c′ la′ lo′ j w = done-as at (sym i ∙ j) r p c′ la′ lo′ (sym q ∙ ap wayDataRes h) w
+
+pub ruleset replies = (needs, shorter-counts, shorter-lats, shorter-lons, reply-no, reply-short, reply-fit, reply-done)

@@ -1,0 +1,23 @@
+use Rattle.format.specs.WayData.{block}
+use Rattle.way_measure.proofs.MeasureLaws.{measures}
+use Rattle.way_measure.proofs.measure_block.Statement.{statement}
+use Rattle.way_measure.proofs.measure_block.Tie as tie
+
+pub measure-block-spec : {M : Type 1} → statement M
+unfolding block
+measure-block-spec =
+    tie.close
+    (tie.spec
+    (search measures)
+    (search measures)
+    (search measures)
+    (search measures)
+    (λ c. search measures)
+    (λ c. search measures)
+    (λ c. search measures)
+    (λ c. search measures)
+    (search measures)
+    (search measures)
+    (search measures)
+    (λ c. search measures)
+    (λ c. search measures))

@@ -1,0 +1,12 @@
+use Rattle.way_measure.proofs.MeasureLaws.{measures}
+use Rattle.way_measure.proofs.node_refusal.Statement.{statement}
+use Rattle.way_measure.proofs.node_refusal.Tie as tie
+
+pub node-refusal-spec : {M : Type 1} → statement M
+node-refusal-spec =
+    tie.close
+    (tie.spec
+    (search measures)
+    (search measures)
+    (λ c. search measures)
+    (λ c. search measures))

@@ -1,0 +1,158 @@
+// way.rs: how many blocks and nodes the data of a way has, and where it ends. This is the first of two passes: a refusal leaves the
+// lent lists as they were, so nothing is written before all is known to be readable.
+use byte_source::NumberRead;
+use coordinates::Skip;
+use error::Refusal;
+use utils::MicroRead;
+use utils::Microdegrees;
+ghost use mathlib.Core.Path.{_≡_};
+ghost use lib.ListN.{length};
+ghost use Rattle.parsing.specs.Parse.{mapRes, many};
+ghost use Rattle.byte_source.specs.Answers.{numberRes};
+ghost use Rattle.format.specs.WayData.{node, block, dataBlock, wayData};
+ghost use Rattle.way_measure.specs.Answers.{nodeRes, nodeRefusal, sizesOf, waySizes, wayDataRes, wayDataRefusal};
+
+// A node as stored: its position, or a delta.
+pub struct Node {
+    pub latitude: Microdegrees,
+    pub longitude: Microdegrees,
+}
+
+pub enum NodeRead {
+    Value(Node, usize),
+    Refused(Refusal),
+}
+
+// How many coordinate blocks, and how many nodes all of them have.
+pub struct Sizes {
+    pub blocks: u64,
+    pub nodes: u64,
+}
+
+// The sizes of a way's data with the place behind it, or a refusal.
+pub enum WayDataRead {
+    Value(Sizes, usize),
+    Refused(Refusal),
+}
+
+pub fn node_refusal(got: NodeRead) -> Refusal
+    ensures { λ r. ⌜ r ≡ nodeRefusal got ⌝ }
+{
+    match got {
+        NodeRead::Refused(r) => r,
+        NodeRead::Value(_, _) => Refusal::Source,
+    }
+}
+
+pub fn way_data_refusal(got: WayDataRead) -> Refusal
+    ensures { λ r. ⌜ r ≡ wayDataRefusal got ⌝ }
+{
+    match got {
+        WayDataRead::Refused(r) => r,
+        WayDataRead::Value(_, _) => Refusal::Source,
+    }
+}
+
+pub fn read_node(map: &[u8], at: usize) -> NodeRead
+    ensures { λ r. ⌜ nodeRes r ≡ node (now (map .entry)) at ⌝ }
+{
+    let got = utils::read_microdegrees(map, at);
+    let MicroRead::Value(latitude, at) = got else {
+        return NodeRead::Refused(utils::micro_refusal(got));
+    };
+    let got = utils::read_microdegrees(map, at);
+    let MicroRead::Value(longitude, at) = got else {
+        return NodeRead::Refused(utils::micro_refusal(got));
+    };
+    NodeRead::Value(
+        Node {
+            latitude,
+            longitude,
+        },
+        at,
+    )
+}
+
+// The slow way over n nodes: each is decoded, so a refusal comes at its place.
+fn measure_nodes(map: &[u8], at: usize, n: u64) -> NumberRead
+    ensures { λ r. ⌜ numberRes r ≡ mapRes length (many node n (now (map .entry)) at) ⌝ }
+{
+    let mut next = at;
+    let mut i: u64 = 0;
+    while i < n {
+        let got = read_node(map, next);
+        let NodeRead::Value(_, after) = got else {
+            return NumberRead::Refused(node_refusal(got));
+        };
+        next = after;
+        i += 1;
+    }
+    NumberRead::Value(i, next)
+}
+
+// A block's node count. Nodes of short numbers, nearly all, are passed over without decoding them.
+fn measure_block(map: &[u8], at: usize) -> NumberRead
+    ensures { λ r. ⌜ numberRes r ≡ mapRes length (block (now (map .entry)) at) ⌝ }
+{
+    let got = utils::read_vbe_u_int(map, at);
+    let NumberRead::Value(n, at) = got else {
+        return NumberRead::Refused(byte_source::number_refusal(got));
+    };
+    if 1048576 < n {
+        return NumberRead::Refused(Refusal::TooManyNodes);
+    }
+    let fast = coordinates::skip_coordinates(map, at, 2 * n);
+    let Skip::At(end) = fast else {
+        return measure_nodes(map, at, n);
+    };
+    NumberRead::Value(n, end)
+}
+
+fn measure_blocks(map: &[u8], at: usize, n: u64) -> WayDataRead
+    ensures { λ r. ⌜ wayDataRes r ≡ mapRes sizesOf (many block n (now (map .entry)) at) ⌝ }
+{
+    let mut next = at;
+    let mut nodes: u64 = 0;
+    let mut i: u64 = 0;
+    while i < n {
+        let got = measure_block(map, next);
+        let NumberRead::Value(k, after) = got else {
+            return WayDataRead::Refused(byte_source::number_refusal(got));
+        };
+        nodes += k;
+        next = after;
+        i += 1;
+    }
+    WayDataRead::Value(Sizes { blocks: i, nodes }, next)
+}
+
+fn measure_data_block(map: &[u8], at: usize) -> WayDataRead
+    ensures { λ r. ⌜ wayDataRes r ≡ mapRes sizesOf (dataBlock (now (map .entry)) at) ⌝ }
+{
+    let got = utils::read_vbe_u_int(map, at);
+    let NumberRead::Value(n, at) = got else {
+        return WayDataRead::Refused(byte_source::number_refusal(got));
+    };
+    measure_blocks(map, at, n)
+}
+
+// The first pass. Each turn passes a byte or is refused, so that counts up to 2^64 - 1 end, and no sum wraps.
+pub fn measure_way_data(map: &[u8], at: usize, data_blocks: u64) -> WayDataRead
+    ensures { λ r. ⌜ wayDataRes r ≡ mapRes waySizes (wayData «data_blocks» (now (map .entry)) at) ⌝ }
+{
+    let mut next = at;
+    let mut blocks: u64 = 0;
+    let mut nodes: u64 = 0;
+    let mut i: u64 = 0;
+    while i < data_blocks {
+        let got = measure_data_block(map, next);
+        let WayDataRead::Value(s, after) = got else {
+            return WayDataRead::Refused(way_data_refusal(got));
+        };
+        blocks += s.blocks;
+        nodes += s.nodes;
+        next = after;
+        i += 1;
+    }
+    WayDataRead::Value(Sizes { blocks, nodes }, next)
+}
