@@ -1,7 +1,14 @@
-//! Where the port parts from the Rust on purpose. Each guard looks at the bytes alone; where it
-//! speaks up, the Rust is not run and the port's answer stands.
+//! Where the port parts from the Rust on purpose. Each guard looks at the bytes alone, or at the
+//! numbers of the call; where it speaks up, the Rust is not run and the port's answer stands. The one
+//! exception is a header: the Rust is shown one that it can read.
+
+mod header;
+
+use mapsforge_rs::grid::Grid;
 
 use crate::answer::Answer;
+
+pub use header::{header, Header};
 
 /// The most bytes that a number has.
 const NUMBER_BYTES: usize = 9;
@@ -11,6 +18,10 @@ const COORDINATE_LIMIT: u64 = 1 << 53;
 const TEXT_LIMIT: u64 = 1 << 20;
 /// The most bytes of a length that `read_vbe_u` shifts by less than 32 bits.
 const KEPT_BYTES: usize = 5;
+/// The size of an index entry.
+const ENTRY_BYTES: u128 = 5;
+/// The highest zoom by which 1 can be shifted in 64 bits.
+const ZOOM_LIMIT: u8 = 63;
 
 /// "At most 9 bytes (added, 11)." and row 11: "ninth byte has its top bit; no tenth is read".
 pub fn number_too_long(map: &[u8]) -> Option<Answer> {
@@ -54,6 +65,39 @@ fn wide_text(map: &[u8], start: usize, length: u64) -> Text {
         let size = length as usize;
         Text::Stored { start, size }
     }
+}
+
+/// Row 14: "grid reversed, or over 2^32 − 1 tiles". The caller has looked for the sub file first.
+pub fn grid(grid: &Grid) -> Option<Answer> {
+    grid.tiles().is_none().then(|| vec![14])
+}
+
+/// "`tile_index_of` here is the whole number, also above 2^31 − 1." The Rust reckons in i32, and the
+/// number of columns alone may be too large for it. The grid is a good one.
+pub fn tile_index(grid: &Grid, x: i32, y: i32) -> Option<Answer> {
+    let (columns, rows) = (grid.x_min..=grid.x_max, grid.y_min..=grid.y_max);
+    if !columns.contains(&x) || !rows.contains(&y) {
+        return None;
+    }
+    let distance = |from: i32, to: i32| i64::from(to) - i64::from(from);
+    let columns = distance(grid.x_min, grid.x_max) + 1;
+    // neither the rows above nor their product with the columns is larger than the index
+    let index = distance(grid.y_min, y) * columns + distance(grid.x_min, x);
+    let held = |number: i64| i32::try_from(number).is_ok();
+    (!held(columns) || !held(index)).then(|| vec![0, 1, index as u64])
+}
+
+/// "Sums past 64 bits [...] are read as far as the map goes: 1": the place of an index entry, whose
+/// tile is in the grid. The sum of an entry's offset and the sub file's start needs no guard: the
+/// entry is behind the start, so where it can be read the start is inside the map.
+pub fn entry(start: u64, signature: u64, tile: u64) -> Option<Answer> {
+    let place = u128::from(start) + u128::from(signature) + u128::from(tile) * ENTRY_BYTES;
+    u64::try_from(place).is_err().then(|| vec![1])
+}
+
+/// Row 18: "zoom above 63 in column or longitude arithmetic".
+pub fn zoom(zoom: u8) -> Option<Answer> {
+    (zoom > ZOOM_LIMIT).then(|| vec![18])
 }
 
 /// The bytes of the number that the map starts with, if it ends in the map.

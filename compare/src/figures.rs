@@ -9,6 +9,8 @@ use mapsforge_rs::types::MapFile;
 
 use crate::answer::{digest, refused, Answer};
 use crate::leaves::{answer, FILLED_TEXT};
+use crate::maps::writer::{entry, Header, DEBUG};
+use crate::maps::Run;
 use crate::source::Source;
 
 /// Whether all figures hold; each that does not is printed.
@@ -21,6 +23,8 @@ pub fn check() -> bool {
     values(&mut tally);
     source(&mut tally);
     tiles(&mut tally);
+    opening(&mut tally);
+    index(&mut tally);
     println!("{} figures hold, {} do not", tally.good, tally.bad);
     tally.bad == 0
 }
@@ -153,10 +157,43 @@ fn map_without_tile(header: &[u8], grid: Grid) -> Option<MapforgeError> {
     map.tile_index_entry(0, 6).err()
 }
 
-/// A header with no text, no tag and one zoom interval, all of whose numbers are 0.
+/// A header with one zoom interval, whose sub file starts with the map.
 fn header() -> Vec<u8> {
-    let size_and_version = [0, 0, 0, 1, 0, 0, 0, 3];
-    let from_file_size_to_tags = [0; 8 + 8 + 16 + 2 + 1 + 1 + 2 + 2];
-    let intervals = [&[1][..], &[0; 19]].concat();
-    [&b"mapsforge binary OSM"[..], &size_and_version, &from_file_size_to_tags, &intervals].concat()
+    with_sub_file(0).bytes()
+}
+
+fn with_sub_file(start: u64) -> Header {
+    Header::tiny().with_interval([0; 3], start)
+}
+
+/// The table's examples of maps that do not open.
+fn opening(tally: &mut Tally) {
+    let mut example = |name: &str, map: &[u8], wanted: &[u64]| {
+        tally.equal(name, Run::default().answer(b'M', map), wanted.to_vec());
+    };
+    let good = Header::tiny();
+    example("empty map", &[], &[1]);
+    example("20 bytes 00", &[0; 20], &[2]);
+    example("version 2", &Header { version: 2, ..good.clone() }.bytes(), &[3, 2]);
+    let bounds = [90_000_001, 0, 0, 0];
+    example("min latitude 90000001", &Header { bounds, ..good.clone() }.bytes(), &[4]);
+    example("good header, size 0", &Header { header_size: Some(0), ..good }.bytes(), &[5]);
+    let debug = Header { flags: DEBUG, ..with_sub_file(header().len() as u64) };
+    example("debug, 16 bytes 2B", &debug.before(&[0x2B; 16]), &[6]);
+}
+
+/// "entry 80 00 00 00 07, start 100: water, offset 7, absolute 107", and the added refusals.
+fn index(tally: &mut Tally) {
+    let mut map = with_sub_file(100).bytes();
+    map.resize(100, 0);
+    map.extend(entry(true, 7));
+    let mut run = Run::default();
+    tally.equal("a good header", run.answer(b'M', &map)[0], 0);
+    // sub file 0, a grid of one tile, tile 0
+    tally.equal("entry 80 00 00 00 07", run.answer(b'e', &[0; 32]), vec![0, 1, 7, 107]);
+    let mut reversed = [0; 24];
+    (reversed[11], reversed[19]) = (5, 4);
+    tally.equal("x_min 5, x_max 4", run.answer(b'n', &reversed), vec![14]);
+    tally.equal("column at zoom 64", run.answer(b'l', &[0, 0, 0, 0, 0, 0, 0, 0, 64]), vec![18]);
+    tally.equal("longitude at zoom 64", run.answer(b'x', &[0, 0, 0, 0, 64]), vec![18]);
 }

@@ -165,7 +165,7 @@ fn split_tag(text: &str) -> Answer {
 }
 
 /// The letter of a tag's inline value; 0 for none and for every letter that skips nothing.
-fn value_letter(text: &str) -> u64 {
+pub fn value_letter(text: &str) -> u64 {
     let letter = tag::inline_value_kind(text);
     u64::from(letter.filter(|letter| b"bhifs".contains(letter)).unwrap_or(0))
 }

@@ -4,6 +4,9 @@ mod answer;
 mod differences;
 mod figures;
 mod leaves;
+mod maps;
+mod random;
+mod records;
 mod source;
 
 use std::env;
@@ -16,6 +19,9 @@ compare/run [--rust FOLDER] COMMAND ARGS...
 
   leaves-exhaustive   digests of the leaves over all inputs of 1 and 2 bytes, and over all texts of 3
   leaves-sample DIR   writes DIR/stdin, records of operation and input, and DIR/stdout, their answers and those digests
+  maps-sample DIR     the same two files for crafted maps: opening them, index and grid, columns
+  maps-records FILE DIR
+                      the same two files for one map
   figures             checks document 01's worked figures; fails on a difference
   help                this text
 
@@ -40,6 +46,8 @@ fn run(arguments: &[&str]) -> io::Result<ExitCode> {
     match arguments {
         ["leaves-exhaustive"] => leaves::exhaustive::print()?,
         ["leaves-sample", folder] => leaves::sample::write(Path::new(folder))?,
+        ["maps-sample", folder] => maps::sample::write(Path::new(folder))?,
+        ["maps-records", file, folder] => maps::file::write(Path::new(file), Path::new(folder))?,
         ["figures"] => return Ok(checked(figures::check())),
         ["help"] => print!("{HELP}"),
         _ => {

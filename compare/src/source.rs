@@ -7,13 +7,20 @@ use mapsforge_rs::Result;
 /// Seeking always succeeds, also past the end; a read that needs bytes past the end is refused and
 /// leaves the position; a read of 0 bytes succeeds anywhere.
 pub struct Source<'a> {
+    shown: &'a [u8],
     map: &'a [u8],
     at: u64,
 }
 
 impl<'a> Source<'a> {
     pub fn new(map: &'a [u8]) -> Self {
-        Source { map, at: 0 }
+        Source::with_header(map, map)
+    }
+
+    /// A map that shows another header. Places past the header are only reached by seeking, so from
+    /// the first seek on the map itself is shown.
+    pub fn with_header(header: &'a [u8], map: &'a [u8]) -> Self {
+        Source { shown: header, map, at: 0 }
     }
 
     /// The place of the next byte.
@@ -24,7 +31,7 @@ impl<'a> Source<'a> {
     /// The next `size` bytes, if the map has them.
     fn ahead(&self, size: usize) -> Option<&'a [u8]> {
         let start = usize::try_from(self.at).ok()?;
-        self.map.get(start..start.checked_add(size)?)
+        self.shown.get(start..start.checked_add(size)?)
     }
 }
 
@@ -42,6 +49,7 @@ impl ByteRead for Source<'_> {
 
 impl ByteSource for Source<'_> {
     fn seek_to(&mut self, pos: u64) -> Result<()> {
+        self.shown = self.map;
         self.at = pos;
         Ok(())
     }

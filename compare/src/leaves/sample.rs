@@ -5,12 +5,15 @@ mod random;
 mod tags;
 mod texts;
 
+pub use numbers::{unsigned, unsigned_in};
+pub use tags::TAGS;
+
 use std::collections::HashSet;
-use std::fs;
 use std::io;
 use std::path::Path;
 
 use super::{answer, exhaustive, OPERATIONS};
+use crate::records::{self, Record};
 
 /// Writes the records to `stdin` and a line for each of them to `stdout`.
 pub fn write(folder: &Path) -> io::Result<()> {
@@ -18,9 +21,7 @@ pub fn write(folder: &Path) -> io::Result<()> {
     let mut answers = records.answers().into_bytes();
     exhaustive::write(&mut answers)?;
     ask_for_all(&mut records);
-    fs::create_dir_all(folder)?;
-    fs::write(folder.join("stdin"), records.bytes())?;
-    fs::write(folder.join("stdout"), answers)
+    records::write(folder, &records.list, &answers)
 }
 
 /// Asks for the digests of `leaves-exhaustive`: `1` and an operation, then `3`.
@@ -41,8 +42,8 @@ fn sample() -> Records {
 /// Operations with their inputs, each pair once, in the order in which they came.
 #[derive(Default)]
 struct Records {
-    list: Vec<(u8, Vec<u8>)>,
-    seen: HashSet<(u8, Vec<u8>)>,
+    list: Vec<Record>,
+    seen: HashSet<Record>,
 }
 
 impl Records {
@@ -57,24 +58,9 @@ impl Records {
         operations.iter().for_each(|&operation| self.add(operation, input));
     }
 
-    /// For each record the operation, the input's length in four bytes and the input.
-    fn bytes(&self) -> Vec<u8> {
-        let mut bytes = Vec::new();
-        for (operation, input) in &self.list {
-            bytes.push(*operation);
-            bytes.extend((input.len() as u32).to_be_bytes());
-            bytes.extend(input);
-        }
-        bytes
-    }
-
     fn answers(&self) -> String {
-        self.list.iter().map(|(operation, input)| line(*operation, input)).collect()
+        let line =
+            |(operation, input): &Record| records::line(*operation, &answer(*operation, input));
+        self.list.iter().map(line).collect()
     }
-}
-
-fn line(operation: u8, input: &[u8]) -> String {
-    let words = answer(operation, input).into_iter();
-    let words: String = words.map(|word| format!(" {word}")).collect();
-    format!("{}{words}\n", char::from(operation))
 }

@@ -155,14 +155,23 @@ pub record Header : Type 0 where
   pub intervals : List Interval
 
 -- header size 0 is refused only after the last interval
+abbrev pub closed : Front → Options → Tags → Tags → List Interval → Parser Header
+closed f o p w z =
+    pick (eqb (f .preamble .size) 0) (fail 5 []) (return (record { front = f; options = o; poiTags = p; wayTags = w; intervals = z }))
+
+-- what stands behind the optional fields
+unfoldable pub tables : Front → Options → Parser Header
+tables f o = do
+  p ← tags
+  w ← tags
+  z ← intervals
+  closed f o p w z
+
 unfoldable pub header : Parser Header
 header = do
   f ← front
   o ← options (f .flags)
-  p ← tags
-  w ← tags
-  z ← intervals
-  pick (eqb (f .preamble .size) 0) (fail 5 []) (return (record { front = f; options = o; poiTags = p; wayTags = w; intervals = z }))
+  tables f o
 
 abbrev pub debug : Header → Bool
 debug h = bit 7 (h .front .flags)
@@ -226,9 +235,13 @@ pub intervals-good : Good intervals
 unfolding intervals
 intervals-good = search (fields, interval-good)
 
+pub tables-good : (f : Front) (o : Options) → Good (tables f o)
+unfolding tables
+tables-good f o = search (goods, tags-good, intervals-good) depth 20
+
 pub header-good : Good header
 unfolding header
-header-good = search (goods, front-good, options-good, tags-good, intervals-good) depth 20
+header-good = search (goods, front-good, options-good, tables-good)
 
 pub signature-good : Good signature
 unfolding signature

@@ -10,7 +10,6 @@ use error::Refusal;
 use report::Words;
 use tag::Kind;
 use tag::Tag;
-use text::Written;
 use utils::MicroRead;
 use utils::SignedRead;
 
@@ -93,40 +92,9 @@ fn flag(b: bool) -> u64 {
     0
 }
 
-fn wide(x: u8) -> u64 {
-    x as u64
-}
-
-// The bytes mixed into a digest, one by one.
-fn mix_bytes(digest: u64, bytes: &[u8]) -> u64 {
-    let mut out = digest;
-    let mut i = 0;
-    while i < bytes.len() {
-        out = report::mix(out, wide(bytes[i]));
-        i += 1;
-    }
-    out
-}
-
-// Room for a text of 2^20 bytes. In a function of its own, so that no proof looks into it.
-pub fn large() -> [u8; 1100000] {
-    [97; 1100000]
-}
-
-// The replaced text's bytes mixed into a digest, by way of a buffer that is long enough.
-pub fn mix_replaced(digest: u64, text: &[u8], buffer: &mut [u8]) -> u64 {
-    let Written::Upto(n) = text::write_replaced(text, buffer, 0) else {
-        return 0;
-    };
-    if buffer.len() < n {
-        return 0;
-    }
-    mix_bytes(digest, &buffer[..n])
-}
-
 fn replaced_digest(text: &[u8]) -> u64 {
-    let mut buffer = large();
-    mix_replaced(14695981039346656037, text, &mut buffer)
+    let mut buffer = report::large();
+    report::mix_replaced(14695981039346656037, text, &mut buffer)
 }
 
 fn stored_text(map: &[u8], span: Span, at: usize) -> Words {

@@ -45,7 +45,7 @@ fn mix_text(digest: u64, text: &[u8]) -> u64 {
     let mut buffer = [0u8; 9];
     let mut out = report::mix(digest, valid_word(text));
     out = report::mix(out, text::replaced_len(text) as u64);
-    out = answers::mix_replaced(out, text, &mut buffer);
+    out = report::mix_replaced(out, text, &mut buffer);
     out = report::mix(out, text::hash_tag_parameter(text));
     report::mix(out, answers::letter_of(tag::inline_value_kind(text)))
 }

@@ -15,10 +15,26 @@ fn put_prefix(map: &mut [u8], prefix: &[u8]) {
     }
 }
 
+// Bytes 61 hex from a place on.
+fn put_filling(map: &mut [u8], from: usize, end: usize) {
+    let mut i = from;
+    while i < end {
+        if map.len() <= i {
+            return;
+        }
+        map[i] = 97;
+        i += 1;
+    }
+}
+
 // The text of a map that is the prefix and so many bytes of the filling.
 fn text_of_front(map: &mut [u8], prefix: &[u8], fill: usize) -> Words {
     put_prefix(map, prefix);
     let size = arithmetic::saturating_add_usize(prefix.len(), fill);
+    if map.len() < size {
+        return report::no_words();
+    }
+    put_filling(map, prefix.len(), size);
     if map.len() < size {
         return report::no_words();
     }
@@ -33,6 +49,6 @@ pub fn filled_text(input: &[u8]) -> Words {
     if input.len() < at {
         return report::no_words();
     }
-    let mut map = answers::large();
+    let mut map = report::large();
     text_of_front(&mut map, &input[at..], fill as usize)
 }

@@ -8,15 +8,16 @@ use mathlib.Core.List.{List}
 use lib.Dec.{T}
 use lib.IntN.{ℤ, pos, negsuc, natAbs, _-ℤ_}
 use lib.Signed.{leZ, mag, nonNeg}
-use mir.Syntax.{w64}
+use mir.Syntax.{w32, w64}
 use mir.Val.{Fits, SFits, toZ, ofZ}
 use mir.Facts.{toZ-ofZ}
 use lib.Ieee.{Float, nan, inf, fin, binary64, ne, eq, isNan, nanBits}
 use lib.Ieee.Bits.{nanBits-above}
-use lib.ListN.{getD, set}
+use lib.ListN.{length, getD, set, drop, drop-of-length-le}
+use lib.Seq.{drop-cons}
 use borrow.Author.Needs.{needs}
 use borrow.Author.Tests.{lt-ltb, le-ltb, lt-leb, leb-false}
-use Rattle.report.specs.Words.{pushed, mixed, mixedUpto}
+use Rattle.report.specs.Words.{pushed, mixed, mixedAll, mixedUpto}
 use Rattle.report.specs.declared.Words.{Words}
 
 pub push-full : (w : Words) (x : ℕ) → 40 ≤ w .count → w ≡ pushed w x
@@ -39,6 +40,13 @@ module _ (l : List ℕ) (i d h : ℕ) (e : h ≡ mixedUpto d l i) where
 
   pub mix-all : (n : ℕ) → i ≤ n → i ≤ 40 → 40 ≤ i → h ≡ mixedUpto d l (min n 40)
   mix-all n b c f = let z : i ≡ min n 40 = omega arith in e ∙ ap (mixedUpto d l) z
+
+module _ (s : List ℕ) (i h t : ℕ) (e : mixedAll h (drop i s) ≡ t) where
+  pub mix-byte : (y x : ℕ) → i < length s → x ≡ getD s i 0 → y ≡ mixed h x → mixedAll y (drop (i + 1) s) ≡ t
+  mix-byte y x l d q = rw (q, d, add-one i) (rw (drop-cons s i 0 l) at e)
+
+  pub mix-end : length s ≤ i → h ≡ t
+  mix-end l = rw (drop-of-length-le s l) at e
 
 -- a float that equals itself is a number
 pub no-nan : (x : Float) → ne x x ≡ false → T (not (isNan x))
@@ -114,4 +122,8 @@ module _ (z : ℤ) (f : SFits w64 z) where
     pub down-abs : natAbs (toZ w64 (ofZ w64 (negsuc 0 -ℤ toZ w64 (ofZ w64 z)))) + 1 ≡ natAbs z
     down-abs = rw down-is (abs-mag z below)
 
-pub ruleset words = (needs, push-full, push-more, mix-none, mix-more, mix-count, mix-all)
+-- a number of 32 bits is one of 64
+pub wide-fits : (z : ℤ) → mag z < 2 ^ 31 → SFits w64 (toZ w32 (ofZ w32 z))
+wide-fits z h = rw (toZ-ofZ {w = w32} {z = z} (record { sfits = h })) (record { sfits = omega arith })
+
+pub ruleset words = (needs, push-full, push-more, mix-none, mix-more, mix-count, mix-all, mix-byte, mix-end)

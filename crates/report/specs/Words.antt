@@ -1,7 +1,7 @@
 -- Answers as words, and the digest of the runs against the Rust (compare/src/answer.rs has the same).
 use Prim.Native.Nat.{ℕ, zero, suc, _+_, _*_, _%_, _^_, min}
 use mathlib.Core.Bool.{cond}
-use mathlib.Core.List.{List}
+use mathlib.Core.List.{List, [], _∷_}
 use lib.Dec.{ltb}
 use lib.IntN.{ℤ, pos}
 use lib.Signed.{leZ}
@@ -15,6 +15,10 @@ pushed w x = cond (ltb (w .count) 40) (record { words = set (w .words) (w .count
 
 unfoldable pub mixed : ℕ → ℕ → ℕ
 mixed h x = (h * 1099511628211 % 2 ^ 64 + x) % 2 ^ 64
+
+abbrev pub mixedAll : ℕ → List ℕ → ℕ
+mixedAll h [] = h
+mixedAll h (x ∷ xs) = mixedAll (mixed h x) xs
 
 -- the first n words
 unfoldable pub mixedUpto : ℕ → List ℕ → ℕ → ℕ

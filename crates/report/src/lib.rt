@@ -1,9 +1,16 @@
 // What the programs that are run against the Rust print: an answer as a list of words, and digests of many answers.
 ghost use mathlib.Core.Path.{_≡_};
 ghost use Prim.Native.Nat.{_+_, _*_, _%_, _^_};
-ghost use Rattle.report.specs.Words.{pushed, mixed, digestOf, signOf, bitsOf, floatOf};
+ghost use Rattle.report.specs.Words.{pushed, mixed, mixedAll, digestOf, signOf, bitsOf, floatOf};
 ghost use lib.IntN.{natAbs};
+ghost use Rattle.report.specs.Records.{aRecord, recordRes};
+use byte_source::ByteRead;
+use byte_source::Span;
+use byte_source::SpanRead;
+use byte_source::WordRead;
+use error::Refusal;
 use libc::STDOUT_FILENO;
+use text::Written;
 
 // An answer: 0 and its values, or a refusal's number and its values. No answer that is printed has more than 40 words.
 pub struct Words {
@@ -59,6 +66,66 @@ pub fn mix_words(digest: u64, words: Words) -> u64
         i += 1;
     }
     out
+}
+
+fn wide(x: u8) -> u64
+    ensures { λ r. ⌜ r ≡ x ⌝ }
+{
+    x as u64
+}
+
+// Bytes mixed into a digest, one by one.
+pub fn mix_bytes(digest: u64, bytes: &[u8]) -> u64
+    ensures { λ r. ⌜ r ≡ mixedAll digest (now (bytes .entry)) ⌝ }
+{
+    let mut out = digest;
+    let mut i = 0;
+    while i < bytes.len() {
+        out = mix(out, wide(bytes[i]));
+        i += 1;
+    }
+    out
+}
+
+// A text's replaced bytes mixed into a digest, by way of a buffer that is long enough.
+pub fn mix_replaced(digest: u64, text: &[u8], buffer: &mut [u8]) -> u64 {
+    let Written::Upto(n) = text::write_replaced(text, buffer, 0) else {
+        return 0;
+    };
+    if buffer.len() < n {
+        return 0;
+    }
+    mix_bytes(digest, &buffer[..n])
+}
+
+// Room for a map or a long text. In a function of its own, so that no proof looks into it.
+pub fn large() -> [u8; 1100000] {
+    [0; 1100000]
+}
+
+// What a record asks, where its question stands, and the place behind it.
+pub enum RecordRead {
+    Asked(u8, Span, usize),
+    Refused(Refusal),
+}
+
+// A record: a letter, the length of the question in 4 bytes, the question.
+pub fn read_record(input: &[u8], at: usize) -> RecordRead
+    ensures { λ r. ⌜ recordRes (now (input .entry)) r ≡ aRecord (now (input .entry)) at ⌝ }
+{
+    let got = byte_source::read_u8(input, at);
+    let ByteRead::Value(letter, at) = got else {
+        return RecordRead::Refused(byte_source::byte_refusal(got));
+    };
+    let got = byte_source::read_u32_be(input, at);
+    let WordRead::Value(size, at) = got else {
+        return RecordRead::Refused(byte_source::word_refusal(got));
+    };
+    let got = byte_source::read_bytes(input, at, size as usize);
+    let SpanRead::Value(span, at) = got else {
+        return RecordRead::Refused(byte_source::span_refusal(got));
+    };
+    RecordRead::Asked(letter, span, at)
 }
 
 // A number's magnitude.

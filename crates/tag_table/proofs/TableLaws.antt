@@ -1,21 +1,20 @@
 -- A walk over texts, and a table that was read, in definitions that go on from them.
-use Prim.Native.Nat.{ℕ, zero, suc, _+_, _≤_, _<_}
+use Prim.Native.Nat.{ℕ, _+_, _≤_, _<_}
 use native.Mathlib.Omega.{arith}
 use mathlib.Core.Path.{_≡_, refl, sym, ap, _∙_}
-use mathlib.Core.Bool.{cond}
-use mathlib.Core.List.{List, []}
+use mathlib.Core.List.{List}
 use lib.ListN.{length}
 use Rattle.parsing.specs.Parse.{Res, ok, no, Part, andThen, mapRes, many}
-use Rattle.parsing.specs.Good.{split, ok-val, ok-at, no-ok}
+use Rattle.parsing.specs.Good.{ok-at, no-ok}
 use Rattle.parsing.proofs.Loops.{fold-more, fold-no, many-count}
 use Rattle.parsing.proofs.Views.{viewed, view-stop}
 use Rattle.error.specs.Refusals.{refused}
 use Rattle.error.specs.declared.Refusal.{Refusal}
-use Rattle.byte_source.specs.Answers.{partIn, spanRes, spanRefusal}
+use Rattle.byte_source.specs.Answers.{spanRes, spanRefusal}
 use Rattle.byte_source.specs.declared.Span.{Span}
 use Rattle.byte_source.specs.declared.SpanRead.{SpanRead}
 use Rattle.byte_source.specs.declared.SpanRead.the-variants as span
-use Rattle.byte_source.proofs.ReadLaws.{stop, taken}
+use Rattle.byte_source.proofs.ReadLaws.{taken}
 use Rattle.utils.specs.Vbe.{text}
 use Rattle.format.specs.Header.{Tags}
 use Rattle.types.specs.Types.{endRes, endRefusal}

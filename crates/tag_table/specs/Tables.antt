@@ -1,7 +1,6 @@
 -- Tag tables as the code holds them (document 01, header.rs): where the names stand and how many there are.
-use Prim.Native.Nat.{ℕ}
 use lib.ListN.{length}
-use Rattle.parsing.specs.Parse.{Res, ok, no, mapRes}
+use Rattle.parsing.specs.Parse.{Res, ok, mapRes}
 use Rattle.error.specs.Refusals.{refused}
 use Rattle.error.specs.declared.Refusal.{Refusal}
 use Rattle.error.specs.declared.Refusal.the-variants.{Source}

@@ -2,11 +2,12 @@
 
 use super::numbers::unsigned;
 use super::Records;
+use crate::random::{repeat, Random};
 
 const SEED: u64 = 0x9E37_79B9_7F4A_7C15;
 
 pub fn add(records: &mut Records) {
-    let mut random = Random(SEED);
+    let mut random = Random::new(SEED);
     for &operation in b"abcde" {
         repeat(20, || records.add(operation, &random.bytes_up_to(10)));
     }
@@ -20,10 +21,6 @@ pub fn add(records: &mut Records) {
         repeat(15, || records.add(b'v', &random.inline_value(longest)));
     }
     repeat(60, || records.add(b't', &random.bytes_up_to(24)));
-}
-
-fn repeat(count: usize, step: impl FnMut()) {
-    std::iter::repeat_with(step).take(count).for_each(drop);
 }
 
 /// Pieces of texts: parts of tags, whole characters of each length, and ill-formed parts.
@@ -70,31 +67,7 @@ const PIECES: &[&[u8]] = &[
     b"\xFF",
 ];
 
-/// Marsaglia's xorshift, 64 bits.
-struct Random(u64);
-
 impl Random {
-    fn next(&mut self) -> u64 {
-        self.0 ^= self.0 << 13;
-        self.0 ^= self.0 >> 7;
-        self.0 ^= self.0 << 17;
-        self.0
-    }
-
-    /// A number below `end`, from the high bits.
-    fn below(&mut self, end: usize) -> usize {
-        ((self.next() >> 32) % end as u64) as usize
-    }
-
-    fn byte(&mut self) -> u8 {
-        self.below(256) as u8
-    }
-
-    fn bytes_up_to(&mut self, longest: usize) -> Vec<u8> {
-        let length = self.below(longest + 1);
-        (0..length).map(|_| self.byte()).collect()
-    }
-
     /// A number of 1 to 10 bytes, sometimes cut off, and what follows it.
     fn groups(&mut self) -> Vec<u8> {
         let length = self.below(10);

@@ -21,7 +21,7 @@ pub fn add(records: &mut Records) {
     wide_values(records);
 }
 
-const TAGS: &[&[u8]] = &[
+pub const TAGS: &[&[u8]] = &[
     b"",
     b"a",
     b"=",

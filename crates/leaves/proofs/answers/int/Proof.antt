@@ -1,4 +1,4 @@
-use Rattle.leaves.proofs.Wide.{wide-fits}
+use Rattle.report.proofs.WordLaws.{wide-fits}
 use borrow.Author.Needs.{needs}
 use Rattle.leaves.proofs.answers.int.Statement.{statement}
 use Rattle.leaves.proofs.answers.int.Tie as tie

@@ -1,0 +1,87 @@
+//! The records of a run: each operation with its input.
+
+use std::io;
+use std::path::Path;
+
+use mapsforge_rs::grid::Grid;
+
+use super::Run;
+use crate::records::{self, Record};
+
+/// Records in the order of the run; an operation may come twice, since the map may have changed.
+#[derive(Default)]
+pub struct Records(Vec<Record>);
+
+impl Records {
+    /// The map that the records behind this one are about.
+    pub fn map(&mut self, map: &[u8]) {
+        self.add(b'M', map);
+    }
+
+    pub fn all_cuts(&mut self) {
+        self.add(b'C', &[]);
+    }
+
+    pub fn all_damages(&mut self) {
+        self.add(b'D', &[]);
+    }
+
+    pub fn cut(&mut self, length: usize) {
+        self.add(b'c', &(length as u32).to_be_bytes());
+    }
+
+    pub fn damage(&mut self, place: usize, byte: u8) {
+        self.add(b'd', &[&(place as u32).to_be_bytes(), &[byte][..]].concat());
+    }
+
+    pub fn zoom(&mut self, zoom: u8) {
+        self.add(b'z', &[zoom]);
+    }
+
+    pub fn poi_tag(&mut self, k: u16) {
+        self.add(b'p', &k.to_be_bytes());
+    }
+
+    pub fn way_tag(&mut self, k: u16) {
+        self.add(b'w', &k.to_be_bytes());
+    }
+
+    pub fn tile_count(&mut self, sub_file: u64, grid: Grid) {
+        self.add(b'n', &on_grid(sub_file, grid, &[]));
+    }
+
+    pub fn tile_index(&mut self, sub_file: u64, grid: Grid, x: i32, y: i32) {
+        let position = [x.to_be_bytes(), y.to_be_bytes()];
+        self.add(b'i', &on_grid(sub_file, grid, position.as_flattened()));
+    }
+
+    pub fn entry(&mut self, sub_file: u64, grid: Grid, tile: u64) {
+        self.add(b'e', &on_grid(sub_file, grid, &tile.to_be_bytes()));
+    }
+
+    pub fn column(&mut self, longitude: f64, zoom: u8) {
+        self.add(b'l', &[&longitude.to_bits().to_be_bytes(), &[zoom][..]].concat());
+    }
+
+    pub fn longitude(&mut self, column: u32, zoom: u8) {
+        self.add(b'x', &[&column.to_be_bytes(), &[zoom][..]].concat());
+    }
+
+    pub fn write(&self, folder: &Path) -> io::Result<()> {
+        let mut run = Run::default();
+        let line = |(operation, input): &Record| {
+            records::line(*operation, &run.caught_answer(*operation, input))
+        };
+        let lines: String = self.0.iter().map(line).collect();
+        records::write(folder, &self.0, lines.as_bytes())
+    }
+
+    fn add(&mut self, operation: u8, input: &[u8]) {
+        self.0.push((operation, input.to_vec()));
+    }
+}
+
+fn on_grid(sub_file: u64, grid: Grid, rest: &[u8]) -> Vec<u8> {
+    let sides = [grid.x_min, grid.y_min, grid.x_max, grid.y_max].map(i32::to_be_bytes);
+    [&sub_file.to_be_bytes(), sides.as_flattened(), rest].concat()
+}

@@ -1,0 +1,23 @@
+use Rattle.format.specs.Header.{place}
+use Rattle.header_fields.proofs.FieldLaws.{reads}
+use Rattle.header_fields.proofs.read_position.Statement.{statement}
+use Rattle.header_fields.proofs.read_position.Tie as tie
+
+pub read-position-spec : {M : Type 1} → statement M
+unfolding place
+read-position-spec =
+    tie.close
+    (tie.spec
+    (search reads)
+    (search reads)
+    (search reads)
+    (search reads)
+    (λ c. search reads)
+    (search reads)
+    (search reads)
+    (search reads)
+    (search reads)
+    (λ c. search reads)
+    (search reads)
+    (search reads)
+    (λ c. search reads depth 8 fits 5000))

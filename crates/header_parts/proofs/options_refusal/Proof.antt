@@ -1,0 +1,12 @@
+use Rattle.header_parts.proofs.PartLaws.{refusals}
+use Rattle.header_parts.proofs.options_refusal.Statement.{statement}
+use Rattle.header_parts.proofs.options_refusal.Tie as tie
+
+pub options-refusal-spec : {M : Type 1} → statement M
+options-refusal-spec =
+    tie.close
+    (tie.spec
+    (search refusals)
+    (search refusals)
+    (λ c. search refusals)
+    (λ c. search refusals))

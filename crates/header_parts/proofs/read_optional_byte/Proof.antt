@@ -1,0 +1,15 @@
+use Rattle.header_parts.proofs.PartLaws.{optionals}
+use Rattle.header_parts.proofs.read_optional_byte.Statement.{statement}
+use Rattle.header_parts.proofs.read_optional_byte.Tie as tie
+
+pub read-optional-byte-spec : {M : Type 1} → statement M
+read-optional-byte-spec =
+    tie.close
+    (tie.spec
+    (λ c. search optionals)
+    (search optionals)
+    (search optionals)
+    (search optionals)
+    (search optionals)
+    (λ c. search optionals)
+    (λ c. search optionals))

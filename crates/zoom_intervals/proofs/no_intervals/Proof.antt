@@ -1,0 +1,10 @@
+use Rattle.zoom_intervals.proofs.IntervalLaws.{fills}
+use Rattle.zoom_intervals.proofs.no_intervals.Statement.{statement}
+use Rattle.zoom_intervals.proofs.no_intervals.Tie as tie
+
+pub no-intervals-spec : {M : Type 1} → statement M
+no-intervals-spec =
+    tie.close
+    (tie.spec
+    (search fills)
+    (λ c. search fills))
