@@ -51,10 +51,14 @@ impl Fold {
         bytes.iter().for_each(|&byte| self.word(u64::from(byte)));
     }
 
+    pub fn words(&mut self, words: &[u64]) {
+        words.iter().for_each(|&word| self.word(word));
+    }
+
     /// An answer behind the count of its words, so that no two sequences of answers look alike.
     pub fn answer(&mut self, answer: &[u64]) {
         self.word(answer.len() as u64);
-        answer.iter().for_each(|&word| self.word(word));
+        self.words(answer);
     }
 
     pub fn value(&self) -> u64 {

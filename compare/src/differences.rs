@@ -1,8 +1,10 @@
 //! Where the port parts from the Rust on purpose. Each guard looks at the bytes alone, or at the
-//! numbers of the call; where it speaks up, the Rust is not run and the port's answer stands. The one
-//! exception is a header: the Rust is shown one that it can read.
+//! numbers of the call; where it speaks up, the Rust is not run and the port's answer stands. Two are
+//! more than a guard: of a header, the Rust is shown one that it can read, and of a tile there is a
+//! model, since the port may go on reading where the Rust has parted.
 
 mod header;
+pub mod tile;
 
 use mapsforge_rs::grid::Grid;
 

@@ -1,5 +1,7 @@
 //! Document 01's worked figures and the examples of its table, as far as the driver's commands reach.
 
+mod tiles;
+
 use std::fmt::Debug;
 
 use mapsforge_rs::error::MapforgeError;
@@ -22,9 +24,10 @@ pub fn check() -> bool {
     tags(&mut tally);
     values(&mut tally);
     source(&mut tally);
-    tiles(&mut tally);
+    grids(&mut tally);
     opening(&mut tally);
     index(&mut tally);
+    tiles::check(&mut tally);
     println!("{} figures hold, {} do not", tally.good, tally.bad);
     tally.bad == 0
 }
@@ -132,7 +135,7 @@ fn source(tally: &mut Tally) {
 }
 
 /// What build.rs puts into tile.rs, on a map that is a header alone.
-fn tiles(tally: &mut Tally) {
+fn grids(tally: &mut Tally) {
     let header = header();
     let map = MapFile::from_source(Source::new(&header)).expect("a good header");
     let grid = Grid { x_min: 4, y_min: 2, x_max: 6, y_max: 3 };

@@ -8,6 +8,7 @@ mod maps;
 mod random;
 mod records;
 mod source;
+mod tiles;
 
 use std::env;
 use std::io::{self, ErrorKind};
@@ -22,6 +23,10 @@ compare/run [--rust FOLDER] COMMAND ARGS...
   maps-sample DIR     the same two files for crafted maps: opening them, index and grid, columns
   maps-records FILE DIR
                       the same two files for one map
+  tiles-sample DIR [collected]
+                      the same two files for crafted tiles and the maps of maps/, collected and streamed, or collected alone
+  tiles-records FILE DIR [collected]
+                      the same two files for all tiles of one map
   figures             checks document 01's worked figures; fails on a difference
   help                this text
 
@@ -48,6 +53,14 @@ fn run(arguments: &[&str]) -> io::Result<ExitCode> {
         ["leaves-sample", folder] => leaves::sample::write(Path::new(folder))?,
         ["maps-sample", folder] => maps::sample::write(Path::new(folder))?,
         ["maps-records", file, folder] => maps::file::write(Path::new(file), Path::new(folder))?,
+        ["tiles-sample", folder] => tiles::sample::write(Path::new(folder), false)?,
+        ["tiles-sample", folder, "collected"] => tiles::sample::write(Path::new(folder), true)?,
+        ["tiles-records", file, folder] => {
+            tiles::file::write(Path::new(file), Path::new(folder), false)?;
+        }
+        ["tiles-records", file, folder, "collected"] => {
+            tiles::file::write(Path::new(file), Path::new(folder), true)?;
+        }
         ["figures"] => return Ok(checked(figures::check())),
         ["help"] => print!("{HELP}"),
         _ => {

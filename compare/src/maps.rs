@@ -1,11 +1,11 @@
 //! Whole maps: opening them, their tags and zooms, index and grid, and columns. Each operation has a
 //! letter; most of them are about the map of the last `M`.
 
-mod calls;
+pub mod calls;
 mod column;
 pub mod file;
 mod index;
-mod open;
+pub mod open;
 pub mod sample;
 pub mod writer;
 
@@ -22,9 +22,9 @@ use crate::source::Source;
 /// How many of the first bytes the operation `D` damages.
 const DAMAGED_BYTES: usize = 1500;
 /// What each of them is combined with, by exclusive or.
-const DAMAGES: [u8; 3] = [1, 128, 255];
+pub const DAMAGES: [u8; 3] = [1, 128, 255];
 /// The answer about a map that does not open. Document 01 has no such number.
-const NOT_OPEN: u64 = 99;
+pub const NOT_OPEN: u64 = 99;
 
 /// A run of operations, one after the other.
 #[derive(Default)]
@@ -103,12 +103,12 @@ impl Run {
 }
 
 /// A part of an operation's input.
-fn given<T>(part: mapsforge_rs::Result<T>) -> T {
+pub fn given<T>(part: mapsforge_rs::Result<T>) -> T {
     part.expect("the input is as long as its operation needs")
 }
 
 /// A place in the map, in four bytes.
-fn place(input: &mut Source) -> usize {
+pub fn place(input: &mut Source) -> usize {
     given(input.read_u32_be()) as usize
 }
 

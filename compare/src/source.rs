@@ -23,6 +23,11 @@ impl<'a> Source<'a> {
         Source { shown: header, map, at: 0 }
     }
 
+    /// The map itself.
+    pub fn map(&self) -> &'a [u8] {
+        self.map
+    }
+
     /// The place of the next byte.
     pub fn at(&self) -> u64 {
         self.at

@@ -5,7 +5,7 @@ mod random;
 mod tags;
 mod texts;
 
-pub use numbers::{unsigned, unsigned_in};
+pub use numbers::{signed, signed_in, unsigned, unsigned_in};
 pub use tags::TAGS;
 
 use std::collections::HashSet;

@@ -81,7 +81,8 @@ impl Records {
     }
 }
 
-fn on_grid(sub_file: u64, grid: Grid, rest: &[u8]) -> Vec<u8> {
+/// The front of an input about a sub file.
+pub fn on_grid(sub_file: u64, grid: Grid, rest: &[u8]) -> Vec<u8> {
     let sides = [grid.x_min, grid.y_min, grid.x_max, grid.y_max].map(i32::to_be_bytes);
     [&sub_file.to_be_bytes(), sides.as_flattened(), rest].concat()
 }

@@ -37,7 +37,7 @@ const DELTA_14: Grid = grid(8192, 8192, 8237, 8237);
 const HEADER_14: Grid = grid(8201, 8178, 8210, 8187);
 
 /// The grid of a sub file of any other map.
-const UNKNOWN: Grid = grid(0, 0, 3, 3);
+pub const UNKNOWN: Grid = grid(0, 0, 3, 3);
 
 const fn grid(x_min: i32, y_min: i32, x_max: i32, y_max: i32) -> Grid {
     Grid { x_min, y_min, x_max, y_max }
@@ -61,7 +61,8 @@ pub fn write(file: &Path, folder: &Path) -> io::Result<()> {
     records.write(folder)
 }
 
-fn grids(file: &Path) -> &'static [Grid] {
+/// The grids of a map's sub files; none for a map that is not known.
+pub fn grids(file: &Path) -> &'static [Grid] {
     let known = GRIDS.iter().find(|(name, _)| file.file_name() == Some(name.as_ref()));
     known.map_or(&[], |(_, grids)| grids)
 }

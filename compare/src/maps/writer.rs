@@ -1,5 +1,7 @@
 //! A small writer of maps. Numbers and texts are written as given, also if they are wrong.
 
+pub mod tile;
+
 use crate::leaves::sample::unsigned;
 
 pub const INDEX_SIGNATURE: &[u8; 16] = b"+++IndexStart+++";
@@ -93,6 +95,17 @@ impl Header {
     /// The header before a sub file.
     pub fn before(&self, sub_file: &[u8]) -> Vec<u8> {
         [&self.bytes(), sub_file].concat()
+    }
+
+    /// The header before the sub files of its intervals, whose starts and sizes are set.
+    pub fn before_all(mut self, sub_files: &[Vec<u8>]) -> Vec<u8> {
+        let mut start = self.length();
+        for (interval, sub_file) in self.intervals.iter_mut().zip(sub_files) {
+            let size = sub_file.len() as u64;
+            (interval.start, interval.size) = (start, size);
+            start += size;
+        }
+        self.before(&sub_files.concat())
     }
 
     fn behind_size(&self) -> Vec<u8> {

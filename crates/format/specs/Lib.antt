@@ -6,3 +6,5 @@ pub mod WayData
 pub mod Nodes
 pub mod Lent
 pub mod Tile
+pub mod Elevation
+pub mod Streamed

@@ -202,6 +202,10 @@ pub tileHead-good : (debug : Bool) (rows : ℕ) → Good (tileHead debug rows)
 unfolding tileHead
 tileHead-good debug rows = search (numbers, debugSignature-good, zoomTable-good) depth 12
 
+pub tileHead-strict : (debug : Bool) (rows : ℕ) → Strict (tileHead debug rows)
+unfolding tileHead
+tileHead-strict debug rows = search (strict-right, strict-left, unsigned-strict, numbers, debugSignature-good, zoomTable-good) depth 12
+
 pub tagId-good : (n : ℕ) → Good (tagId n)
 unfolding tagId
 tagId-good n = search numbers

@@ -126,7 +126,7 @@ pub fn unsigned(value: u64) -> Vec<u8> {
 }
 
 /// A signed number in the fewest bytes; a last byte holds six bits of it.
-fn signed(negative: bool, magnitude: u64) -> Vec<u8> {
+pub fn signed(negative: bool, magnitude: u64) -> Vec<u8> {
     let fits = |&length: &usize| u128::from(magnitude) < 1 << (7 * length - 1);
     let length = (1..=10).find(fits).expect("ten bytes hold 64 bits");
     signed_in(negative, magnitude, length)
@@ -140,7 +140,7 @@ pub fn unsigned_in(value: u64, length: usize) -> Vec<u8> {
     bytes
 }
 
-fn signed_in(negative: bool, magnitude: u64, length: usize) -> Vec<u8> {
+pub fn signed_in(negative: bool, magnitude: u64, length: usize) -> Vec<u8> {
     let mut bytes = unsigned_in(magnitude, length);
     bytes[length - 1] |= if negative { 0x40 } else { 0 };
     bytes

@@ -1,0 +1,191 @@
+//! A tile as document 01 and the format document have it, read without the Rust. The first place where
+//! the Rust parts from that is noted. Up to there the two must agree, and from there on the port's
+//! answer is this one.
+
+mod features;
+mod reader;
+mod tags;
+
+use std::ops::Range;
+
+use mapsforge_rs::header::DEBUG_INFO_MASK;
+use mapsforge_rs::types::{MapFile, MapHeader, ZoomInterval};
+
+pub use reader::{Cause, Parting};
+
+use crate::answer::Answer;
+use crate::source::Source;
+use crate::tiles::feature::Tile;
+use crate::tiles::tally::Tally;
+use crate::tiles::Address;
+use reader::{Read, Reader, View};
+
+/// The sizes of the signatures of an index, and of a tile, point or way.
+const INDEX_SIGNATURE: u64 = 16;
+const SIGNATURE: u64 = 32;
+
+/// The port's answer, and where the Rust first parts from it.
+pub struct Port {
+    pub answer: Answer,
+    pub parting: Option<Parting>,
+}
+
+/// A map's bytes, and the header that was read from it, or from what it was before it was damaged.
+#[derive(Clone, Copy)]
+pub struct Opened<'a> {
+    pub map: &'a [u8],
+    pub header: &'a MapHeader,
+}
+
+impl<'a> Opened<'a> {
+    pub fn of(file: &'a MapFile<Source>) -> Self {
+        Opened { map: file.reader.map(), header: &file.header }
+    }
+
+    /// `read_tile`.
+    pub fn collect(self, address: &Address) -> Port {
+        let (tile, parting) = self.tile(address);
+        Port { answer: tile.map_or_else(|refusal| refusal, |tile| tile.answer()), parting }
+    }
+
+    /// Feature `k` of the collected tile, with the codes of its tags.
+    pub fn fetch(self, address: &Address, k: usize) -> Port {
+        let (tile, parting) = self.tile(address);
+        let fetched = |tile: Tile| match tile.feature(k) {
+            Some(feature) => feature.answer(&tags::codes(&feature, self.header)),
+            None => vec![17],
+        };
+        Port { answer: tile.map_or_else(|refusal| refusal, fetched), parting }
+    }
+
+    /// `visit_tile`; the answer is 0, sub file and water mark, or the refusal.
+    pub fn stream(self, address: &Address, zoom: u8, tally: &mut Tally) -> Port {
+        let mut reader = Reader::new(self, View::Streamed);
+        let ended = reader.stream(address, zoom, tally);
+        let end = |water| vec![0, address.sub_file, u64::from(water)];
+        Port { answer: ended.map_or_else(|refusal| refusal, end), parting: reader.parting }
+    }
+
+    /// Whether no stored count is above the number of the map's bytes. Above that a tile does not
+    /// collect, and `read_tile` of the Rust, which reserves what is stored, may end the process.
+    pub fn has_fair_counts(self, address: &Address) -> bool {
+        let head = Reader::new(self, View::Collected).head(address);
+        let fair = |count: &u64| *count <= self.map.len() as u64;
+        head.map_or(true, |head| head.table.as_flattened().iter().all(fair))
+    }
+
+    /// The bytes of a tile that collects, up to where its last way ends.
+    pub fn extent(self, address: &Address) -> Option<Range<usize>> {
+        let mut reader = Reader::new(self, View::Collected);
+        let start = reader.head(address).ok()?.start;
+        reader.tile(address).ok()?;
+        Some(usize::try_from(start).ok()?..usize::try_from(reader.at()).ok()?)
+    }
+
+    fn tile(self, address: &Address) -> (Read<Tile>, Option<Parting>) {
+        let mut reader = Reader::new(self, View::Collected);
+        (reader.tile(address), reader.parting)
+    }
+
+    fn debug(self) -> bool {
+        self.header.flags & DEBUG_INFO_MASK != 0
+    }
+}
+
+/// What stands before a tile's features.
+struct Head {
+    water: bool,
+    start: u128,
+    /// The zoom of the table's first row.
+    lowest: u8,
+    table: Vec<[u64; 2]>,
+    first_way: u64,
+    /// The place that the first-way offset leads to.
+    ways: u128,
+}
+
+impl Reader<'_> {
+    /// "Collecting decodes every row".
+    fn tile(&mut self, address: &Address) -> Read<Tile> {
+        let Head { table, first_way, ways: place, .. } = self.head(address)?;
+        let [points, ways] = self.counts(&table);
+        let points = (0..points).map(|_| self.point()).collect::<Read<_>>()?;
+        self.seek(place);
+        let ways = (0..ways).map(|_| self.way()).collect::<Read<_>>()?;
+        Ok(Tile { table, first_way, points, ways })
+    }
+
+    /// "Zoom is clamped into the interval; rows up to it count." Answers the water mark.
+    fn stream(&mut self, address: &Address, zoom: u8, tally: &mut Tally) -> Read<bool> {
+        let head = self.head(address)?;
+        let rows = (usize::from(zoom.saturating_sub(head.lowest)) + 1).min(head.table.len());
+        let [points, ways] = self.counts(&head.table[..rows]);
+        for _ in 0..points {
+            tally.point(&self.point()?);
+        }
+        self.seek(head.ways);
+        for _ in 0..ways {
+            let way = self.way_head()?;
+            if tally.head(way.bitmap, &way.ids) {
+                tally.way(&self.way_body(way)?);
+            } else {
+                self.seek(way.stored_end);
+            }
+        }
+        Ok(head.water)
+    }
+
+    /// "Order for a tile: sub file (8), grid (14), tile (8), entry (1), interval (13), then bytes in
+    /// file order."
+    fn head(&mut self, address: &Address) -> Read<Head> {
+        let intervals = &self.opened.header.zoom_interval_configuration;
+        let interval = intervals.get(address.sub_file as usize).ok_or(vec![8])?;
+        let (water, offset) = self.entry(address, interval)?;
+        let (lowest, highest) = (interval.min_zoom_level, interval.max_zoom_level);
+        if lowest > highest {
+            return Err(self.parted(Cause::Interval, vec![13]));
+        }
+        let start = u128::from(interval.sub_file_start) + u128::from(offset);
+        self.seek(start);
+        self.signature()?;
+        let row = |_| Ok([self.unsigned()?, self.unsigned()?]);
+        let table = (lowest..=highest).map(row).collect::<Read<_>>()?;
+        let first_way = self.unsigned()?;
+        let ways = self.at() + u128::from(first_way);
+        Ok(Head { water, start, lowest, table, first_way, ways })
+    }
+
+    /// "An index entry is 5 bytes: top bit water, 39 bits offset".
+    fn entry(&mut self, address: &Address, interval: &ZoomInterval) -> Read<(bool, u64)> {
+        let Some(tiles) = address.grid.tiles() else {
+            return Err(self.parted(Cause::Grid, vec![14]));
+        };
+        if address.tile >= u64::from(tiles) {
+            return Err(vec![8]);
+        }
+        let signature = if self.opened.debug() { INDEX_SIGNATURE } else { 0 };
+        if let Some(refusal) = super::entry(interval.sub_file_start, signature, address.tile) {
+            return Err(self.parted(Cause::Entry, refusal));
+        }
+        self.seek(u128::from(interval.sub_file_start + signature + 5 * address.tile));
+        let word = self.bytes(5)?.iter().fold(0, |word, &byte| word << 8 | u64::from(byte));
+        Ok((word >> 39 == 1, word & ((1 << 39) - 1)))
+    }
+
+    /// "Sums past 64 bits and counts too large to reserve are read as far as the map goes".
+    fn counts(&mut self, table: &[[u64; 2]]) -> [u128; 2] {
+        let sum = |column: usize| table.iter().map(|row| u128::from(row[column])).sum();
+        let sums: [u128; 2] = [sum(0), sum(1)];
+        if sums.iter().any(|&sum| sum > u128::from(u64::MAX)) {
+            self.note(Cause::Sum);
+        }
+        sums
+    }
+
+    /// Whether there is a signature, which is passed.
+    fn signature(&mut self) -> Read<bool> {
+        let debug = self.opened.debug();
+        self.bytes(if debug { SIGNATURE } else { 0 })?;
+        Ok(debug)
+    }
+}

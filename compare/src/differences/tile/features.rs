@@ -1,0 +1,152 @@
+//! Points and ways.
+
+use super::reader::{Read, Reader};
+use super::tags::letter;
+use crate::tiles::feature::{Block, Point, Position, Text, Way};
+
+/// The most nodes of a block.
+const NODE_LIMIT: u64 = 1 << 20;
+
+/// "next way head (bitmap, layer, tag ids, tag values skipped)".
+pub struct WayHead {
+    pub bitmap: u16,
+    pub ids: Vec<u64>,
+    /// "data start, the byte behind the size field, plus stored size".
+    pub stored_end: u128,
+    layer: u64,
+    signature: bool,
+}
+
+impl Reader<'_> {
+    pub fn point(&mut self) -> Read<Point> {
+        let signature = self.signature()?;
+        let position = self.position()?;
+        let (layer, ids) = self.tags(&self.opened.header.poi_tags)?;
+        let flags = self.byte()?;
+        let name = self.text_if(flags & 0x80)?;
+        let house_number = self.text_if(flags & 0x40)?;
+        let elevation = self.read_if(flags & 0x20, Reader::elevation)?;
+        Ok(Point { position, layer, ids, name, house_number, elevation, signature })
+    }
+
+    pub fn way(&mut self) -> Read<Way> {
+        let head = self.way_head()?;
+        self.way_body(head)
+    }
+
+    pub fn way_head(&mut self) -> Read<WayHead> {
+        let signature = self.signature()?;
+        let size = self.unsigned()?;
+        let stored_end = self.at() + u128::from(size);
+        let bitmap = self.bytes(2)?;
+        let bitmap = u16::from_be_bytes([bitmap[0], bitmap[1]]);
+        let (layer, ids) = self.tags(&self.opened.header.way_tags)?;
+        Ok(WayHead { bitmap, ids, stored_end, layer, signature })
+    }
+
+    pub fn way_body(&mut self, head: WayHead) -> Read<Way> {
+        let WayHead { bitmap, ids, layer, signature, .. } = head;
+        let flags = self.byte()?;
+        let name = self.text_if(flags & 0x80)?;
+        let house_number = self.text_if(flags & 0x40)?;
+        let reference = self.text_if(flags & 0x20)?;
+        let label = self.read_if(flags & 0x10, Reader::position)?;
+        let data_blocks = self.read_if(flags & 0x08, Reader::unsigned)?.unwrap_or(1);
+        let double = flags & 0x04 != 0;
+        let blocks = self.blocks(data_blocks, double)?;
+        Ok(Way {
+            bitmap,
+            layer,
+            ids,
+            name,
+            house_number,
+            reference,
+            label,
+            double,
+            blocks,
+            signature,
+        })
+    }
+
+    /// "Layer is the high four bits minus 5 (−5 to 10), tag count the low four." and "Values follow
+    /// all ids of the feature."
+    fn tags(&mut self, table: &[String]) -> Read<(u64, Vec<u64>)> {
+        let special = self.byte()?;
+        let ids = (0..special & 0x0F).map(|_| self.id(table)).collect::<Read<Vec<_>>>()?;
+        for &id in &ids {
+            self.skip_value(&table[id as usize])?;
+        }
+        Ok((u64::from(special >> 4), ids))
+    }
+
+    fn id(&mut self, table: &[String]) -> Read<u64> {
+        let id = self.unsigned()?;
+        if id >= table.len() as u64 {
+            return Err(vec![7, id]);
+        }
+        Ok(id)
+    }
+
+    /// "b 1 byte, h 2, i and f 4, s a length (not held to the limit of texts) and that many bytes;
+    /// any other letter, or none, skips nothing."
+    fn skip_value(&mut self, tag: &str) -> Read<()> {
+        let size = match letter(tag) {
+            Some(b'b') => 1,
+            Some(b'h') => 2,
+            Some(b'i' | b'f') => 4,
+            Some(b's') => self.unsigned()?,
+            _ => 0,
+        };
+        self.bytes(size).map(drop)
+    }
+
+    fn read_if<T>(&mut self, flag: u8, read: fn(&mut Self) -> Read<T>) -> Read<Option<T>> {
+        (flag != 0).then(|| read(self)).transpose()
+    }
+
+    fn text_if(&mut self, flag: u8) -> Read<Option<Text>> {
+        self.read_if(flag, Reader::text)
+    }
+
+    /// "Elevation keeps the low 32 bits, two's complement."
+    fn elevation(&mut self) -> Read<i32> {
+        Ok(self.signed()? as i32)
+    }
+
+    /// The coordinate blocks of all data blocks.
+    fn blocks(&mut self, data_blocks: u64, double: bool) -> Read<Vec<Block>> {
+        let mut blocks = Vec::new();
+        for _ in 0..data_blocks {
+            for _ in 0..self.unsigned()? {
+                blocks.push(self.block(double)?);
+            }
+        }
+        Ok(blocks)
+    }
+
+    /// "Node 0 is as stored; later nodes add a delta, or in double delta a delta that is itself
+    /// summed; every f64 step rounds once".
+    fn block(&mut self, double: bool) -> Read<Block> {
+        let count = self.unsigned()?;
+        if count > NODE_LIMIT {
+            return Err(vec![10]);
+        }
+        let mut block = Block::default();
+        let mut delta = [0.0; 2];
+        for _ in 0..count {
+            let stored = self.position()?;
+            let Some(&last) = block.nodes.last() else {
+                block.initial = stored;
+                block.nodes.push(stored);
+                continue;
+            };
+            delta = if double { sum(delta, stored) } else { stored };
+            block.nodes.push(sum(last, delta));
+        }
+        Ok(block)
+    }
+}
+
+fn sum(a: Position, b: Position) -> Position {
+    [a[0] + b[0], a[1] + b[1]]
+}

@@ -1,0 +1,235 @@
+//! Tiles, collected and streamed. Each operation has a letter; all but `M` are about a tile of the map
+//! of the last `M`.
+
+mod calls;
+pub mod feature;
+pub mod file;
+mod rust;
+pub mod sample;
+pub mod tally;
+
+use std::collections::BTreeMap;
+use std::panic::{self, AssertUnwindSafe};
+use std::process;
+
+use mapsforge_rs::grid::{self, Grid};
+use mapsforge_rs::io::ByteRead;
+use mapsforge_rs::types::{MapFile, MapHeader};
+
+use crate::answer::{Answer, Fold};
+use crate::differences::tile::{Cause, Opened, Parting, Port};
+use crate::maps::{given, open, place, DAMAGES, NOT_OPEN};
+use crate::source::Source;
+use tally::{Policy, Tally, POLICIES};
+
+/// A tile of a sub file, and the sub file's grid.
+#[derive(Clone, Copy)]
+pub struct Address {
+    pub sub_file: u64,
+    pub grid: Grid,
+    pub tile: u64,
+}
+
+impl Address {
+    /// Reads it from an operation's input, and lends the grid to the Rust.
+    fn from(input: &mut Source) -> Self {
+        let sub_file = given(input.read_u64_be());
+        let [x_min, y_min, x_max, y_max] = [(); 4].map(|()| given(input.read_i32_be()));
+        let grid = Grid { x_min, y_min, x_max, y_max };
+        grid::lend(grid);
+        Address { sub_file, grid, tile: given(input.read_u64_be()) }
+    }
+}
+
+/// What is asked of a tile.
+#[derive(Clone, Copy)]
+enum Question {
+    Collect,
+    Feature(usize),
+    Stream(u8, Policy),
+}
+
+/// A run of operations, one after the other.
+#[derive(Default)]
+pub struct Run {
+    /// The map of the last `M`.
+    map: Vec<u8>,
+    /// Its header, if it opened.
+    header: Option<MapHeader>,
+    /// How many of its bytes the last question was about.
+    shown: usize,
+    sources: Sources,
+}
+
+/// How many answers are the Rust's, and how many are the model's alone and why.
+#[derive(Default)]
+struct Sources {
+    rust: u64,
+    model: BTreeMap<Cause, u64>,
+}
+
+impl Run {
+    /// A panic that the model did not foresee, or a disagreement with it, ends the run by its input.
+    fn caught_answer(&mut self, operation: u8, input: &[u8]) -> Answer {
+        let answer = panic::catch_unwind(AssertUnwindSafe(|| self.answer(operation, input)));
+        answer.unwrap_or_else(|_| {
+            eprintln!("at operation {} on {input:02x?}", char::from(operation));
+            eprintln!("the map, cut or damaged, is {:02x?}", &self.map[..self.shown]);
+            process::exit(1)
+        })
+    }
+
+    pub fn answer(&mut self, operation: u8, input: &[u8]) -> Answer {
+        if operation == b'M' {
+            return self.open(input);
+        }
+        if self.header.is_none() {
+            return vec![NOT_OPEN];
+        }
+        let mut parts = Source::new(input);
+        let address = Address::from(&mut parts);
+        match operation {
+            b'A' => self.ask(&address, Question::Collect),
+            b'F' => self.ask(&address, Question::Feature(place(&mut parts))),
+            b'S' => {
+                let (zoom, policy) = (given(parts.read_u8()), given(parts.read_u8()));
+                self.ask(&address, Question::Stream(zoom, POLICIES[usize::from(policy)]))
+            }
+            b'E' => self.cuts(&address, &mut parts),
+            b'B' => self.damages(&address, &mut parts),
+            _ => panic!("no such operation"),
+        }
+    }
+
+    fn open(&mut self, map: &[u8]) -> Answer {
+        self.map = map.to_vec();
+        match open::with_map(map, |file| file.header) {
+            Ok(header) => {
+                self.header = Some(header);
+                vec![0]
+            }
+            Err(refusal) => {
+                self.header = None;
+                refusal
+            }
+        }
+    }
+
+    fn ask(&mut self, address: &Address, question: Question) -> Answer {
+        self.ask_cut(self.map.len(), address, question)
+    }
+
+    /// Asks of the map's first bytes, under the header of the whole map.
+    fn ask_cut(&mut self, length: usize, address: &Address, question: Question) -> Answer {
+        self.shown = length;
+        let header = self.header.take().expect("the map is open");
+        let mut file = MapFile { header, reader: Source::new(&self.map[..length]) };
+        let (answer, parting) = question.answer(&mut file, address);
+        self.header = Some(file.header);
+        self.sources.count(parting);
+        answer
+    }
+
+    /// All lengths of the map from one to before another.
+    fn cuts(&mut self, address: &Address, input: &mut Source) -> Answer {
+        let (from, to, question) = (place(input), place(input), Question::what(input));
+        let mut fold = Fold::new();
+        for length in from..to {
+            fold.answer(&self.ask_cut(length, address, question));
+        }
+        vec![0, fold.value()]
+    }
+
+    /// Each damage of all bytes from one to before another.
+    fn damages(&mut self, address: &Address, input: &mut Source) -> Answer {
+        let (from, to, question) = (place(input), place(input), Question::what(input));
+        let mut fold = Fold::new();
+        for place in from..to {
+            for damage in DAMAGES {
+                self.map[place] ^= damage;
+                fold.answer(&self.ask(address, question));
+                self.map[place] ^= damage;
+            }
+        }
+        vec![0, fold.value()]
+    }
+}
+
+impl Question {
+    /// A question by its number: to collect, or to stream at the highest zoom under a policy.
+    fn what(input: &mut Source) -> Self {
+        match given(input.read_u8()) {
+            0 => Question::Collect,
+            policy => Question::Stream(u8::MAX, POLICIES[usize::from(policy) - 1]),
+        }
+    }
+
+    /// The Rust's answer, which must be the model's; where the Rust parts, the model's.
+    fn answer(self, file: &mut MapFile<Source>, address: &Address) -> (Answer, Option<Parting>) {
+        let opened = Opened::of(file);
+        match self {
+            Question::Collect => {
+                let port = opened.collect(address);
+                agreed(port, || rust::collect(file, address))
+            }
+            Question::Feature(k) => {
+                let port = opened.fetch(address, k);
+                agreed(port, || rust::fetch(file, address, k))
+            }
+            Question::Stream(zoom, policy) => {
+                let mut tally = Tally::new(policy);
+                let Port { answer, parting } = opened.stream(address, zoom, &mut tally);
+                let port = Port { answer: tally.answer(&answer), parting };
+                if let Some(parting) = &parting {
+                    check_before(file, address, (zoom, policy), parting, &tally);
+                }
+                agreed(port, || rust::stream(file, address, zoom, policy))
+            }
+        }
+    }
+}
+
+fn agreed(port: Port, rust: impl FnOnce() -> Answer) -> (Answer, Option<Parting>) {
+    if port.parting.is_some() {
+        return (port.answer, port.parting);
+    }
+    let rust = rust();
+    assert_eq!(rust, port.answer, "the Rust (left) and document 01 part");
+    (rust, None)
+}
+
+/// What was delivered before a bad number is also the Rust's: it is refused there, by 1, if the map
+/// ends there. A map read backwards would be refused earlier.
+fn check_before(
+    file: &mut MapFile<Source>,
+    address: &Address,
+    (zoom, policy): (u8, Policy),
+    parting: &Parting,
+    tally: &Tally,
+) {
+    if !parting.untouched || !matches!(parting.cause, Cause::Number | Cause::Coordinate) {
+        return;
+    }
+    let whole = file.reader.map();
+    file.reader = Source::new(&whole[..parting.place as usize]);
+    let rust = rust::stream(file, address, zoom, policy);
+    assert_eq!(rust, tally.answer(&[1]), "the Rust (left) delivers other features");
+    file.reader = Source::new(whole);
+}
+
+impl Sources {
+    fn count(&mut self, parting: Option<Parting>) {
+        match parting {
+            None => self.rust += 1,
+            Some(parting) => *self.model.entry(parting.cause).or_default() += 1,
+        }
+    }
+
+    fn print(&self) {
+        let parted: u64 = self.model.values().sum();
+        println!("{} answers of the Rust, {parted} of the model alone", self.rust);
+        for (cause, count) in &self.model {
+            println!("  {cause:?}: {count}");
+        }
+    }
+}

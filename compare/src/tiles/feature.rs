@@ -1,0 +1,183 @@
+//! Tiles, points and ways as a reader gives them, and their words. The Rust's own and those of
+//! document 01's model are brought into these forms.
+
+use crate::answer::{digest, signed, Answer, Fold};
+
+/// Latitude and longitude, in degrees.
+pub type Position = [f64; 2];
+
+/// A text as it is delivered.
+pub type Text = Vec<u8>;
+
+/// A point. A streamed one has no signature.
+pub struct Point {
+    pub position: Position,
+    /// The layer + 5.
+    pub layer: u64,
+    pub ids: Vec<u64>,
+    pub name: Option<Text>,
+    pub house_number: Option<Text>,
+    pub elevation: Option<i32>,
+    pub signature: bool,
+}
+
+impl Point {
+    pub fn streamed(&self) -> Answer {
+        [
+            &[1][..],
+            &bits(&self.position),
+            &[self.layer],
+            &counted(&self.ids),
+            &optional(&self.name, text),
+            &optional(&self.house_number, text),
+            &optional(&self.elevation, |&metres| signed(i64::from(metres)).to_vec()),
+        ]
+        .concat()
+    }
+
+    pub fn collected(&self) -> Answer {
+        [self.streamed(), vec![u64::from(self.signature)]].concat()
+    }
+}
+
+/// A way. A streamed one has no delta form, initial positions or signature.
+pub struct Way {
+    pub bitmap: u16,
+    /// The layer + 5.
+    pub layer: u64,
+    pub ids: Vec<u64>,
+    pub name: Option<Text>,
+    pub house_number: Option<Text>,
+    pub reference: Option<Text>,
+    pub label: Option<Position>,
+    pub double: bool,
+    pub blocks: Vec<Block>,
+    pub signature: bool,
+}
+
+/// A coordinate block.
+#[derive(Default)]
+pub struct Block {
+    pub initial: Position,
+    pub nodes: Vec<Position>,
+}
+
+impl Way {
+    pub fn streamed(&self) -> Answer {
+        let mut words = [&[4], self.fields().as_slice(), &[self.blocks.len() as u64]].concat();
+        for block in &self.blocks {
+            words.push(block.nodes.len() as u64);
+            words.extend(block.nodes.iter().flat_map(bits));
+        }
+        words
+    }
+
+    pub fn collected(&self) -> Answer {
+        self.with_blocks(&self.block_words())
+    }
+
+    /// The words of the collected way, with the nodes in one digest.
+    fn fetched(&self) -> Answer {
+        let nodes: usize = self.blocks.iter().map(|block| block.nodes.len()).sum();
+        self.with_blocks(&[nodes as u64, folded(&self.block_words())])
+    }
+
+    fn with_blocks(&self, blocks: &[u64]) -> Answer {
+        let form = [u64::from(self.double), self.blocks.len() as u64];
+        [&[2], self.fields().as_slice(), &form, blocks, &[u64::from(self.signature)]].concat()
+    }
+
+    fn fields(&self) -> Answer {
+        [
+            &[u64::from(self.bitmap), self.layer][..],
+            &counted(&self.ids),
+            &optional(&self.name, text),
+            &optional(&self.house_number, text),
+            &optional(&self.reference, text),
+            &optional(&self.label, |label| bits(label).to_vec()),
+        ]
+        .concat()
+    }
+
+    fn block_words(&self) -> Answer {
+        let mut words = Answer::new();
+        for block in &self.blocks {
+            words.push(block.nodes.len() as u64);
+            words.extend(bits(&block.initial));
+            words.extend(block.nodes.iter().flat_map(bits));
+        }
+        words
+    }
+}
+
+/// What is told of a way before it is accepted or declined.
+pub fn head(bitmap: u16, ids: &[u64]) -> Answer {
+    [&[3, u64::from(bitmap)], counted(ids).as_slice()].concat()
+}
+
+/// A collected tile.
+pub struct Tile {
+    /// Of each row the points and the ways.
+    pub table: Vec<[u64; 2]>,
+    pub first_way: u64,
+    pub points: Vec<Point>,
+    pub ways: Vec<Way>,
+}
+
+/// A feature of a collected tile.
+pub enum Feature<'a> {
+    Point(&'a Point),
+    Way(&'a Way),
+}
+
+impl Tile {
+    pub fn answer(&self) -> Answer {
+        let mut fold = Fold::new();
+        fold.words(self.table.as_flattened());
+        self.points.iter().for_each(|point| fold.words(&point.collected()));
+        self.ways.iter().for_each(|way| fold.words(&way.collected()));
+        let counts = [self.table.len(), self.points.len(), self.ways.len()];
+        let [rows, points, ways] = counts.map(|count| count as u64);
+        vec![0, rows, self.first_way, points, ways, fold.value()]
+    }
+
+    /// Feature `k`, the points from 0 and the ways behind them; none at or above their count.
+    pub fn feature(&self, k: usize) -> Option<Feature<'_>> {
+        let way = || Some(Feature::Way(self.ways.get(k.checked_sub(self.points.len())?)?));
+        self.points.get(k).map(Feature::Point).or_else(way)
+    }
+}
+
+impl Feature<'_> {
+    /// The words of a fetched feature, whose tags are given by their key and value codes.
+    pub fn answer(&self, tags: &[[u64; 2]]) -> Answer {
+        let words = match self {
+            Feature::Point(point) => point.collected(),
+            Feature::Way(way) => way.fetched(),
+        };
+        [&[0], words.as_slice(), &[folded(tags.as_flattened())]].concat()
+    }
+}
+
+fn bits(position: &Position) -> [u64; 2] {
+    position.map(f64::to_bits)
+}
+
+fn counted(ids: &[u64]) -> Answer {
+    [&[ids.len() as u64], ids].concat()
+}
+
+fn text(text: &Text) -> Answer {
+    vec![text.len() as u64, digest(text)]
+}
+
+/// 0 for none, else 1 and the words of the value.
+fn optional<T>(value: &Option<T>, words: impl Fn(&T) -> Answer) -> Answer {
+    value.as_ref().map_or(vec![0], |value| [&[1], words(value).as_slice()].concat())
+}
+
+fn folded(words: &[u64]) -> u64 {
+    let mut fold = Fold::new();
+    fold.words(words);
+    fold.value()
+}

@@ -1,0 +1,158 @@
+//! The Rust's own answers about a tile. The caller has seen that the Rust does not part from document
+//! 01 there.
+
+use mapsforge_rs::types::{self, LatLong, MapFile, Tag, WayCoordinateBlock, POI};
+use mapsforge_rs::visit::{PoiInfo, TileVisitor, WayInfo};
+
+use super::feature::{Block, Feature, Point, Position, Text, Tile, Way};
+use super::tally::{Policy, Tally};
+use super::Address;
+use crate::answer::{refused, Answer};
+use crate::differences::tile::Opened;
+use crate::source::Source;
+
+pub fn collect(file: &mut MapFile<Source>, address: &Address) -> Answer {
+    read(file, address).map_or_else(|refusal| refusal, |tile| collected(&tile).answer())
+}
+
+pub fn fetch(file: &mut MapFile<Source>, address: &Address, k: usize) -> Answer {
+    let fetched = |tile: types::Tile| match collected(&tile).feature(k) {
+        Some(feature) => feature.answer(&tags(&tile, k, &feature)),
+        None => vec![17],
+    };
+    read(file, address).map_or_else(|refusal| refusal, fetched)
+}
+
+pub fn stream(file: &mut MapFile<Source>, address: &Address, zoom: u8, policy: Policy) -> Answer {
+    let mut tally = Tally::new(policy);
+    let (sub_file, tile) = (address.sub_file as usize, address.tile as usize);
+    let end = match file.visit_tile(sub_file, tile, zoom, &mut tally) {
+        Ok(end) => vec![0, end.sub_file as u64, u64::from(end.is_water)],
+        Err(error) => refused(&error),
+    };
+    tally.answer(&end)
+}
+
+/// `read_tile`. Counts that it may not be able to reserve it does not see: they lead to a refusal,
+/// and `visit_tile`, which reserves nothing for them, gives the same one.
+fn read(file: &mut MapFile<Source>, address: &Address) -> Result<types::Tile, Answer> {
+    let (sub_file, tile) = (address.sub_file as usize, address.tile as usize);
+    let result = if Opened::of(file).has_fair_counts(address) {
+        file.read_tile(sub_file, tile)
+    } else {
+        let visited = file.visit_tile(sub_file, tile, u8::MAX, &mut Tally::new(Policy::All));
+        Err(visited.expect_err("more features than bytes"))
+    };
+    result.map_err(|error| refused(&error))
+}
+
+fn collected(tile: &types::Tile) -> Tile {
+    Tile {
+        table: tile.zoom_table.iter().map(|&(points, ways)| [points, ways].map(word)).collect(),
+        first_way: word(tile.first_way_offset),
+        points: tile.pois.iter().map(collected_point).collect(),
+        ways: tile.ways.iter().map(collected_way).collect(),
+    }
+}
+
+fn collected_point(point: &POI) -> Point {
+    Point {
+        position: position(&point.position_offset),
+        layer: layer(point.layer),
+        ids: ids(&point.tag_ids),
+        name: text(point.name.as_deref()),
+        house_number: text(point.house_number.as_deref()),
+        elevation: point.elevation,
+        signature: point.debug_signature.is_some(),
+    }
+}
+
+fn collected_way(way: &types::Way) -> Way {
+    Way {
+        bitmap: way.sub_tile_bitmap,
+        layer: layer(way.layer),
+        ids: ids(&way.tag_ids),
+        name: text(way.name.as_deref()),
+        house_number: text(way.house_number.as_deref()),
+        reference: text(way.reference.as_deref()),
+        label: way.label_position.as_ref().map(position),
+        double: way.double_delta_encoding,
+        blocks: way.coordinate_blocks.iter().map(collected_block).collect(),
+        signature: way.debug_signature.is_some(),
+    }
+}
+
+fn collected_block(block: &WayCoordinateBlock) -> Block {
+    Block {
+        initial: position(&block.initial_position),
+        nodes: block.coordinates.iter().map(position).collect(),
+    }
+}
+
+/// The codes of the tags of feature `k`.
+fn tags(tile: &types::Tile, k: usize, feature: &Feature) -> Vec<[u64; 2]> {
+    let tags = match feature {
+        Feature::Point(_) => &tile.pois[k].tags,
+        Feature::Way(_) => &tile.ways[k - tile.pois.len()].tags,
+    };
+    let codes = |tag: &Tag| [tag.key_code, tag.value_code].map(word);
+    tags.iter().flatten().map(codes).collect()
+}
+
+impl TileVisitor for Tally {
+    fn poi(&mut self, point: &PoiInfo) {
+        self.point(&Point {
+            position: position(&point.position),
+            layer: layer(point.layer),
+            ids: ids(point.tag_ids),
+            name: text(point.name),
+            house_number: text(point.house_number),
+            elevation: point.elevation,
+            signature: false,
+        });
+    }
+
+    fn way(&mut self, way: &WayInfo) {
+        self.way(&Way {
+            bitmap: way.sub_tile_bitmap,
+            layer: layer(way.layer),
+            ids: ids(way.tag_ids),
+            name: text(way.name),
+            house_number: text(way.house_number),
+            reference: text(way.reference),
+            label: way.label_position.as_ref().map(position),
+            double: false,
+            blocks: way.blocks.iter().map(|nodes| streamed_block(nodes)).collect(),
+            signature: false,
+        });
+    }
+
+    fn accept_way(&mut self, bitmap: u16, tag_ids: &[usize]) -> bool {
+        self.head(bitmap, &ids(tag_ids))
+    }
+}
+
+fn streamed_block(nodes: &[LatLong]) -> Block {
+    Block { nodes: nodes.iter().map(position).collect(), ..Block::default() }
+}
+
+fn position(position: &LatLong) -> Position {
+    [position.latitude, position.longitude]
+}
+
+/// The layer + 5.
+fn layer(layer: i8) -> u64 {
+    u64::try_from(layer + 5).expect("four bits less 5")
+}
+
+fn ids(ids: &[usize]) -> Vec<u64> {
+    ids.iter().copied().map(word).collect()
+}
+
+fn text(text: Option<&str>) -> Option<Text> {
+    text.map(|text| text.as_bytes().to_vec())
+}
+
+fn word(number: usize) -> u64 {
+    number as u64
+}

@@ -1,0 +1,176 @@
+//! Crafted tiles, the boundaries first and then random ones, and the maps of the repository.
+
+mod bodies;
+mod counts;
+mod debug;
+mod layout;
+mod numbers;
+mod order;
+mod points;
+mod random;
+mod rich;
+mod shipped;
+mod tags;
+mod ways;
+mod zooms;
+
+use std::io;
+use std::path::Path;
+
+use mapsforge_rs::grid::Grid;
+
+use super::calls::Records;
+use super::Address;
+use crate::maps::writer::tile::{sub_file, Point, Tile, Value, Way};
+use crate::maps::writer::{tags as tag_list, Header, DEBUG};
+
+/// Writes the records to `stdin` and a line for each of them to `stdout`.
+pub fn write(folder: &Path, only_collected: bool) -> io::Result<()> {
+    let mut records = Records::default();
+    points::add(&mut records);
+    ways::add(&mut records);
+    bodies::add(&mut records);
+    tags::add(&mut records);
+    layout::add(&mut records);
+    zooms::add(&mut records);
+    numbers::add(&mut records);
+    counts::add(&mut records);
+    order::add(&mut records);
+    debug::add(&mut records);
+    rich::add(&mut records);
+    random::add(&mut records);
+    shipped::add(&mut records)?;
+    if only_collected {
+        records.collected();
+    }
+    records.write(folder)
+}
+
+/// The highest zoom that can be asked for; it is clamped to every interval's last row.
+const HIGHEST: u8 = u8::MAX;
+
+/// The tags of the points: each letter of a value, and all ways to have none.
+const POI_TAGS: [&[u8]; 14] = [
+    b"amenity=ferry",
+    b"a=%b",
+    b"b=%h",
+    b"c=%i",
+    b"d=%f",
+    b"e=%s",
+    b"f=%x",
+    b"g=%",
+    b"h=%B",
+    b"harbour",
+    b"i=%b=%s",
+    b"\xFF=%h",
+    b"",
+    b"last=1",
+];
+
+/// Those of the ways, in another order and number, so that no table is taken for the other.
+const WAY_TAGS: [&[u8]; 11] = [
+    b"a=%s",
+    b"b=%f",
+    b"c=%i",
+    b"d=%h",
+    b"e=%b",
+    b"highway=pier",
+    b"g=%box",
+    b"%b",
+    b"=%b",
+    b"\xE2\x82=%i",
+    b"last",
+];
+
+/// The inline values of some tags, with bytes that would lead astray who does not skip them.
+fn values(table: &[&[u8]], ids: &[u64]) -> Vec<Value> {
+    ids.iter().filter_map(|&id| value(table.get(id as usize)?)).collect()
+}
+
+fn value(tag: &[u8]) -> Option<Value> {
+    let at = tag.windows(2).position(|pair| pair == b"=%")?;
+    match tag.get(at + 2)? {
+        b'b' => Some(Value::Fixed(vec![0xFF])),
+        b'h' => Some(Value::Fixed(vec![0x81, 0x80])),
+        b'i' => Some(Value::Fixed(vec![0, 1, 0xFE, 0xFF])),
+        b'f' => Some(Value::Fixed(vec![0x80, 0x80, 0x80, 0x80])),
+        b's' => Some(Value::Text(b"\x03\xFFab".to_vec())),
+        _ => None,
+    }
+}
+
+/// A header with these tags, and an interval for each base, lowest and highest zoom.
+fn header(zooms: &[[u8; 3]]) -> Header {
+    let header =
+        Header { poi_tags: tag_list(&POI_TAGS), way_tags: tag_list(&WAY_TAGS), ..Header::tiny() };
+    zooms.iter().fold(header, |header, &zooms| header.with_interval(zooms, 0))
+}
+
+/// A map of one sub file of one row, with its tiles.
+fn map(tiles: &[Vec<u8>]) -> Vec<u8> {
+    header(&[[0; 3]]).before_all(&[sub_file(false, tiles)])
+}
+
+fn debug_map(tiles: &[Vec<u8>]) -> Vec<u8> {
+    let header = Header { flags: DEBUG, ..header(&[[0; 3]]) };
+    header.before_all(&[sub_file(true, tiles)])
+}
+
+/// A tile of a sub file whose tiles are in one row of the grid.
+fn at(sub_file: u64, tile: usize, tiles: usize) -> Address {
+    let grid = Grid { x_min: 0, y_min: 0, x_max: tiles as i32 - 1, y_max: 0 };
+    Address { sub_file, grid, tile: tile as u64 }
+}
+
+/// All of some tiles in one map, each collected and streamed.
+fn ask_all(records: &mut Records, tiles: &[Vec<u8>]) {
+    records.map(&map(tiles));
+    for tile in 0..tiles.len() {
+        ask(records, at(0, tile, tiles.len()));
+    }
+}
+
+/// A tile in a map of its own, which ends with it.
+fn ask_alone(records: &mut Records, tile: Vec<u8>) {
+    ask_all(records, &[tile]);
+}
+
+/// A tile collected, and streamed with all ways, with none, and with two of three.
+fn ask(records: &mut Records, at: Address) {
+    records.collect(at);
+    (0..3).for_each(|policy| records.stream(at, HIGHEST, policy));
+}
+
+/// A point behind the one in question, so that it shows where that ends.
+fn next_point() -> Point {
+    Point { name: Some(b"next".to_vec()), ..Point::at([3, -4]) }
+}
+
+/// The same for a way.
+fn next_way() -> Way {
+    Way { bitmap: 0x8421, tags: vec![5], ..Way::of(vec![[7, -8], [1, 2]]) }
+}
+
+/// Tiles that start with the point in question.
+fn with_points(points: &[Point]) -> Vec<Vec<u8>> {
+    let tile = |point: &Point| Tile::of(&[point.clone(), next_point()], &[next_way()]).plain();
+    points.iter().map(tile).collect()
+}
+
+/// Tiles whose ways start with the one in question.
+fn with_ways(ways: &[Way]) -> Vec<Vec<u8>> {
+    let tile = |way: &Way| Tile::of(&[next_point()], &[way.clone(), next_way()]).plain();
+    ways.iter().map(tile).collect()
+}
+
+/// Texts of each kind: empty, valid, of characters of each length, ill-formed.
+const TEXTS: [&[u8]; 8] = [
+    b"",
+    b"a",
+    b"Ytter\xC3\xB8y ferry",
+    b"\xE6\xB8\xAF \xF0\x9F\x9A\xA2",
+    b"a\xFFb",
+    b"\xE2\x82",
+    b"\xED\xA0\x80\xC0\x80",
+    b"\0=\r%s\x08",
+];

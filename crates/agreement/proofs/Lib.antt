@@ -1,0 +1,14 @@
+pub mod Chain
+pub mod CutCounts
+pub mod Remaining
+pub mod BookLaws
+pub mod TileAgrees
+pub mod Delivered
+pub mod Altered
+pub mod TileAltered
+pub mod Views
+pub mod Agreement
+pub mod Counterexample
+pub mod CallLaws
+pub mod CollectLaws
+pub mod TileFormatLaws

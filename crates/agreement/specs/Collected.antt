@@ -1,0 +1,129 @@
+-- Collecting and fetching: document 01, "The stream and the collected tile". Collecting decodes every row; feature k of a collected
+-- tile can then be fetched, points from 0, ways behind them.
+use mathlib.Core.Bool.{Bool, true, _&&_, cond}
+use mathlib.Core.List.{List, [], _∷_}
+use Prim.Native.Nat.{ℕ, zero, suc, _+_, _-_}
+use lib.Dec.{ltb, eqb}
+use lib.ListN.{length}
+use Rattle.parsing.specs.Parse.{Res, ok, no, Parser, _>>=_, return, many, here, seek, Maybe, none, some}
+use Rattle.arithmetic.specs.Cut.{cut}
+use Rattle.format.specs.Tile.{Row}
+use Rattle.agreement.specs.Calls.{LentLists}
+use Rattle.agreement.specs.Format.{Format, pointCount, wayCount}
+
+-- a way that was read whole, and the place behind it
+pub record Way (F : Format) : Type 0 where
+  pub head : F .Head
+  pub body : F .Body
+  pub end : ℕ
+
+abbrev pub way : (F : Format) → Parser (Way F)
+way F = do
+  h ← F .head
+  b ← F .body
+  e ← here
+  return (record { head = h; body = b; end = e })
+
+-- counted from the data start, as the stored size is
+abbrev pub decodedLength : {F : Format} → Way F → ℕ
+decodedLength {F} w = w .end - F .start (w .head)
+
+-- its stored size is its decoded length
+abbrev pub exact : {F : Format} → Way F → Bool
+exact {F} w = eqb (F .size (w .head)) (decodedLength w)
+
+abbrev pub allExact : {F : Format} → List (Way F) → Bool
+allExact [] = true
+allExact (w ∷ ws) = exact w && allExact ws
+
+-- a collected tile, its features as stored; `start` is the place behind its head, where the points start
+pub record StoredTile (F : Format) : Type 0 where
+  pub head : F .TileHead
+  pub start : ℕ
+  pub points : List (F .Point)
+  pub ways : List (Way F)
+
+-- the points of all rows, behind the head, then the ways of all rows, from where the first-way offset leads; a tile collects if this is
+-- not refused
+abbrev pub collect : (F : Format) → Parser (StoredTile F)
+collect F = do
+  h ← F .tileHead
+  e ← here
+  ps ← many (F .point) (pointCount (F .table h))
+  ws ← seek (e + F .offset h) (many (way F) (wayCount (F .table h)))
+  return (record { head = h; start = e; points = ps; ways = ws })
+
+-- a result as code holds it, its place cut at 2 ^ 64 - 1: where no way is read, the first-way offset may lead past that
+abbrev pub cutPlace : {A : Type 0} → Res A → Res A
+cutPlace (ok a e) = ok a (cut e)
+cutPlace (no n v) = no n v
+
+-- What collecting and fetching give of each feature, together with its texts as stored, and what document 01's book says of it: a
+-- point, the head of a way, its other fields, and its lists.
+pub record Collection : Type 1 where
+  pub Point : Type 0
+  pub Way : Type 0
+  pub PointAnswer : Type 0
+  pub HeadAnswer : Type 0
+  pub BodyAnswer : Type 0
+  pub EndAnswer : Type 0
+  pub point : Point → PointAnswer
+  pub head : Way → HeadAnswer
+  pub body : Way → BodyAnswer
+  pub lists : Way → LentLists
+
+-- a collected tile as the book is fed it; `end` is its sub file and its entry's water mark
+pub record CollectedTile (K : Collection) : Type 0 where
+  pub table : List Row
+  pub points : List (K .Point)
+  pub ways : List (K .Way)
+  pub end : K .EndAnswer
+
+-- the same of features as stored
+abbrev pub storedCollection : Format → Collection
+storedCollection F = record {
+  Point = F .Point;
+  Way = Way F;
+  PointAnswer = F .Point;
+  HeadAnswer = F .Head;
+  BodyAnswer = F .Body;
+  EndAnswer = F .End;
+  point = λ p. p;
+  head = λ w. w .head;
+  body = λ w. w .body;
+  lists = λ w. F .lists (w .body);
+}
+
+abbrev pub storedTile : {F : Format} → StoredTile F → F .End → CollectedTile (storedCollection F)
+storedTile {F} t z = record { table = F .table (t .head); points = t .points; ways = t .ways; end = z }
+
+-- `missing` is refusal 17: a feature number at or above the count
+pub data Feature (K : Collection) : Type 0 where
+  aPoint : K .Point → Feature K
+  aWay : K .Way → Feature K
+  missing : Feature K
+
+-- entry k of a list, counted from 0
+abbrev pub nth : {A : Type 0} → List A → ℕ → Maybe A
+nth [] k = none
+nth (a ∷ l) zero = some a
+nth (a ∷ l) (suc k) = nth l k
+
+abbrev pub pointOr : {K : Collection} → Maybe (K .Point) → Feature K
+pointOr none = missing
+pointOr (some p) = aPoint p
+
+abbrev pub wayOr : {K : Collection} → Maybe (K .Way) → Feature K
+wayOr none = missing
+wayOr (some w) = aWay w
+
+-- feature k: points from 0, ways behind them
+abbrev pub fetch : {K : Collection} → CollectedTile K → ℕ → Feature K
+fetch {K} t k =
+    cond (ltb k (length (t .points))) (pointOr {K = K} (nth (t .points) k)) (wayOr {K = K} (nth (t .ways) (k - length (t .points))))
+
+-- as a result, at the place behind the tile
+abbrev pub fetched : {K : Collection} → ℕ → Feature K → Res (Feature K)
+fetched e (aPoint p) = ok (aPoint p) e
+fetched e (aWay w) = ok (aWay w) e
+fetched e missing = no 17 []

@@ -1,0 +1,10 @@
+pub mod Calls
+pub mod Format
+pub mod Stream
+pub mod Collected
+pub mod Book
+pub mod Declined
+pub mod View
+pub mod MapLayout
+pub mod Demand3
+pub mod TileFormat

@@ -1,0 +1,71 @@
+-- What demand 3 supposes of a whole map, for one tile of one sub file: document 01, tile.rs and "Order for a tile". The header, the
+-- index signatures and the tile's entry are read first, and fix where the tile is and how it is stored.
+use mathlib.Core.List.{List, [], _∷_, map}
+use Prim.Native.Nat.{ℕ}
+use Rattle.parsing.specs.Parse.{Res, ok, Parser, andThen}
+use Rattle.parsing.specs.Good.{Good}
+use Rattle.agreement.specs.Format.{Format, Laws}
+use Rattle.agreement.specs.Stream.{State, rowsUpTo, openStream}
+use Rattle.agreement.specs.Collected.{StoredTile, collect, Feature, fetch, fetched}
+use Rattle.agreement.specs.View.{View, ViewLaws, collectedTile}
+use Rattle.agreement.specs.Declined.{Bytes, bytesOf}
+
+pub record MapLayout : Type 1 where
+  pub Header : Type 0
+  pub Entry : Type 0
+  -- the file header, at the map's start
+  pub header : Parser Header
+  -- an index signature, and where such signatures stand (in debug maps, at each sub file's start)
+  pub signature : Parser Unit
+  pub signaturesAt : Header → List ℕ
+  -- the tile's entry, and where it stands; sub file, grid, tile number and interval are checked with it
+  pub entry : Header → Parser Entry
+  pub entryAt : Header → ℕ
+  -- where the tile starts, how it is stored, and its sub file's zoom interval
+  pub tileAt : Header → Entry → ℕ
+  pub format : Header → Format
+  pub low : Header → ℕ
+  pub high : Header → ℕ
+  -- the answer of the stream's end, sub file and water mark, and what is shown of each feature
+  pub end : (h : Header) → Entry → format h .End
+  pub view : (h : Header) → View (format h)
+
+pub record MapLaws (C : MapLayout) : Type 0 where
+  pub header : Good (C .header)
+  pub signature : Good (C .signature)
+  pub entry : (h : C .Header) → Good (C .entry h)
+  pub format : (h : C .Header) → Laws (C .format h)
+  pub view : (h : C .Header) → ViewLaws (C .view h)
+
+-- a signature at each of these places
+abbrev pub signatures : Parser Unit → List ℕ → List ℕ → Res Unit
+signatures p [] m = ok tt 0
+signatures p (i ∷ l) m = andThen (p m i) (λ _ _. signatures p l m)
+
+-- opening a map: its header, then the index signatures; the place is the one behind the header
+abbrev pub openMap : (C : MapLayout) → List ℕ → Res (C .Header)
+openMap C m = andThen (C .header m 0) (λ h e. andThen (signatures (C .signature) (C .signaturesAt h) m) (λ _ _. ok h e))
+
+-- the header as opening reads it, the tile's entry, and the index signatures
+abbrev pub openedBytes : (C : MapLayout) → List ℕ → C .Header → List Bytes
+openedBytes C m h =
+    bytesOf (C .header) m 0 ∷ bytesOf (C .entry h) m (C .entryAt h) ∷ map (λ i. bytesOf (C .signature) m i) (C .signaturesAt h)
+
+-- the rows that count at a zoom
+abbrev pub rowsAt : (C : MapLayout) → C .Header → (zoom : ℕ) → ℕ
+rowsAt C h zoom = rowsUpTo (C .low h) (C .high h) zoom
+
+-- opening the tile's stream at a zoom, and collecting the tile, in a map that was opened with header h
+abbrev pub openTile : (C : MapLayout) (h : C .Header) → (zoom : ℕ) → List ℕ → Res (State (C .format h))
+openTile C h zoom m =
+    andThen (C .entry h m (C .entryAt h)) (λ n _. openStream (C .format h) (rowsAt C h zoom) (C .end h n) m (C .tileAt h n))
+
+abbrev pub collectTile : (C : MapLayout) (h : C .Header) → List ℕ → Res (StoredTile (C .format h))
+collectTile C h m = andThen (C .entry h m (C .entryAt h)) (λ n _. collect (C .format h) m (C .tileAt h n))
+
+-- fetching feature k: 17 follows collecting
+abbrev pub fetchTile : (C : MapLayout) (h : C .Header) → (k : ℕ) → List ℕ → Res (Feature (C .view h .collection))
+fetchTile C h k m =
+    andThen (C .entry h m (C .entryAt h)) (λ n _.
+    andThen (collect (C .format h) m (C .tileAt h n)) (λ t e.
+    fetched e (fetch (collectedTile (C .view h) t (C .end h n)) k)))

@@ -1,0 +1,90 @@
+-- Fields of points and ways, in definitions that go on from them.
+use Prim.Native.Nat.{ℕ}
+use mathlib.Core.Path.{_≡_, refl, sym, ap, _∙_}
+use mathlib.Core.Bool.{Bool, true, false}
+use mathlib.Core.List.{List}
+use borrow.Author.Tests.{not-true, not-false}
+use Rattle.parsing.specs.Parse.{Res, ok, no, Parser, Part, Maybe, none, some, andThen, mapRes, optional}
+use Rattle.parsing.proofs.Views.{viewed, view-stop}
+use Rattle.error.specs.Refusals.{refused}
+use Rattle.error.specs.declared.Refusal.{Refusal}
+use Rattle.byte_source.specs.declared.Span.{Span}
+use Rattle.byte_source.specs.Answers.{spanBytes}
+use Rattle.byte_source.proofs.ReadLaws.{taken}
+use Rattle.text.specs.Utf8.{valid}
+use Rattle.format.specs.WayData.{Node}
+use Rattle.types.specs.Types.{optionalSpan}
+use Rattle.types.specs.declared.Position.{Position}
+use Rattle.types.specs.declared.OptionalSpan.{OptionalSpan}
+use Rattle.types.specs.declared.OptionalSpan.the-variants.{Absent, At}
+use Rattle.types.specs.Beside.{Beside}
+use Rattle.types.specs.declared.End.{End}
+use Rattle.types.proofs.TypeLaws as types
+use Rattle.types.proofs.BesideLaws.{beside-after}
+use Rattle.fields.specs.Fields.{optionalSpanRes, optionalSpanRefusal, positionRes, positionRefusal, nodePosition, streamedSpan}
+use Rattle.fields.specs.declared.OptionalSpanRead.{OptionalSpanRead}
+use Rattle.fields.specs.declared.OptionalSpanRead.the-variants as span
+use Rattle.fields.specs.declared.PositionRead.{PositionRead}
+use Rattle.fields.specs.declared.PositionRead.the-variants as position
+
+pub optional-span-refused : (g : OptionalSpanRead) (e : Refusal) → g ≡ span.Refused e → e ≡ optionalSpanRefusal g
+optional-span-refused g e h = taken optionalSpanRefusal h refl
+
+pub position-refused : (g : PositionRead) (e : Refusal) → g ≡ position.Refused e → e ≡ positionRefusal g
+position-refused g e h = taken positionRefusal h refl
+
+pub ruleset refusals = (types.refusals, optional-span-refused, position-refused)
+
+-- a field that a flag announces, by the flag
+module _ {A B : Type 0} (p : Parser A) (m : List ℕ) (at : ℕ) (c : Bool) (f : Maybe A → ℕ → Res B) (x : Res B) where
+  pub optional-on : c ≡ true → x ≡ andThen (p m at) (λ a e. f (some a) e) → x ≡ andThen (optional c p m at) f
+  unfolding optional
+  optional-on h q = rw h (on (p m at) q)
+    where
+      on : (r : Res A) → x ≡ andThen r (λ a e. f (some a) e) → x ≡ andThen (andThen r (λ a e. ok (some a) e)) f
+      on (ok a e) q = q
+      on (no n v) q = q
+
+  pub optional-off : c ≡ false → x ≡ f none at → x ≡ andThen (optional c p m at) f
+  unfolding optional
+  optional-off h q = rw h q
+
+-- each known by what is handed out of it
+module _ {B : Type 0} where
+  pub optional-span-ok : (g : OptionalSpanRead) (v : OptionalSpan) (n : ℕ) (r : Res (Maybe Part)) (f : Maybe Part → ℕ → Res B) (x : Res B) → optionalSpanRes g ≡ mapRes optionalSpan r → g ≡ span.Value v n → ((a : Maybe Part) → v ≡ optionalSpan a → x ≡ f a n) → x ≡ andThen r f
+  optional-span-ok g v n r f x q h p = viewed optionalSpan r f (sym q ∙ ap optionalSpanRes h) p
+
+  pub optional-span-no : (g : OptionalSpanRead) (e′ e : Refusal) (r : Res (Maybe Part)) (f : Maybe Part → ℕ → Res B) → optionalSpanRes g ≡ mapRes optionalSpan r → g ≡ span.Refused e → e′ ≡ optionalSpanRefusal g → refused e′ ≡ andThen r f
+  optional-span-no g e′ e r f q h p = ap refused (p ∙ ap optionalSpanRefusal h) ∙ view-stop optionalSpan r f (sym q ∙ ap optionalSpanRes h)
+
+  pub position-ok : (g : PositionRead) (v : Position) (n : ℕ) (r : Res Node) (f : Node → ℕ → Res B) (x : Res B) → positionRes g ≡ mapRes nodePosition r → g ≡ position.Value v n → ((a : Node) → v ≡ nodePosition a → x ≡ f a n) → x ≡ andThen r f
+  position-ok g v n r f x q h p = viewed nodePosition r f (sym q ∙ ap positionRes h) p
+
+  pub position-no : (g : PositionRead) (e′ e : Refusal) (r : Res Node) (f : Node → ℕ → Res B) → positionRes g ≡ mapRes nodePosition r → g ≡ position.Refused e → e′ ≡ positionRefusal g → refused e′ ≡ andThen r f
+  position-no g e′ e r f q h p = ap refused (p ∙ ap positionRefusal h) ∙ view-stop nodePosition r f (sym q ∙ ap positionRes h)
+
+-- in front of a read whose value stands beside its end
+module _ {A C : Type 0} (view : A → C) (empty w : C) (z : End) where
+  pub optional-span-then : (g : OptionalSpanRead) (v : OptionalSpan) (n : ℕ) (r : Res (Maybe Part)) (f : Maybe Part → ℕ → Res A) → optionalSpanRes g ≡ mapRes optionalSpan r → g ≡ span.Value v n → ((a : Maybe Part) → v ≡ optionalSpan a → Beside view empty (f a n) w z) → Beside view empty (andThen r f) w z
+  optional-span-then g v n r f q h p = beside-after view empty (andThen r f) optionalSpan r f v n w z (sym q ∙ ap optionalSpanRes h) p refl
+
+  pub position-then : (g : PositionRead) (v : Position) (n : ℕ) (r : Res Node) (f : Node → ℕ → Res A) → positionRes g ≡ mapRes nodePosition r → g ≡ position.Value v n → ((a : Node) → v ≡ nodePosition a → Beside view empty (f a n) w z) → Beside view empty (andThen r f) w z
+  position-then g v n r f q h p = beside-after view empty (andThen r f) nodePosition r f v n w z (sym q ∙ ap positionRes h) p refl
+
+pub ruleset reads = (types.reads, optional-span-ok, optional-span-no, position-ok, position-no)
+
+pub ruleset flagged = (reads, not-true, not-false, optional-on, optional-off)
+
+-- a text as it is streamed
+module _ (m : List ℕ) (o : OptionalSpan) where
+  pub streamed-absent : o ≡ Absent → Absent ≡ streamedSpan m o
+  streamed-absent h = rw h
+
+  module _ (s : Span) (b : List ℕ) (c : Bool) where
+    pub streamed-valid : o ≡ At s → b ≡ spanBytes m s → c ≡ valid b → c ≡ true → At s ≡ streamedSpan m o
+    streamed-valid h d q e = let z : valid (spanBytes m s) ≡ true = sym (q ∙ ap valid d) ∙ e in rw (h, z)
+
+    pub streamed-empty : o ≡ At s → b ≡ spanBytes m s → c ≡ valid b → c ≡ false → At (record { start = s .start; size = 0 }) ≡ streamedSpan m o
+    streamed-empty h d q e = let z : valid (spanBytes m s) ≡ false = sym (q ∙ ap valid d) ∙ e in rw (h, z)
+
+pub ruleset streams = (types.reads, streamed-absent, streamed-valid, streamed-empty)

@@ -1,0 +1,3 @@
+pub mod ElevationLaws
+pub mod PoiLaws
+pub mod StreamLaws

@@ -1,0 +1,34 @@
+-- What the stream shows of a point is told by what is handed out of it and the map.
+use Prim.Native.Nat.{ℕ}
+use mathlib.Core.Path.{_≡_}
+use mathlib.Core.Bool.{Bool}
+use mathlib.Core.List.{List}
+use Rattle.parsing.specs.Parse.{ok, byte, optional, Part, Maybe}
+use Rattle.utils.specs.Vbe.{signed}
+use Rattle.tag.specs.declared.Kind.{Kind}
+use Rattle.format.specs.Header.{bit}
+use Rattle.format.specs.WayData.{node}
+use Rattle.format.specs.Streamed.{streamedPoint}
+use Rattle.format.specs.Tile.{debugSignature, tagged, PointFields, pointFields, Point, point}
+use Rattle.fields.proofs.StreamLaws.{Gives, any, gives-bind, gives-return, Within, optional-within, streamed-view}
+use Rattle.poi.specs.Poi.{poiOf, streamedPoi}
+
+-- both texts are parts of the map
+record Texts (m : List ℕ) (name houseNumber : Maybe Part) : Type 0 where
+  first : Within m name
+  second : Within m houseNumber
+
+fields-within : (m : List ℕ) → Gives m pointFields (λ f. Texts m (f .name) (f .houseNumber))
+unfolding pointFields
+fields-within m =
+    gives-bind m (any m byte) λ f _. gives-bind m (optional-within m (bit 7 f)) λ n a. gives-bind m (optional-within m (bit 6 f)) λ h b. gives-bind m (any m (optional (bit 5 f) signed)) λ e _. gives-return m _ _ (record { first = a; second = b })
+
+point-within : (m : List ℕ) (debug : Bool) (kinds : List Kind) → Gives m (point debug kinds) (λ p. Texts m (p .name) (p .houseNumber))
+unfolding point
+point-within m debug kinds =
+    gives-bind m (any m (debugSignature debug)) λ g _. gives-bind m (any m node) λ p _. gives-bind m (any m (tagged kinds)) λ t _. gives-bind m (fields-within m) λ f h. gives-return m _ _ h
+
+pub point-streamed : (m : List ℕ) (debug : Bool) (kinds : List Kind) (i : ℕ) (p : Point) (e : ℕ) → point debug kinds m i ≡ ok p e → streamedPoi m (poiOf p) ≡ poiOf (streamedPoint p)
+point-streamed m debug kinds i p e h =
+    let w = point-within m debug kinds .holds i p e h in
+    rw (streamed-view m (p .name) (w .first), streamed-view m (p .houseNumber) (w .second))

@@ -1,0 +1,237 @@
+// poi.rs: a point of a tile.
+use byte_source::ByteRead;
+use error::Refusal;
+use fields::OptionalSpanRead;
+use fields::PositionRead;
+use tagged::TagIds;
+use types::End;
+use types::OptionalSpan;
+use types::Position;
+use types::TagTable;
+use utils::SignedRead;
+ghost use mathlib.Core.Path.{_≡_};
+ghost use Rattle.parsing.specs.Parse.{mapRes, optional, Part, Maybe};
+ghost use Rattle.utils.specs.Vbe.{signed};
+ghost use Rattle.format.specs.Elevation.{lowBits, low32};
+ghost use Rattle.format.specs.Kinds.{tagKinds};
+ghost use Rattle.format.specs.WayData.{Node};
+ghost use Rattle.format.specs.Tile.{pointFields, point};
+ghost use Rattle.types.specs.Types.{optionalSpan};
+ghost use Rattle.fields.specs.Fields.{nodePosition};
+ghost use Rattle.tag_table.specs.Tables.{tableIn};
+ghost use Rattle.poi.specs.Poi.{elevationRes, elevationRefusal, optionalElevation, poiFieldsRes, poiFieldsRefusal, poiFieldsOf, emptyPoi, PoiIs, behindPosition, streamedPoi};
+
+// In metres.
+pub enum OptionalElevation {
+    Absent,
+    At(i32),
+}
+
+// A point. Its texts and its signature are raw parts of the map.
+pub struct Poi {
+    pub signature: OptionalSpan,
+    pub position: Position,
+    pub layer: i8,
+    pub tag_ids: TagIds,
+    pub name: OptionalSpan,
+    pub house_number: OptionalSpan,
+    pub elevation: OptionalElevation,
+}
+
+pub struct PoiRead {
+    pub poi: Poi,
+    pub end: End,
+}
+
+enum ElevationRead {
+    Value(OptionalElevation, usize),
+    Refused(Refusal),
+}
+
+// What a point's flags announce.
+struct PoiFields {
+    name: OptionalSpan,
+    house_number: OptionalSpan,
+    elevation: OptionalElevation,
+}
+
+enum PoiFieldsRead {
+    Value(PoiFields, usize),
+    Refused(Refusal),
+}
+
+fn elevation_refusal(got: ElevationRead) -> Refusal
+    ensures { λ r. ⌜ r ≡ elevationRefusal got ⌝ }
+{
+    match got {
+        ElevationRead::Refused(r) => r,
+        ElevationRead::Value(_, _) => Refusal::Source,
+    }
+}
+
+fn poi_fields_refusal(got: PoiFieldsRead) -> Refusal
+    ensures { λ r. ⌜ r ≡ poiFieldsRefusal got ⌝ }
+{
+    match got {
+        PoiFieldsRead::Refused(r) => r,
+        PoiFieldsRead::Value(_, _) => Refusal::Source,
+    }
+}
+
+// The low 32 bits of a number.
+fn low_bits(v: i64) -> u32
+    ensures { λ r. ⌜ r ≡ lowBits v ⌝ }
+{
+    if v < 0 {
+        let n = (-1 - v) as u64;
+        return 4294967295 - (n % 4294967296) as u32;
+    }
+    let n = v as u64;
+    (n % 4294967296) as u32
+}
+
+fn low32(v: i64) -> i32
+    ensures { λ r. ⌜ r ≡ low32 v ⌝ }
+{
+    byte_source::to_i32(low_bits(v))
+}
+
+fn read_elevation(map: &[u8], at: usize, flag: bool) -> ElevationRead
+    ensures { λ r. ⌜ elevationRes r ≡ mapRes optionalElevation (optional flag signed (now (map .entry)) at) ⌝ }
+{
+    if !flag {
+        return ElevationRead::Value(OptionalElevation::Absent, at);
+    }
+    let got = utils::read_vbe_s_int(map, at);
+    let SignedRead::Value(v, next) = got else {
+        return ElevationRead::Refused(utils::signed_refusal(got));
+    };
+    ElevationRead::Value(OptionalElevation::At(low32(v)), next)
+}
+
+// The flags, and what they announce.
+fn read_poi_fields(map: &[u8], at: usize) -> PoiFieldsRead
+    ensures { λ r. ⌜ poiFieldsRes r ≡ mapRes poiFieldsOf (pointFields (now (map .entry)) at) ⌝ }
+{
+    let got = byte_source::read_u8(map, at);
+    let ByteRead::Value(flags, at) = got else {
+        return PoiFieldsRead::Refused(byte_source::byte_refusal(got));
+    };
+    let got = fields::read_optional_text(map, at, flags / 128 % 2 == 1);
+    let OptionalSpanRead::Value(name, at) = got else {
+        return PoiFieldsRead::Refused(fields::optional_span_refusal(got));
+    };
+    let got = fields::read_optional_text(map, at, flags / 64 % 2 == 1);
+    let OptionalSpanRead::Value(house_number, at) = got else {
+        return PoiFieldsRead::Refused(fields::optional_span_refusal(got));
+    };
+    let got = read_elevation(map, at, flags / 32 % 2 == 1);
+    let ElevationRead::Value(elevation, at) = got else {
+        return PoiFieldsRead::Refused(elevation_refusal(got));
+    };
+    PoiFieldsRead::Value(
+        PoiFields {
+            name,
+            house_number,
+            elevation,
+        },
+        at,
+    )
+}
+
+fn refused_poi(refusal: Refusal) -> PoiRead
+    ensures { λ r. ⌜ (r .poi ≡ emptyPoi) × (r .end ≡ End.Refused refusal) ⌝ }
+{
+    PoiRead {
+        poi: Poi {
+            signature: OptionalSpan::Absent,
+            position: Position {
+                latitude: 0.0,
+                longitude: 0.0,
+            },
+            layer: 0,
+            tag_ids: TagIds {
+                ids: [0u64; 15],
+                count: 0,
+            },
+            name: OptionalSpan::Absent,
+            house_number: OptionalSpan::Absent,
+            elevation: OptionalElevation::Absent,
+        },
+        end: End::Refused(refusal),
+    }
+}
+
+// What stands behind a point's position, and the point that it completes.
+fn read_behind_position(
+    map: &[u8],
+    at: usize,
+    table: TagTable,
+    signature: OptionalSpan,
+    position: Position,
+) -> PoiRead
+    ensures { λ r. ⌜ ((g : Maybe Part) (p : Node) → signature ≡ optionalSpan g → position ≡ nodePosition p → PoiIs (behindPosition (tagKinds (tableIn table) (now (map .entry))) g p (now (map .entry)) at) r) ⌝ }
+{
+    let tags = tagged::read_tagged(map, at, table);
+    let end = tags.end;
+    let End::At(at) = end else {
+        return refused_poi(types::end_refusal(end));
+    };
+    let got = read_poi_fields(map, at);
+    let PoiFieldsRead::Value(rest, at) = got else {
+        return refused_poi(poi_fields_refusal(got));
+    };
+    let tag_ids = tags.tag_ids;
+    let name = rest.name;
+    let house_number = rest.house_number;
+    let elevation = rest.elevation;
+    PoiRead {
+        poi: Poi {
+            signature,
+            position,
+            layer: tags.layer,
+            tag_ids,
+            name,
+            house_number,
+            elevation,
+        },
+        end: End::At(at),
+    }
+}
+
+// A point with raw texts, and the place behind it.
+pub fn read_poi(map: &[u8], at: usize, debug: bool, table: TagTable) -> PoiRead
+    ensures { λ r. ⌜ PoiIs (point debug (tagKinds (tableIn table) (now (map .entry))) (now (map .entry)) at) r ⌝ }
+{
+    let got = fields::read_signature(map, at, debug);
+    let OptionalSpanRead::Value(signature, at) = got else {
+        return refused_poi(fields::optional_span_refusal(got));
+    };
+    let got = fields::read_position(map, at);
+    let PositionRead::Value(position, at) = got else {
+        return refused_poi(fields::position_refusal(got));
+    };
+    read_behind_position(map, at, table, signature, position)
+}
+
+// A point as it is streamed.
+pub fn streamed_poi(map: &[u8], poi: Poi) -> Poi
+    ensures { λ r. ⌜ r ≡ streamedPoi (now (map .entry)) poi ⌝ }
+{
+    let stored = poi.name;
+    let name = fields::streamed_span(map, stored);
+    let stored = poi.house_number;
+    let house_number = fields::streamed_span(map, stored);
+    let position = poi.position;
+    let tag_ids = poi.tag_ids;
+    let elevation = poi.elevation;
+    Poi {
+        signature: OptionalSpan::Absent,
+        position,
+        layer: poi.layer,
+        tag_ids,
+        name,
+        house_number,
+        elevation,
+    }
+}

@@ -1,0 +1,2 @@
+pub mod WayFieldLaws
+pub mod StreamLaws

@@ -1,0 +1,93 @@
+-- The fields of a way behind its tag values as they are handed out (document 01, way.rs), from what is stored.
+use Prim.Native.Nat.{ℕ}
+use mathlib.Core.List.{List}
+use Rattle.parsing.specs.Parse.{Res, ok, no, Parser, _>>=_, return, Maybe, none, some}
+use Rattle.error.specs.Refusals.{refused}
+use Rattle.error.specs.declared.Refusal.{Refusal}
+use Rattle.error.specs.declared.Refusal.the-variants.{Source}
+use Rattle.format.specs.WayData.{Node}
+use Rattle.format.specs.Tile as format
+use Rattle.format.specs.Tile.{wayFields, dataBlockCount, doubleDelta}
+use Rattle.types.specs.Types.{optionalSpan}
+use Rattle.types.specs.declared.OptionalPosition.{OptionalPosition}
+use Rattle.types.specs.declared.OptionalPosition.the-variants.{Absent, At}
+use Rattle.fields.specs.Fields.{nodePosition, streamedSpan}
+use Rattle.way_fields.specs.declared.WayFields.{WayFields}
+use Rattle.way_fields.specs.declared.WayFieldsRead.{WayFieldsRead}
+use Rattle.way_fields.specs.declared.WayFieldsRead.the-variants as fields
+use Rattle.way_fields.specs.declared.LabelRead.{LabelRead}
+use Rattle.way_fields.specs.declared.LabelRead.the-variants as label
+use Rattle.way_fields.specs.declared.Announced.{Announced}
+use Rattle.way_fields.specs.declared.AnnouncedRead.{AnnouncedRead}
+use Rattle.way_fields.specs.declared.AnnouncedRead.the-variants as announced
+
+-- a way's body up to its data blocks, and how many these are
+pub record BodyHead : Type 0 where
+  pub fields : format.WayFields
+  pub dataBlocks : ℕ
+
+unfoldable pub bodyHead : Parser BodyHead
+bodyHead = do
+  f ← wayFields
+  k ← dataBlockCount (f .flags)
+  return (record { fields = f; dataBlocks = k })
+
+-- a label position is either absent or given as degrees
+abbrev pub optionalPosition : Maybe Node → OptionalPosition
+optionalPosition none = Absent
+optionalPosition (some n) = At (nodePosition n)
+
+abbrev pub wayFieldsOf : BodyHead → WayFields
+wayFieldsOf b = record {
+  name = optionalSpan (b .fields .name);
+  «house_number» = optionalSpan (b .fields .houseNumber);
+  reference = optionalSpan (b .fields .reference);
+  «label_position» = optionalPosition (b .fields .label);
+  «double_delta» = doubleDelta (b .fields);
+  «data_blocks» = b .dataBlocks;
+}
+
+abbrev pub wayFieldsRes : WayFieldsRead → Res WayFields
+wayFieldsRes (fields.Value v n) = ok v n
+wayFieldsRes (fields.Refused r) = refused r
+
+abbrev pub wayFieldsRefusal : WayFieldsRead → Refusal
+wayFieldsRefusal (fields.Value v n) = Source
+wayFieldsRefusal (fields.Refused r) = r
+
+-- as the stream shows them: each text that is not valid UTF-8 is empty
+abbrev pub streamedWayFields : List ℕ → WayFields → WayFields
+streamedWayFields m f = record {
+  name = streamedSpan m (f .name);
+  «house_number» = streamedSpan m (f .«house_number»);
+  reference = streamedSpan m (f .reference);
+  «label_position» = f .«label_position»;
+  «double_delta» = f .«double_delta»;
+  «data_blocks» = f .«data_blocks»;
+}
+
+-- the answers on the way
+abbrev pub labelRes : LabelRead → Res OptionalPosition
+labelRes (label.Value v n) = ok v n
+labelRes (label.Refused r) = refused r
+
+abbrev pub labelRefusal : LabelRead → Refusal
+labelRefusal (label.Value v n) = Source
+labelRefusal (label.Refused r) = r
+
+abbrev pub announcedOf : format.WayFields → Announced
+announcedOf f = record {
+  name = optionalSpan (f .name);
+  «house_number» = optionalSpan (f .houseNumber);
+  reference = optionalSpan (f .reference);
+  «label_position» = optionalPosition (f .label);
+  flags = f .flags;
+}
+
+abbrev pub announcedRes : AnnouncedRead → Res Announced
+announcedRes (announced.Value v n) = ok v n
+announcedRes (announced.Refused r) = refused r
+
+abbrev pub announcedRefusal : AnnouncedRead → Refusal
+announcedRefusal (announced.Value v n) = Source
+announcedRefusal (announced.Refused r) = r

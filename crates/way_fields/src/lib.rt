@@ -1,0 +1,184 @@
+// way.rs: the fields of a way between its tag values and its coordinates.
+use byte_source::ByteRead;
+use byte_source::NumberRead;
+use error::Refusal;
+use fields::OptionalSpanRead;
+use fields::PositionRead;
+use types::OptionalPosition;
+use types::OptionalSpan;
+ghost use mathlib.Core.Path.{_≡_};
+ghost use Rattle.parsing.specs.Parse.{mapRes, optional};
+ghost use Rattle.format.specs.WayData.{node};
+ghost use Rattle.format.specs.Tile.{wayFields, dataBlockCount};
+ghost use Rattle.byte_source.specs.Answers.{numberRes};
+ghost use Rattle.way_fields.specs.WayFields.{optionalPosition, labelRes, labelRefusal, announcedOf, announcedRes, announcedRefusal, bodyHead, wayFieldsOf, wayFieldsRes, wayFieldsRefusal, streamedWayFields};
+
+// A way's texts are raw parts of the map. `data_blocks` data blocks follow.
+pub struct WayFields {
+    pub name: OptionalSpan,
+    pub house_number: OptionalSpan,
+    pub reference: OptionalSpan,
+    pub label_position: OptionalPosition,
+    pub double_delta: bool,
+    pub data_blocks: u64,
+}
+
+pub enum WayFieldsRead {
+    Value(WayFields, usize),
+    Refused(Refusal),
+}
+
+enum LabelRead {
+    Value(OptionalPosition, usize),
+    Refused(Refusal),
+}
+
+// The flags, and the fields that they announce.
+struct Announced {
+    name: OptionalSpan,
+    house_number: OptionalSpan,
+    reference: OptionalSpan,
+    label_position: OptionalPosition,
+    flags: u8,
+}
+
+enum AnnouncedRead {
+    Value(Announced, usize),
+    Refused(Refusal),
+}
+
+pub fn way_fields_refusal(got: WayFieldsRead) -> Refusal
+    ensures { λ r. ⌜ r ≡ wayFieldsRefusal got ⌝ }
+{
+    match got {
+        WayFieldsRead::Refused(r) => r,
+        WayFieldsRead::Value(_, _) => Refusal::Source,
+    }
+}
+
+fn label_refusal(got: LabelRead) -> Refusal
+    ensures { λ r. ⌜ r ≡ labelRefusal got ⌝ }
+{
+    match got {
+        LabelRead::Refused(r) => r,
+        LabelRead::Value(_, _) => Refusal::Source,
+    }
+}
+
+fn announced_refusal(got: AnnouncedRead) -> Refusal
+    ensures { λ r. ⌜ r ≡ announcedRefusal got ⌝ }
+{
+    match got {
+        AnnouncedRead::Refused(r) => r,
+        AnnouncedRead::Value(_, _) => Refusal::Source,
+    }
+}
+
+// Latitude, then longitude, in degrees.
+fn read_label(map: &[u8], at: usize, flag: bool) -> LabelRead
+    ensures { λ r. ⌜ labelRes r ≡ mapRes optionalPosition (optional flag node (now (map .entry)) at) ⌝ }
+{
+    if !flag {
+        return LabelRead::Value(OptionalPosition::Absent, at);
+    }
+    let got = fields::read_position(map, at);
+    let PositionRead::Value(position, next) = got else {
+        return LabelRead::Refused(fields::position_refusal(got));
+    };
+    LabelRead::Value(OptionalPosition::At(position), next)
+}
+
+fn read_announced(map: &[u8], at: usize) -> AnnouncedRead
+    ensures { λ r. ⌜ announcedRes r ≡ mapRes announcedOf (wayFields (now (map .entry)) at) ⌝ }
+{
+    let got = byte_source::read_u8(map, at);
+    let ByteRead::Value(flags, at) = got else {
+        return AnnouncedRead::Refused(byte_source::byte_refusal(got));
+    };
+    let got = fields::read_optional_text(map, at, flags / 128 % 2 == 1);
+    let OptionalSpanRead::Value(name, at) = got else {
+        return AnnouncedRead::Refused(fields::optional_span_refusal(got));
+    };
+    let got = fields::read_optional_text(map, at, flags / 64 % 2 == 1);
+    let OptionalSpanRead::Value(house_number, at) = got else {
+        return AnnouncedRead::Refused(fields::optional_span_refusal(got));
+    };
+    let got = fields::read_optional_text(map, at, flags / 32 % 2 == 1);
+    let OptionalSpanRead::Value(reference, at) = got else {
+        return AnnouncedRead::Refused(fields::optional_span_refusal(got));
+    };
+    let got = read_label(map, at, flags / 16 % 2 == 1);
+    let LabelRead::Value(label_position, at) = got else {
+        return AnnouncedRead::Refused(label_refusal(got));
+    };
+    AnnouncedRead::Value(
+        Announced {
+            name,
+            house_number,
+            reference,
+            label_position,
+            flags,
+        },
+        at,
+    )
+}
+
+// Without the field there is one data block.
+fn read_data_block_count(map: &[u8], at: usize, flags: u8) -> NumberRead
+    ensures { λ r. ⌜ numberRes r ≡ dataBlockCount flags (now (map .entry)) at ⌝ }
+{
+    if flags / 8 % 2 == 1 {
+        return utils::read_vbe_u_int(map, at);
+    }
+    NumberRead::Value(1, at)
+}
+
+// The fields of a way with raw texts, and the place where its data blocks start.
+pub fn read_way_fields(map: &[u8], at: usize) -> WayFieldsRead
+    ensures { λ r. ⌜ wayFieldsRes r ≡ mapRes wayFieldsOf (bodyHead (now (map .entry)) at) ⌝ }
+{
+    let got = read_announced(map, at);
+    let AnnouncedRead::Value(fields, at) = got else {
+        return WayFieldsRead::Refused(announced_refusal(got));
+    };
+    let got = read_data_block_count(map, at, fields.flags);
+    let NumberRead::Value(data_blocks, at) = got else {
+        return WayFieldsRead::Refused(byte_source::number_refusal(got));
+    };
+    let name = fields.name;
+    let house_number = fields.house_number;
+    let reference = fields.reference;
+    let label_position = fields.label_position;
+    WayFieldsRead::Value(
+        WayFields {
+            name,
+            house_number,
+            reference,
+            label_position,
+            double_delta: fields.flags / 4 % 2 == 1,
+            data_blocks,
+        },
+        at,
+    )
+}
+
+// The fields of a way as they are streamed.
+pub fn streamed_way_fields(map: &[u8], fields: WayFields) -> WayFields
+    ensures { λ r. ⌜ r ≡ streamedWayFields (now (map .entry)) fields ⌝ }
+{
+    let stored = fields.name;
+    let name = fields::streamed_span(map, stored);
+    let stored = fields.house_number;
+    let house_number = fields::streamed_span(map, stored);
+    let stored = fields.reference;
+    let reference = fields::streamed_span(map, stored);
+    let label_position = fields.label_position;
+    WayFields {
+        name,
+        house_number,
+        reference,
+        label_position,
+        double_delta: fields.double_delta,
+        data_blocks: fields.data_blocks,
+    }
+}

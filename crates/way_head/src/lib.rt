@@ -1,0 +1,99 @@
+// way.rs: a way up to its tag values, which is all that is known of a way that is declined.
+use byte_source::NumberRead;
+use byte_source::ShortRead;
+use error::Refusal;
+use fields::OptionalSpanRead;
+use tagged::TagIds;
+use types::End;
+use types::OptionalSpan;
+use types::TagTable;
+ghost use mathlib.Core.Path.{_≡_};
+ghost use Rattle.parsing.specs.Parse.{Part, Maybe};
+ghost use Rattle.format.specs.Kinds.{tagKinds};
+ghost use Rattle.format.specs.Tile.{headRest, head};
+ghost use Rattle.types.specs.Types.{optionalSpan};
+ghost use Rattle.tag_table.specs.Tables.{tableIn};
+ghost use Rattle.way_head.specs.WayHead.{emptyHead, HeadIs};
+
+// The size is counted from `start`, the byte behind the size field.
+pub struct WayHead {
+    pub signature: OptionalSpan,
+    pub size: u64,
+    pub start: usize,
+    pub bitmap: u16,
+    pub layer: i8,
+    pub tag_ids: TagIds,
+}
+
+// A head, and where the way's body starts.
+pub struct WayHeadRead {
+    pub head: WayHead,
+    pub end: End,
+}
+
+fn refused_head(refusal: Refusal) -> WayHeadRead
+    ensures { λ r. ⌜ (r .head ≡ emptyHead) × (r .end ≡ End.Refused refusal) ⌝ }
+{
+    WayHeadRead {
+        head: WayHead {
+            signature: OptionalSpan::Absent,
+            size: 0,
+            start: 0,
+            bitmap: 0,
+            layer: 0,
+            tag_ids: TagIds {
+                ids: [0u64; 15],
+                count: 0,
+            },
+        },
+        end: End::Refused(refusal),
+    }
+}
+
+// What stands behind the size field, which ends at `at`, and the head that it completes.
+fn read_head_rest(
+    map: &[u8],
+    at: usize,
+    table: TagTable,
+    signature: OptionalSpan,
+    size: u64,
+) -> WayHeadRead
+    ensures { λ r. ⌜ ((g : Maybe Part) → signature ≡ optionalSpan g → HeadIs (headRest (tagKinds (tableIn table) (now (map .entry))) g size at (now (map .entry)) at) r) ⌝ }
+{
+    let got = byte_source::read_u16_be(map, at);
+    let ShortRead::Value(bitmap, next) = got else {
+        return refused_head(byte_source::short_refusal(got));
+    };
+    let tags = tagged::read_tagged(map, next, table);
+    let end = tags.end;
+    let End::At(behind) = end else {
+        return refused_head(types::end_refusal(end));
+    };
+    let tag_ids = tags.tag_ids;
+    WayHeadRead {
+        head: WayHead {
+            signature,
+            size,
+            start: at,
+            bitmap,
+            layer: tags.layer,
+            tag_ids,
+        },
+        end: End::At(behind),
+    }
+}
+
+// Signature, size, tile bitmap, layer and tags; the tag values are skipped.
+pub fn read_way_head(map: &[u8], at: usize, debug: bool, table: TagTable) -> WayHeadRead
+    ensures { λ r. ⌜ HeadIs (head debug (tagKinds (tableIn table) (now (map .entry))) (now (map .entry)) at) r ⌝ }
+{
+    let got = fields::read_signature(map, at, debug);
+    let OptionalSpanRead::Value(signature, at) = got else {
+        return refused_head(fields::optional_span_refusal(got));
+    };
+    let got = utils::read_vbe_u_int(map, at);
+    let NumberRead::Value(size, start) = got else {
+        return refused_head(byte_source::number_refusal(got));
+    };
+    read_head_rest(map, start, table, signature, size)
+}
