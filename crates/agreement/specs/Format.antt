@@ -7,6 +7,7 @@ use lib.ListN.{take}
 use Rattle.parsing.specs.Parse.{Parser}
 use Rattle.parsing.specs.Good.{Good, Strict, Post, total}
 use Rattle.format.specs.Tile.{Row}
+use Rattle.format.specs.Rows.{pointsOf, waysOf}
 use Rattle.agreement.specs.Calls.{LentLists}
 
 pub record Format : Type 1 where
@@ -37,10 +38,10 @@ dataEnd F h = F .start h + F .size h
 
 -- how many points and ways rows of a zoom table count
 abbrev pub pointCount : List Row → ℕ
-pointCount rows = total (λ r. r .points) rows
+pointCount rows = pointsOf rows
 
 abbrev pub wayCount : List Row → ℕ
-wayCount rows = total (λ r. r .ways) rows
+wayCount rows = waysOf rows
 
 -- of the first rows
 abbrev pub pointsUpTo : List Row → (rows : ℕ) → ℕ

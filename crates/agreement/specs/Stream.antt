@@ -3,6 +3,7 @@
 use mathlib.Core.List.{List, []}
 use Prim.Native.Nat.{ℕ, zero, suc, _+_, _-_, min, max}
 use Rattle.parsing.specs.Parse.{Res, ok, no, Parser, _>>=_, return, here}
+use Rattle.format.specs.Rows.{rowsUpto}
 use Rattle.arithmetic.specs.Cut.{cut}
 use Rattle.agreement.specs.Calls.{LentLists, Call, next, accept, decline, Answer, gotPoint, gotHead, declined, ended, refused, Step, plain, lending, accepted}
 use Rattle.agreement.specs.Format.{Format, dataEnd, pointsUpTo, waysUpTo}
@@ -46,7 +47,7 @@ stream F m (waits w x b z) decline = plain declined (idle 0 w x x z)
 
 -- rows of the zoom table up to a zoom that is clamped into the interval from low to high
 abbrev pub rowsUpTo : (low high zoom : ℕ) → ℕ
-rowsUpTo low high zoom = suc (max low (min zoom high) - low)
+rowsUpTo low high zoom = rowsUpto low high zoom
 
 -- a freshly opened stream of the first rows of a tile's zoom table; h is the tile's head, e the place behind it, z the end's answer
 abbrev pub freshStream : (F : Format) → (rows : ℕ) → F .End → F .TileHead → ℕ → State F

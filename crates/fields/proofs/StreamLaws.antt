@@ -1,17 +1,16 @@
 -- Texts that were read are parts of the map, so what is streamed of a stored feature is told by its spans and the map.
 use Prim.Native.Nat.{ℕ, zero, suc, _+_, _^_}
-use mathlib.Core.Path.{_≡_, refl, sym, ap, _∙_, subst}
+use mathlib.Core.Path.{_≡_, refl, sym, ap, subst}
 use mathlib.Core.Bool.{Bool, true, false, cond}
 use mathlib.Core.List.{List, []}
 use lib.Dec.{leb}
 use lib.ListN.{length, take, drop}
-use Rattle.parsing.specs.Parse.{Res, ok, no, Parser, bind, return, fail, pick, chunk, Part, part, Maybe, none, some, optional}
+use Rattle.parsing.specs.Parse.{ok, no, Parser, bind, return, fail, pick, chunk, Part, part, Maybe, none, some, optional}
 use Rattle.parsing.specs.Good.{split, ok-val, no-ok}
 use Rattle.text.specs.Utf8.{valid}
 use Rattle.utils.specs.Vbe.{unsigned, text}
 use Rattle.format.specs.Streamed.{streamedMaybe}
 use Rattle.types.specs.Types.{optionalSpan}
-use Rattle.types.specs.declared.OptionalSpan.{OptionalSpan}
 use Rattle.types.specs.declared.OptionalSpan.the-variants.{At}
 use Rattle.fields.specs.Fields.{streamedSpan}
 

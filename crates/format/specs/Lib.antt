@@ -8,3 +8,4 @@ pub mod Lent
 pub mod Tile
 pub mod Elevation
 pub mod Streamed
+pub mod Rows

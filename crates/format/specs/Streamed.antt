@@ -1,6 +1,5 @@
 -- Document 01, "The stream and the collected tile": a streamed text is a part of the lent map, empty if it is not valid UTF-8. A streamed
 -- feature has the collected one's fields but for its signature (and what is not stored with it).
-use Prim.Native.Nat.{ℕ}
 use mathlib.Core.Bool.{cond}
 use Rattle.parsing.specs.Parse.{Part, Maybe, none, some}
 use Rattle.text.specs.Utf8.{valid, streamedText}

@@ -77,12 +77,19 @@ pub record Tagged : Type 0 where
   pub values : List Part
 
 -- the high four bits of the special byte are the layer plus 5, the low four the number of tags
+abbrev pub layerOf : ℕ → ℤ
+layerOf special = pos (special / 16) -ℤ pos 5
+
+abbrev pub behindSpecial : List Kind → ℕ → Parser Tagged
+behindSpecial kinds special = do
+  ids ← many (tagId (length kinds)) (special % 16)
+  v ← values kinds ids
+  return (record { layer = layerOf special; ids = ids; values = v })
+
 unfoldable pub tagged : List Kind → Parser Tagged
 tagged kinds = do
   s ← byte
-  ids ← many (tagId (length kinds)) (s % 16)
-  v ← values kinds ids
-  return (record { layer = pos (s / 16) -ℤ pos 5; ids = ids; values = v })
+  behindSpecial kinds s
 
 pub record Point : Type 0 where
   pub signature : Maybe Part
@@ -106,10 +113,8 @@ pointFields = do
   e ← optional (bit 5 f) signed
   return (record { name = n; houseNumber = h; elevation = e })
 
-unfoldable pub point : Bool → List Kind → Parser Point
-point debug kinds = do
-  g ← debugSignature debug
-  p ← node
+abbrev pub behindPosition : List Kind → Maybe Part → Node → Parser Point
+behindPosition kinds g p = do
   t ← tagged kinds
   f ← pointFields
   return (record {
@@ -120,6 +125,12 @@ point debug kinds = do
     houseNumber = f .houseNumber;
     elevation = f .elevation;
   })
+
+unfoldable pub point : Bool → List Kind → Parser Point
+point debug kinds = do
+  g ← debugSignature debug
+  p ← node
+  behindPosition kinds g p
 
 -- a way up to its tag values. `start` is the byte behind the size field, from which the size is counted; `behind` is where the body
 -- starts.

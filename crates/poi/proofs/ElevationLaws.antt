@@ -1,30 +1,27 @@
 -- The low 32 bits of a signed number of 64 bits, by the test that the code makes.
-use Prim.Native.Nat.{ℕ, zero, suc, _+_, _-_, _%_, _^_, _<_}
+use Prim.Native.Nat.{ℕ, suc, _-_, _%_, _^_, _<_}
 use native.Mathlib.Omega.{arith}
-use mathlib.Core.Path.{_≡_, refl, sym, ap, _∙_}
-use mathlib.Core.Bool.{Bool, true, false, cond}
-use lib.Dec.{T, ltb}
+use mathlib.Core.Path.{_≡_, refl, ap, _∙_}
+use mathlib.Core.Bool.{true, false}
+use lib.Dec.{T}
 use lib.IntN.{ℤ, pos, negsuc, natAbs, _-ℤ_}
 use lib.Signed.{mag, ltZ, nonNeg}
 use mir.Syntax.{w32, w64}
 use mir.Val.{Fits, SFits, toZ, ofZ}
 use mir.Facts.{toZ-ofZ}
 use borrow.Author.Needs.{needs}
-use borrow.Author.Tests.{le-ltb}
+use borrow.Author.Tests.{ltb-true, le-ltb}
 use Rattle.byte_source.specs.BigEndian.{twosComplement}
 use Rattle.format.specs.Elevation.{lowBits, low32}
 
-false-not-true : false ≡ true → _≡_ {A = ℕ} 0 1
-false-not-true e = ap (λ (b : Bool). cond b 1 0) e
-
 flipped : (z : ℤ) → ltZ z (pos 0) ≡ true → negsuc 0 -ℤ z ≡ pos (mag z)
-flipped (pos n) h = absurd (omega (arith, false-not-true (sym (le-ltb n 0 (omega arith)) ∙ h)))
+flipped (pos n) h = absurd (omega (arith, ltb-true n 0 h))
 flipped (negsuc n) h =
     let e : suc n - 1 ≡ n = omega arith in
     rw (le-ltb (suc n) 1 (omega arith), e)
 
 low-flipped : (z : ℤ) → ltZ z (pos 0) ≡ true → 4294967295 - mag z % 4294967296 ≡ lowBits z
-low-flipped (pos n) h = absurd (omega (arith, false-not-true (sym (le-ltb n 0 (omega arith)) ∙ h)))
+low-flipped (pos n) h = absurd (omega (arith, ltb-true n 0 h))
 low-flipped (negsuc n) h = refl
 
 abs-fits : (n : ℕ) → n < 2 ^ 63 → Fits w64 n
@@ -32,11 +29,11 @@ abs-fits n h = record { fits = omega arith }
 
 plain-of : (z : ℤ) → ltZ z (pos 0) ≡ false → mag z < 2 ^ 63 → T (nonNeg z) × Fits w64 (natAbs z)
 plain-of (pos n) h m = (tt, abs-fits n m)
-plain-of (negsuc n) h m = absurd (omega (arith, false-not-true (sym h)))
+plain-of (negsuc n) h m = absurd (let e : _≡_ {A = ℕ} 0 1 = cc in omega arith)
 
 low-plain : (z : ℤ) → ltZ z (pos 0) ≡ false → natAbs z % 4294967296 ≡ lowBits z
 low-plain (pos n) h = refl
-low-plain (negsuc n) h = absurd (omega (arith, false-not-true (sym h)))
+low-plain (negsuc n) h = absurd (let e : _≡_ {A = ℕ} 0 1 = cc in omega arith)
 
 module _ (z : ℤ) (f : SFits w64 z) where
   bits : toZ w64 (ofZ w64 z) ≡ z

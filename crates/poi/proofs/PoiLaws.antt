@@ -9,7 +9,7 @@ use mir.Syntax.{w8, w32}
 use mir.Val.{toZ, ofZ}
 use mir.Facts.{toZ-ofZ}
 use borrow.Author.Needs.{needs}
-use Rattle.parsing.specs.Parse.{Res, ok, no, Part, Maybe, none, some, andThen, mapRes}
+use Rattle.parsing.specs.Parse.{Res, ok, Part, Maybe, some, andThen, mapRes}
 use Rattle.parsing.proofs.Steps.{then-then}
 use Rattle.parsing.proofs.Views.{viewed, view-stop}
 use Rattle.error.specs.Refusals.{refused}
@@ -18,15 +18,17 @@ use Rattle.byte_source.proofs.ReadLaws.{taken, byte-ok, byte-no}
 use Rattle.format.specs.Elevation.{low32}
 use Rattle.tag.specs.declared.Kind.{Kind}
 use Rattle.format.specs.WayData.{Node, node}
-use Rattle.format.specs.Tile.{Tagged, PointFields, Point, debugSignature, point}
-use Rattle.types.specs.Types.{optionalSpan}
+use Rattle.format.specs.Tile.{Tagged, PointFields, Point, debugSignature, behindPosition, point}
+use Rattle.types.specs.Types.{optionalSpan, endRefusal}
+use Rattle.types.specs.declared.End.the-variants as end
 use Rattle.types.specs.declared.OptionalSpan.{OptionalSpan}
 use Rattle.types.specs.declared.OptionalSpan.the-variants.{Absent}
 use Rattle.types.specs.declared.Position.{Position}
 use Rattle.fields.proofs.FieldLaws as fields
 use Rattle.fields.proofs.FieldLaws.{optional-span-ok, optional-span-no, optional-span-then, position-no, position-then}
-use Rattle.types.proofs.BesideLaws.{beside-done, beside-no}
-use Rattle.tagged.proofs.TaggedLaws.{tagged-ok, tagged-no, layer-bits}
+use Rattle.types.proofs.BesideLaws.{beside-done, beside-no, beside-ok, beside-stop}
+use Rattle.tagged.proofs.LayerLaws.{layer-bits}
+use Rattle.tagged.proofs.TaggedLaws.{tagged-ok, tagged-no}
 use Rattle.tagged.specs.TagIds.{ShownTags, tagsOf, shownTags, tagIds}
 use Rattle.tagged.specs.declared.TaggedRead.{TaggedRead}
 use Rattle.fields.specs.Fields.{optionalSpanRes, positionRes, nodePosition, streamedSpan}
@@ -34,7 +36,7 @@ use Rattle.fields.specs.declared.OptionalSpanRead.{OptionalSpanRead}
 use Rattle.fields.specs.declared.OptionalSpanRead.the-variants as span-read
 use Rattle.fields.specs.declared.PositionRead.{PositionRead}
 use Rattle.fields.specs.declared.PositionRead.the-variants as position-read
-use Rattle.poi.specs.Poi.{optionalElevation, elevationRes, elevationRefusal, poiFieldsOf, poiFieldsRes, poiFieldsRefusal, poiOf, emptyPoi, PoiIs, behindPosition, streamedPoi}
+use Rattle.poi.specs.Poi.{optionalElevation, elevationRes, elevationRefusal, poiFieldsOf, poiFieldsRes, poiFieldsRefusal, poiOf, emptyPoi, PoiIs, streamedPoi}
 use Rattle.poi.specs.declared.PoiRead.{PoiRead}
 use Rattle.poi.specs.declared.Poi.{Poi}
 use Rattle.poi.specs.declared.OptionalElevation.{OptionalElevation}
@@ -101,3 +103,11 @@ pub streamed-made : (m : List ℕ) (p : Poi) (s t : OptionalSpan) → mag (p .la
 streamed-made m p s t h k q = rw (layer-bits (p .layer) h, k, q)
 
 pub ruleset streams = (needs, streamed-made)
+
+-- a point that was read, in a definition that goes on from it
+module _ {B : Type 0} (t : PoiRead) (r : Res Point) (f : Point → ℕ → Res B) where
+  pub poi-ok : (n : ℕ) (x : Res B) → PoiIs r t → t .end ≡ end.At n → ((a : Point) → t .poi ≡ poiOf a → x ≡ f a n) → x ≡ andThen r f
+  poi-ok n x b h p = beside-ok poiOf emptyPoi r (t .poi) (t .end) n f x b h p
+
+  pub poi-no : (e′ e : Refusal) → PoiIs r t → t .end ≡ end.Refused e → e′ ≡ endRefusal (t .end) → refused e′ ≡ andThen r f
+  poi-no e′ e b h p = beside-stop poiOf emptyPoi r (t .poi) (t .end) e′ e f b h p

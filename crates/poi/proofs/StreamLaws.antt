@@ -9,11 +9,14 @@ use Rattle.tag.specs.declared.Kind.{Kind}
 use Rattle.format.specs.Header.{bit}
 use Rattle.format.specs.WayData.{node}
 use Rattle.format.specs.Streamed.{streamedPoint}
-use Rattle.format.specs.Tile.{debugSignature, tagged, PointFields, pointFields, Point, point}
+use Rattle.format.specs.Tile.{debugSignature, tagged, pointFields, Point, point}
 use Rattle.fields.proofs.StreamLaws.{Gives, any, gives-bind, gives-return, Within, optional-within, streamed-view}
 use Rattle.poi.specs.Poi.{poiOf, streamedPoi}
 
--- both texts are parts of the map
+pub view-streamed : (m : List ℕ) (p : Point) → Within m (p .name) → Within m (p .houseNumber) → streamedPoi m (poiOf p) ≡ poiOf (streamedPoint p)
+view-streamed m p a b = rw (streamed-view m (p .name) a, streamed-view m (p .houseNumber) b)
+
+-- both texts of a point that was read are parts of the map
 record Texts (m : List ℕ) (name houseNumber : Maybe Part) : Type 0 where
   first : Within m name
   second : Within m houseNumber
@@ -31,4 +34,4 @@ point-within m debug kinds =
 pub point-streamed : (m : List ℕ) (debug : Bool) (kinds : List Kind) (i : ℕ) (p : Point) (e : ℕ) → point debug kinds m i ≡ ok p e → streamedPoi m (poiOf p) ≡ poiOf (streamedPoint p)
 point-streamed m debug kinds i p e h =
     let w = point-within m debug kinds .holds i p e h in
-    rw (streamed-view m (p .name) (w .first), streamed-view m (p .houseNumber) (w .second))
+    view-streamed m p (w .first) (w .second)

@@ -1,16 +1,14 @@
 -- A point as it is handed out (document 01, poi.rs), from what is stored.
 use Prim.Native.Nat.{ℕ}
 use mathlib.Core.List.{List}
-use lib.IntN.{ℤ, pos}
-use Rattle.parsing.specs.Parse.{Res, ok, no, Parser, _>>=_, return, Part, Maybe, none, some}
+use lib.IntN.{ℤ}
+use Rattle.parsing.specs.Parse.{Res, ok, Maybe, none, some}
 use Rattle.error.specs.Refusals.{refused}
 use Rattle.error.specs.declared.Refusal.{Refusal}
 use Rattle.error.specs.declared.Refusal.the-variants.{Source}
 use Rattle.format.specs.Elevation.{low32}
 use Rattle.format.specs.Nodes.{zero64}
-use Rattle.format.specs.Tile.{PointFields, pointFields, Point, tagged}
-use Rattle.format.specs.WayData.{Node}
-use Rattle.tag.specs.declared.Kind.{Kind}
+use Rattle.format.specs.Tile.{PointFields, Point}
 use Rattle.types.specs.Beside.{Beside}
 use Rattle.types.specs.Types.{optionalSpan}
 use Rattle.types.specs.declared.OptionalSpan.the-variants as span
@@ -67,20 +65,6 @@ streamedPoi m p = record {
   «house_number» = streamedSpan m (p .«house_number»);
   elevation = p .elevation;
 }
-
--- a point behind its position: what is left of the format's `point`
-abbrev pub behindPosition : List Kind → Maybe Part → Node → Parser Point
-behindPosition kinds g p = do
-  t ← tagged kinds
-  f ← pointFields
-  return (record {
-    signature = g;
-    position = p;
-    tagged = t;
-    name = f .name;
-    houseNumber = f .houseNumber;
-    elevation = f .elevation;
-  })
 
 -- the answers on the way
 abbrev pub elevationRes : ElevationRead → Res OptionalElevation

@@ -15,11 +15,11 @@ ghost use Rattle.utils.specs.Vbe.{signed};
 ghost use Rattle.format.specs.Elevation.{lowBits, low32};
 ghost use Rattle.format.specs.Kinds.{tagKinds};
 ghost use Rattle.format.specs.WayData.{Node};
-ghost use Rattle.format.specs.Tile.{pointFields, point};
+ghost use Rattle.format.specs.Tile.{pointFields, behindPosition, point};
 ghost use Rattle.types.specs.Types.{optionalSpan};
 ghost use Rattle.fields.specs.Fields.{nodePosition};
 ghost use Rattle.tag_table.specs.Tables.{tableIn};
-ghost use Rattle.poi.specs.Poi.{elevationRes, elevationRefusal, optionalElevation, poiFieldsRes, poiFieldsRefusal, poiFieldsOf, emptyPoi, PoiIs, behindPosition, streamedPoi};
+ghost use Rattle.poi.specs.Poi.{elevationRes, elevationRefusal, optionalElevation, poiFieldsRes, poiFieldsRefusal, poiFieldsOf, emptyPoi, PoiIs, streamedPoi};
 
 // In metres.
 pub enum OptionalElevation {

@@ -8,7 +8,7 @@ use mathlib.Core.List.{List}
 use lib.Dec.{T}
 use lib.IntN.{ℤ, pos, negsuc, natAbs, _-ℤ_}
 use lib.Signed.{leZ, mag, nonNeg}
-use mir.Syntax.{w32, w64}
+use mir.Syntax.{Width, w8, w32, w64}
 use mir.Val.{Fits, SFits, toZ, ofZ}
 use mir.Facts.{toZ-ofZ}
 use lib.Ieee.{Float, nan, inf, fin, binary64, ne, eq, isNan, nanBits}
@@ -122,8 +122,14 @@ module _ (z : ℤ) (f : SFits w64 z) where
     pub down-abs : natAbs (toZ w64 (ofZ w64 (negsuc 0 -ℤ toZ w64 (ofZ w64 z)))) + 1 ≡ natAbs z
     down-abs = rw down-is (abs-mag z below)
 
--- a number of 32 bits is one of 64
+-- a number of fewer bits is one of 64
+widened : (w : Width) (z : ℤ) → SFits w z → mag z < 2 ^ 63 → SFits w64 (toZ w (ofZ w z))
+widened w z f h = rw (toZ-ofZ {w = w} {z = z} f) (record { sfits = h })
+
 pub wide-fits : (z : ℤ) → mag z < 2 ^ 31 → SFits w64 (toZ w32 (ofZ w32 z))
-wide-fits z h = rw (toZ-ofZ {w = w32} {z = z} (record { sfits = h })) (record { sfits = omega arith })
+wide-fits z h = widened w32 z (record { sfits = h }) (omega arith)
+
+pub byte-fits : (z : ℤ) → mag z < 2 ^ 7 → SFits w64 (toZ w8 (ofZ w8 z))
+byte-fits z h = widened w8 z (record { sfits = h }) (omega arith)
 
 pub ruleset words = (needs, push-full, push-more, mix-none, mix-more, mix-count, mix-all, mix-byte, mix-end)

@@ -1,15 +1,15 @@
 -- The kinds of a map's tags: one for each tag of a table, found by a walk to the tag's name.
-use Prim.Native.Nat.{ℕ, zero, suc, _+_, _≤_, _<_}
+use Prim.Native.Nat.{ℕ, zero, suc, _≤_, _<_}
 use native.Mathlib.Omega.{arith}
 use mathlib.Core.Path.{_≡_, refl, sym, ap, _∙_}
-use mathlib.Core.List.{List, [], _∷_}
+use mathlib.Core.List.{List, _∷_}
 use mathlib.Core.List.{map as mapped}
 use lib.ListN.{length}
 use lib.Dec.{ltb}
 use borrow.Author.Tests.{ltb-true, ltb-false, lt-ltb}
 use mathlib.Core.Bool.{Bool, true, false}
 use Rattle.parsing.specs.Parse.{Res, ok, no, Part, andThen, many}
-use Rattle.parsing.specs.Good.{split, ok-val, ok-at}
+use Rattle.parsing.specs.Good.{split, ok-val}
 use Rattle.parsing.proofs.Loops.{many-count}
 use Rattle.byte_source.specs.BigEndian.{bigEndian}
 use Rattle.utils.specs.Vbe.{text}

@@ -1,7 +1,7 @@
 -- A layer has 8 bits.
-use Prim.Native.Nat.{ℕ, suc, _-_, _<_, _^_}
+use Prim.Native.Nat.{ℕ, suc, _-_, _^_, _<_}
 use native.Mathlib.Omega.{arith}
-use mathlib.Core.Path.{_≡_, refl, sym, ap, _∙_}
+use mathlib.Core.Path.{_≡_, ap, _∙_}
 use mathlib.Core.Bool.{Bool, true, false, cond}
 use lib.Dec.{ltb}
 use lib.IntN.{ℤ, pos, negsuc, _-ℤ_}
@@ -22,3 +22,7 @@ layer-fits a h = rw (plain a h) (record { sfits = small a (ltb a 5) h })
 
 pub layer-is : (a : ℕ) → a < 16 → toZ w8 (ofZ w8 (toZ w8 a -ℤ pos 5)) ≡ pos a -ℤ pos 5
 layer-is a h = toZ-ofZ {w = w8} (layer-fits a h) ∙ plain a h
+
+-- a layer's bits, as a record holds them, are its value
+pub layer-bits : (z : ℤ) → mag z < 2 ^ 7 → toZ w8 (ofZ w8 z) ≡ z
+layer-bits z m = toZ-ofZ {w = w8} {z = z} (record { sfits = m })

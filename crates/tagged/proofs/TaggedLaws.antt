@@ -1,5 +1,5 @@
 -- Tag ids filled into an array, and the values behind them.
-use Prim.Native.Nat.{ℕ, zero, suc, _+_, _%_, _^_, _≤_, _<_}
+use Prim.Native.Nat.{ℕ, suc, _+_, _%_, _^_, _≤_, _<_}
 use native.Mathlib.Numerals.{add-one}
 use native.Mathlib.Omega.{arith}
 use mathlib.Core.Path.{_≡_, refl, sym, ap, _∙_}
@@ -10,7 +10,6 @@ use lib.Seq.{drop-cons, take-append-seam, length-take-le}
 use lib.Signed.{mag}
 use mir.Syntax.{w8}
 use mir.Val.{toZ, ofZ}
-use mir.Facts.{toZ-ofZ}
 use Rattle.parsing.specs.Parse.{Res, ok, no, Part, andThen, mapRes, many}
 use Rattle.parsing.specs.Good.{split, ok-val, ok-at, no-ok}
 use Rattle.parsing.proofs.Loops.{fold-no, many-count}
@@ -27,14 +26,15 @@ use Rattle.byte_source.specs.declared.NumberRead.{NumberRead}
 use Rattle.byte_source.specs.declared.NumberRead.the-variants as number
 use Rattle.format.specs.TagTable.{Table}
 use Rattle.format.specs.Kinds.{tagKind, tagKinds}
-use Rattle.format.specs.Tile.{Tagged, tagId, values}
+use Rattle.format.specs.Tile.{Tagged, tagId, values, layerOf}
 use Rattle.tag_table.specs.Tables.{passed}
 use Rattle.tag_kinds.proofs.KindLaws.{kindAt-tagKinds, length-tagKinds}
 use Rattle.types.specs.Types.{endRes, endRefusal}
 use Rattle.types.specs.declared.End.{End}
 use Rattle.types.specs.declared.End.the-variants as end
-use Rattle.tagged.specs.TagIds.{filledIds, layerOf, ShownTags, tagsOf, noTags, shownTags, TaggedIs}
+use Rattle.tagged.specs.TagIds.{filledIds, ShownTags, tagsOf, noTags, shownTags, TaggedIs}
 use Rattle.tagged.specs.declared.TaggedRead.{TaggedRead}
+use Rattle.tagged.proofs.LayerLaws.{layer-bits}
 use Rattle.types.proofs.BesideLaws as types
 use Rattle.types.proofs.FillLaws.{front-more, fill-more}
 
@@ -133,7 +133,7 @@ module _ {B : Type 0} (kinds : List Kind) (m : List ℕ) (k at : ℕ) (l a : Lis
       ap refused (p ∙ ap endRefusal h) ∙ view-stop (λ _. tt) (values kinds a m at) f y
 
 pub tags-made : (y : ℤ) (s k n : ℕ) (l a : List ℕ) (v : List Part) → y ≡ layerOf s → mag y < 2 ^ 7 → l ≡ filledIds a → k ≡ length a → _≡_ {A = Res ShownTags} (ok (record { layer = toZ w8 (ofZ w8 y); ids = record { ids = l; count = k } }) n) (ok (tagsOf (record { layer = layerOf s; ids = a; values = v })) n)
-tags-made y s k n l a v h b d c = rw (toZ-ofZ {w = w8} {z = y} (record { sfits = b }), h, d, c)
+tags-made y s k n l a v h b d c = rw (layer-bits y b, h, d, c)
 
 pub ruleset tags = (types.besides, ids-fit, ids-count, ids-ok, ids-stop, values-ok, values-stop, tags-made)
 
@@ -144,7 +144,3 @@ module _ {B : Type 0} (t : TaggedRead) (r : Res Tagged) (f : Tagged → ℕ → 
 
   pub tagged-no : (e′ e : Refusal) → TaggedIs r t → t .end ≡ end.Refused e → e′ ≡ endRefusal (t .end) → refused e′ ≡ andThen r f
   tagged-no e′ e b h p = types.beside-stop tagsOf noTags r (shownTags t) (t .end) e′ e f b h p
-
--- a layer's bits, as a record holds them, are its value
-pub layer-bits : (z : ℤ) → mag z < 2 ^ 7 → toZ w8 (ofZ w8 z) ≡ z
-layer-bits z m = toZ-ofZ {w = w8} {z = z} (record { sfits = m })

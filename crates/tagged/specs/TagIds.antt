@@ -1,13 +1,12 @@
 -- Layer and tag ids of a feature as they are handed out (document 01, poi.rs and way.rs: "Each feature carries its up to 15 tag ids in
 -- its own record").
-use Prim.Native.Nat.{ℕ, _/_, _%_}
+use Prim.Native.Nat.{ℕ}
 use mathlib.Core.List.{List}
-use lib.IntN.{ℤ, pos, _-ℤ_}
+use lib.IntN.{ℤ, pos}
 use lib.ListN.{length, replicate}
-use Rattle.parsing.specs.Parse.{Res, Parser, _>>=_, return, many}
-use Rattle.tag.specs.declared.Kind.{Kind}
+use Rattle.parsing.specs.Parse.{Res}
 use Rattle.format.specs.Lent.{front}
-use Rattle.format.specs.Tile.{Tagged, tagId, values}
+use Rattle.format.specs.Tile.{Tagged}
 use Rattle.types.specs.Beside.{Beside}
 use Rattle.tagged.specs.declared.TagIds.{TagIds}
 use Rattle.tagged.specs.declared.TaggedRead.{TaggedRead}
@@ -18,17 +17,6 @@ filledIds l = front l (replicate 15 0)
 
 abbrev pub tagIds : List ℕ → TagIds
 tagIds l = record { ids = filledIds l; count = length l }
-
--- the high four bits of the special byte, minus 5
-abbrev pub layerOf : ℕ → ℤ
-layerOf special = pos (special / 16) -ℤ pos 5
-
--- layer and tags behind the special byte: what is left of the format's `tagged`
-abbrev pub behindSpecial : List Kind → ℕ → Parser Tagged
-behindSpecial kinds special = do
-  ids ← many (tagId (length kinds)) (special % 16)
-  v ← values kinds ids
-  return (record { layer = layerOf special; ids = ids; values = v })
 
 -- what is shown of a feature's tags: the values behind the ids are not
 pub record ShownTags : Type 0 where

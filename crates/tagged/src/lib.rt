@@ -11,10 +11,10 @@ ghost use lib.ListN.{replicate};
 ghost use Rattle.parsing.specs.Parse.{many, mapRes};
 ghost use Rattle.byte_source.specs.Answers.{numberRes};
 ghost use Rattle.format.specs.Kinds.{tagKinds};
-ghost use Rattle.format.specs.Tile.{tagId, values, tagged};
+ghost use Rattle.format.specs.Tile.{tagId, values, layerOf, behindSpecial, tagged};
 ghost use Rattle.types.specs.Types.{endRes};
 ghost use Rattle.tag_table.specs.Tables.{tableIn, passed};
-ghost use Rattle.tagged.specs.TagIds.{filledIds, layerOf, behindSpecial, noTags, TaggedIs, shownTags};
+ghost use Rattle.tagged.specs.TagIds.{filledIds, noTags, TaggedIs, shownTags};
 
 // Up to 15 tag ids from the front, zeros behind them.
 pub struct TagIds {

@@ -1,13 +1,13 @@
 -- An array that a loop fills from the front with what it reads: the values read so far, and behind them what was there.
-use Prim.Native.Nat.{ℕ, suc, _+_, _≤_, _<_}
+use Prim.Native.Nat.{ℕ, suc, _+_, _<_}
 use native.Mathlib.Numerals.{add-one}
 use native.Mathlib.Omega.{arith}
-use mathlib.Core.Path.{_≡_, refl, sym, ap, _∙_}
+use mathlib.Core.Path.{_≡_, refl, ap, _∙_}
 use mathlib.Core.List.{List, [], _∷_, _++_, append-assoc}
 use mathlib.Core.List.{map as mapped}
 use lib.ListN.{length, drop, set, length-append, length-map}
 use lib.Seq.{set-at, drop-cons}
-use Rattle.parsing.specs.Parse.{Res, ok, no, Parser, andThen, mapRes, many}
+use Rattle.parsing.specs.Parse.{ok, Parser, mapRes, many}
 use Rattle.parsing.specs.Good.{split, ok-val, ok-at}
 use Rattle.parsing.proofs.Loops.{many-more, many-count}
 use Rattle.format.specs.Lent.{front}

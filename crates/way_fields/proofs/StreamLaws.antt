@@ -2,7 +2,7 @@
 use Prim.Native.Nat.{ℕ}
 use mathlib.Core.Path.{_≡_, refl}
 use mathlib.Core.List.{List}
-use Rattle.parsing.specs.Parse.{Res, ok, no, andThen, mapRes, byte, optional, Part, Maybe}
+use Rattle.parsing.specs.Parse.{Res, ok, no, andThen, mapRes, byte, optional}
 use Rattle.format.specs.Header.{bit}
 use Rattle.format.specs.WayData.{node, wayData}
 use Rattle.format.specs.Streamed.{streamedFields}

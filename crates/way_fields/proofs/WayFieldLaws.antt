@@ -3,7 +3,7 @@ use Prim.Native.Nat.{ℕ}
 use mathlib.Core.Path.{_≡_, refl, sym, ap, _∙_}
 use mathlib.Core.List.{List}
 use borrow.Author.Needs.{needs}
-use Rattle.parsing.specs.Parse.{Res, ok, no, Part, Maybe, some, andThen, mapRes}
+use Rattle.parsing.specs.Parse.{Res, ok, Part, Maybe, some, andThen, mapRes}
 use Rattle.parsing.proofs.Steps.{then-then}
 use Rattle.parsing.proofs.Views.{viewed, view-stop}
 use Rattle.error.specs.Refusals.{refused}
@@ -24,7 +24,7 @@ use Rattle.types.specs.declared.OptionalPosition.the-variants.{At}
 use Rattle.fields.specs.Fields.{nodePosition, streamedSpan}
 use Rattle.fields.proofs.FieldLaws as fields
 use Rattle.fields.proofs.FieldLaws.{optional-span-ok, optional-span-no}
-use Rattle.way_fields.specs.WayFields.{optionalPosition, labelRes, labelRefusal, announcedOf, announcedRes, announcedRefusal, wayFieldsOf, wayFieldsRefusal, streamedWayFields}
+use Rattle.way_fields.specs.WayFields.{optionalPosition, labelRes, labelRefusal, announcedOf, announcedRes, announcedRefusal, BodyHead, wayFieldsOf, wayFieldsRes, wayFieldsRefusal, streamedWayFields}
 use Rattle.way_fields.specs.declared.WayFields.{WayFields}
 use Rattle.way_fields.specs.declared.WayFieldsRead.{WayFieldsRead}
 use Rattle.way_fields.specs.declared.WayFieldsRead.the-variants as fields-read
@@ -89,3 +89,11 @@ pub streamed-made : (m : List ℕ) (f : WayFields) (s t u : OptionalSpan) → s 
 streamed-made m f s t u h k q = rw (h, k, q)
 
 pub ruleset streams = (needs, streamed-made)
+
+-- fields that were read, in a definition that goes on from them
+module _ {B : Type 0} where
+  pub way-fields-ok : (g : WayFieldsRead) (v : WayFields) (n : ℕ) (r : Res BodyHead) (f : BodyHead → ℕ → Res B) (x : Res B) → wayFieldsRes g ≡ mapRes wayFieldsOf r → g ≡ fields-read.Value v n → ((a : BodyHead) → v ≡ wayFieldsOf a → x ≡ f a n) → x ≡ andThen r f
+  way-fields-ok g v n r f x q h p = viewed wayFieldsOf r f (sym q ∙ ap wayFieldsRes h) p
+
+  pub way-fields-no : (g : WayFieldsRead) (e′ e : Refusal) (r : Res BodyHead) (f : BodyHead → ℕ → Res B) → wayFieldsRes g ≡ mapRes wayFieldsOf r → g ≡ fields-read.Refused e → e′ ≡ wayFieldsRefusal g → refused e′ ≡ andThen r f
+  way-fields-no g e′ e r f q h p = ap refused (p ∙ ap wayFieldsRefusal h) ∙ view-stop wayFieldsOf r f (sym q ∙ ap wayFieldsRes h)

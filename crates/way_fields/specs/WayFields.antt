@@ -1,7 +1,7 @@
 -- The fields of a way behind its tag values as they are handed out (document 01, way.rs), from what is stored.
 use Prim.Native.Nat.{ℕ}
 use mathlib.Core.List.{List}
-use Rattle.parsing.specs.Parse.{Res, ok, no, Parser, _>>=_, return, Maybe, none, some}
+use Rattle.parsing.specs.Parse.{Res, ok, Parser, _>>=_, return, Maybe, none, some}
 use Rattle.error.specs.Refusals.{refused}
 use Rattle.error.specs.declared.Refusal.{Refusal}
 use Rattle.error.specs.declared.Refusal.the-variants.{Source}

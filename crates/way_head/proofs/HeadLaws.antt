@@ -3,14 +3,14 @@ use Prim.Native.Nat.{ℕ, _<_, _^_}
 use mathlib.Core.Path.{_≡_, refl, ap}
 use mathlib.Core.Bool.{Bool}
 use mathlib.Core.List.{List}
-use lib.IntN.{ℤ}
 use lib.Signed.{mag}
 use mir.Syntax.{w8}
 use mir.Val.{toZ, ofZ}
-use mir.Facts.{toZ-ofZ}
 use borrow.Author.Needs.{needs}
 use Rattle.parsing.specs.Parse.{Res, ok, Part, Maybe, andThen, mapRes}
 use Rattle.parsing.proofs.Steps.{then-then}
+use Rattle.error.specs.Refusals.{refused}
+use Rattle.error.specs.declared.Refusal.{Refusal}
 use Rattle.byte_source.specs.Answers.{numberRes}
 use Rattle.byte_source.specs.declared.NumberRead.{NumberRead}
 use Rattle.byte_source.specs.declared.NumberRead.the-variants as number
@@ -18,12 +18,14 @@ use Rattle.byte_source.proofs.ReadLaws.{number-ok, number-no, short-ok, short-n
 use Rattle.utils.specs.Vbe.{unsigned}
 use Rattle.tag.specs.declared.Kind.{Kind}
 use Rattle.format.specs.Tile.{Tagged, Head, debugSignature, headRest, head}
-use Rattle.types.specs.Types.{optionalSpan}
+use Rattle.types.specs.Types.{optionalSpan, endRefusal}
+use Rattle.types.specs.declared.End.the-variants as end
 use Rattle.types.specs.declared.OptionalSpan.{OptionalSpan}
-use Rattle.types.proofs.BesideLaws.{beside-done, beside-no, beside-same}
+use Rattle.types.proofs.BesideLaws.{beside-done, beside-no, beside-same, beside-ok, beside-stop}
 use Rattle.tagged.specs.TagIds.{ShownTags, tagsOf, shownTags, tagIds}
 use Rattle.tagged.specs.declared.TaggedRead.{TaggedRead}
-use Rattle.tagged.proofs.TaggedLaws.{tagged-ok, tagged-no, layer-bits}
+use Rattle.tagged.proofs.LayerLaws.{layer-bits}
+use Rattle.tagged.proofs.TaggedLaws.{tagged-ok, tagged-no}
 use Rattle.fields.proofs.FieldLaws.{optional-span-ok, optional-span-no, optional-span-then}
 use Rattle.fields.specs.Fields.{optionalSpanRes}
 use Rattle.fields.specs.declared.OptionalSpanRead.{OptionalSpanRead}
@@ -49,3 +51,11 @@ head-whole m debug kinds at n k g v q z r d h e i w =
     (number-ok q z k (unsigned m n) (λ z y. headRest kinds a z y m y) (headRest kinds a z k m k) e i refl))
 
 pub ruleset heads = (needs, optional-span-ok, optional-span-no, number-no, beside-no, head-whole)
+
+-- a head that was read, in a definition that goes on from it
+module _ {B : Type 0} (t : WayHeadRead) (r : Res Head) (f : Head → ℕ → Res B) where
+  pub head-ok : (n : ℕ) (x : Res B) → HeadIs r t → t .end ≡ end.At n → ((a : Head) → t .head ≡ headOf a → x ≡ f a n) → x ≡ andThen r f
+  head-ok n x b h p = beside-ok headOf emptyHead r (t .head) (t .end) n f x b h p
+
+  pub head-no : (e′ e : Refusal) → HeadIs r t → t .end ≡ end.Refused e → e′ ≡ endRefusal (t .end) → refused e′ ≡ andThen r f
+  head-no e′ e b h p = beside-stop headOf emptyHead r (t .head) (t .end) e′ e f b h p

@@ -1,0 +1,103 @@
+-- Rows filled into an array from the front, and a table of an interval.
+use Prim.Native.Nat.{ℕ, _+_, _-_, _≤_, _<_}
+use native.Mathlib.Numerals.{add-one}
+use native.Mathlib.Omega.{arith}
+use mathlib.Core.Path.{_≡_, refl, sym, ap, _∙_}
+use mathlib.Core.List.{List, [], _∷_, _++_}
+use lib.ListN.{length, set, replicate}
+use borrow.Author.Needs.{needs}
+use borrow.Author.Tests.{le-leb, lt-leb}
+use Rattle.parsing.specs.Parse.{Res, ok, no, andThen, mapRes, many}
+use Rattle.parsing.specs.Good.{split, ok-val, ok-at}
+use Rattle.parsing.proofs.Steps.{then-then}
+use Rattle.parsing.proofs.Loops.{many-no, many-count}
+use Rattle.error.specs.Refusals.{refused}
+use Rattle.error.specs.declared.Refusal.{Refusal}
+use Rattle.error.specs.declared.Refusal.the-variants.{ReversedInterval}
+use Rattle.byte_source.proofs.ReadLaws.{taken, number-ok, number-no}
+use Rattle.utils.proofs.NumberLaws as numbers
+use Rattle.format.specs.Tile.{Row, row, zoomTable}
+use Rattle.format.specs.Rows.{intervalTable}
+use Rattle.types.specs.Types.{endRefusal}
+use Rattle.types.specs.declared.End.the-variants as end
+use Rattle.types.proofs.BesideLaws.{besides, beside-same, beside-ok, beside-stop}
+use Rattle.types.proofs.FillLaws.{front-map-more, fill-more}
+use Rattle.blocks.specs.Blocks.{zoomRow, emptyRow, filledRows, ShownRows, rowsOf, noRows, shownRows, TableIs, rowRes, rowRefusal, sumsRefusal}
+use Rattle.blocks.specs.declared.ZoomRow.{ZoomRow}
+use Rattle.blocks.specs.declared.ZoomTableRead.{ZoomTableRead}
+use Rattle.blocks.specs.declared.SumsRead.{SumsRead}
+use Rattle.blocks.specs.declared.SumsRead.the-variants as sums-read
+use Rattle.blocks.specs.declared.RowRead.{RowRead}
+use Rattle.blocks.specs.declared.RowRead.the-variants as row-read
+
+pub row-refused : (g : RowRead) (e : Refusal) → g ≡ row-read.Refused e → e ≡ rowRefusal g
+row-refused g e h = taken rowRefusal h refl
+
+pub sums-refused : (g : SumsRead) (e : Refusal) → g ≡ sums-read.Refused e → e ≡ sumsRefusal g
+sums-refused g e h = taken sumsRefusal h refl
+
+pub ruleset refusals = (numbers.refusals, row-refused, sums-refused)
+
+pub ruleset rows = (needs, then-then, number-ok, number-no)
+
+-- the array
+pub rows-none : (at : ℕ) → ok (filledRows []) at ≡ ok (replicate 256 emptyRow) at
+unfolding filledRows
+rows-none at = refl
+
+filled-more : (xs : List Row) (r : Row) → length xs < 256 → filledRows (xs ++ (r ∷ [])) ≡ set (filledRows xs) (length xs) (zoomRow r)
+unfolding filledRows
+filled-more xs r h = front-map-more zoomRow xs r (replicate 256 emptyRow) h
+
+-- one read more, or a refusal, behind i rows of which only a view is known
+module _ {C : Type 0} (view : List Row → C) (m : List ℕ) (i at n k : ℕ) (l : C) where
+  pub row-no : (g : RowRead) (e′ e : Refusal) → mapRes view (many row i m at) ≡ ok l n → rowRes g ≡ mapRes zoomRow (row m n) → g ≡ row-read.Refused e → e′ ≡ rowRefusal g → i < k → refused e′ ≡ many row k m at
+  row-no g e′ e h q d p b =
+      let s = split (many row i m at) (λ xs y. ok (view xs) y) l n h in
+      ap refused (p ∙ ap rowRefusal d) ∙ stopped (s .val) (s .mid) (s .first) (ok-at (s .second))
+    where
+      refusal : (x : Res Row) → mapRes zoomRow x ≡ refused e → x ≡ refused e
+      refusal (ok a y) z = absurd (let w : _≡_ {A = ℕ} 0 1 = cc in omega arith)
+      refusal (no a y) z = cc
+
+      stopped : (xs : List Row) (y : ℕ) → many row i m at ≡ ok xs y → y ≡ n → refused e ≡ many row k m at
+      stopped xs y f z = sym (many-no row m i k at f (refusal (row m y) (rw z (sym q ∙ ap rowRes d))) b)
+
+module _ (m : List ℕ) (i at n k : ℕ) (l : List ZoomRow) where
+  pub rows-more : (e : ℕ) (g : RowRead) (v : ZoomRow) → mapRes filledRows (many row i m at) ≡ ok l n → rowRes g ≡ mapRes zoomRow (row m n) → g ≡ row-read.Value v e → i < k → k ≤ 256 → mapRes filledRows (many row (i + 1) m at) ≡ ok (set l i v) e
+  rows-more e g v h q d b c = fill-more filledRows zoomRow 256 filled-more row m i at n l e v h (sym q ∙ ap rowRes d) (omega arith)
+
+  pub rows-done : mapRes filledRows (many row i m at) ≡ ok l n → i ≤ k → k ≤ i → _≡_ {A = Res ShownRows} (ok (record { rows = l; count = k }) n) (mapRes rowsOf (many row k m at))
+  rows-done h b c =
+      let w : i ≡ k = omega arith in
+      let s = split (many row k m at) (λ xs y. ok (filledRows xs) y) l n (rw w at h) in
+      done (s .val) (s .mid) (s .first) (ok-val (s .second)) (ok-at (s .second))
+    where
+      done : (xs : List Row) (y : ℕ) → many row k m at ≡ ok xs y → filledRows xs ≡ l → y ≡ n → ok (record { rows = l; count = k }) n ≡ mapRes rowsOf (many row k m at)
+      done xs y f w z = rw (f, ← w, z, many-count row m k at xs y f)
+
+pub ruleset fills = (besides, rows-none, rows-more, row-no, rows-done)
+
+-- the table of an interval from a to b
+module _ (m : List ℕ) (a b at : ℕ) where
+  pub table-reversed : b < a → refused ReversedInterval ≡ intervalTable a b m at
+  unfolding intervalTable
+  table-reversed h = rw (lt-leb a b h)
+
+  pub table-is : a ≤ b → many row (b - a + 1) m at ≡ intervalTable a b m at
+  unfolding intervalTable zoomTable
+  table-is h = rw (le-leb a b h, add-one (b - a))
+
+  pub table-known : (r : ZoomTableRead) → TableIs (many row (b - a + 1) m at) r → a ≤ b → TableIs (intervalTable a b m at) r
+  table-known r t h =
+      beside-same rowsOf noRows (intervalTable a b m at) (many row (b - a + 1) m at) (shownRows r) (r .end) t (table-is h)
+
+pub ruleset tables = (besides, table-reversed, table-known)
+
+-- a table that was read, in a definition that goes on from it
+module _ {B : Type 0} (t : ZoomTableRead) (r : Res (List Row)) (f : List Row → ℕ → Res B) where
+  pub table-ok : (n : ℕ) (x : Res B) → TableIs r t → t .end ≡ end.At n → ((a : List Row) → shownRows t ≡ rowsOf a → x ≡ f a n) → x ≡ andThen r f
+  table-ok n x b h p = beside-ok rowsOf noRows r (shownRows t) (t .end) n f x b h p
+
+  pub table-no : (e′ e : Refusal) → TableIs r t → t .end ≡ end.Refused e → e′ ≡ endRefusal (t .end) → refused e′ ≡ andThen r f
+  table-no e′ e b h p = beside-stop rowsOf noRows r (shownRows t) (t .end) e′ e f b h p

@@ -1,0 +1,146 @@
+-- Sums of rows, and a zoom table summed in two parts.
+use Prim.Native.Nat.{ℕ, zero, suc, _+_, _-_, _≤_, _<_}
+use native.Mathlib.Nat.{zero-add, suc-add, add-assoc}
+use native.Mathlib.Omega.{arith}
+use mathlib.Core.Path.{_≡_, refl, sym, ap, _∙_}
+use mathlib.Core.List.{List, [], _∷_, _++_}
+use lib.ListN.{length}
+use lib.Seq.{take-append-seam}
+use borrow.Author.Needs.{needs}
+use Rattle.parsing.specs.Parse.{Res, ok, no, Parser, andThen, mapRes, many}
+use Rattle.parsing.specs.Good.{split, ok-val, ok-at, total}
+use Rattle.parsing.proofs.Loops.{fold-more, many-count}
+use Rattle.parsing.proofs.Steps.{then-then}
+use Rattle.parsing.proofs.Views.{viewed, view-stop}
+use Rattle.error.specs.Refusals.{refused}
+use Rattle.error.specs.declared.Refusal.{Refusal}
+use Rattle.error.specs.declared.Refusal.the-variants.{ReversedInterval}
+use Rattle.arithmetic.specs.Cut.{cut}
+use Rattle.arithmetic.proofs.CutLaws.{cut-add}
+use Rattle.format.specs.Tile.{Row, row}
+use Rattle.format.specs.Rows.{rowsUpto, pointsOf, waysOf, intervalTable}
+use Rattle.blocks.specs.Blocks.{zoomRow, sumOf, zoomSums, sumsRes, sumsRefusal, rowRes, rowRefusal}
+use Rattle.blocks.specs.declared.SumsRead.{SumsRead}
+use Rattle.blocks.specs.declared.SumsRead.the-variants as sums-read
+use Rattle.blocks.specs.declared.ZoomRow.{ZoomRow}
+use Rattle.blocks.specs.declared.Sums.{Sums}
+use Rattle.blocks.specs.declared.RowRead.{RowRead}
+use Rattle.blocks.specs.declared.RowRead.the-variants as row-read
+use Rattle.blocks.proofs.BlockLaws.{row-no, table-reversed, table-is}
+
+total-append : {A : Type 0} (f : A → ℕ) (xs ys : List A) → total f (xs ++ ys) ≡ total f xs + total f ys
+total-append f [] ys = sym (zero-add (total f ys))
+total-append f (x ∷ xs) ys = rw (total-append f xs ys) (sym (add-assoc (f x) (total f xs) (total f ys)))
+
+cut-both : (a b : ℕ) → cut (cut a + cut b) ≡ cut (a + b)
+cut-both a b =
+    let e : a + cut b ≡ cut b + a = omega arith in
+    let d : b + a ≡ a + b = omega arith in
+    cut-add a (cut b) ∙ ap cut e ∙ cut-add b a ∙ ap cut d
+
+-- a row more
+added : ZoomRow → ZoomRow → ZoomRow
+added s r = record { points = cut (s .points + r .points); ways = cut (s .ways + r .ways) }
+
+sum-more : (xs : List Row) (r : Row) → sumOf (xs ++ (r ∷ [])) ≡ added (sumOf xs) (zoomRow r)
+unfolding added
+sum-more xs r =
+    let p : r .points + 0 ≡ r .points = omega arith in
+    let w : r .ways + 0 ≡ r .ways = omega arith in
+    rw (total-append (λ r. r .points) xs (r ∷ []), total-append (λ r. r .ways) xs (r ∷ []), p, w, cut-add (pointsOf xs) (r .points), cut-add (waysOf xs) (r .ways))
+
+module _ (m : List ℕ) (i at n k p w : ℕ) where
+  pub sums-more : (e p′ w′ : ℕ) (g : RowRead) (v : ZoomRow) → mapRes sumOf (many row i m at) ≡ ok (record { points = p; ways = w }) n → rowRes g ≡ mapRes zoomRow (row m n) → g ≡ row-read.Value v e → p′ ≡ cut (p + v .points) → w′ ≡ cut (w + v .ways) → mapRes sumOf (many row (i + 1) m at) ≡ ok (record { points = p′; ways = w′ }) e
+  unfolding added
+  sums-more e p′ w′ g v h q d x y =
+      rw (x, y) (fold-more row m sumOf zoomRow added sum-more i at h (sym q ∙ ap rowRes d))
+
+  pub sums-no : (g : RowRead) (e′ e : Refusal) → mapRes sumOf (many row i m at) ≡ ok (record { points = p; ways = w }) n → rowRes g ≡ mapRes zoomRow (row m n) → g ≡ row-read.Refused e → e′ ≡ rowRefusal g → i < k → refused e′ ≡ mapRes sumOf (many row k m at)
+  sums-no g e′ e h q d z b = rw (← (row-no sumOf m i at n k (record { points = p; ways = w }) g e′ e h q d z b))
+
+  pub sums-done : mapRes sumOf (many row i m at) ≡ ok (record { points = p; ways = w }) n → i ≤ k → k ≤ i → ok (record { points = p; ways = w }) n ≡ mapRes sumOf (many row k m at)
+  sums-done h b c = let e : i ≡ k = omega arith in sym (rw e at h)
+
+pub ruleset sums = (needs, sums-more, sums-no, sums-done)
+
+-- k values, then those that `then` gives from the place behind them
+module _ {A : Type 0} (then : ℕ → Res (List A)) where
+  abbrev joined : Res (List A) → Res (List A)
+  joined r = andThen r (λ xs x. mapRes (λ ys. xs ++ ys) (then x))
+
+  joined-more : (a : A) (r : Res (List A)) → andThen (joined r) (λ l y. ok (a ∷ l) y) ≡ joined (andThen r (λ l y. ok (a ∷ l) y))
+  joined-more a (ok xs x) = behind (then x)
+    where
+      behind : (r : Res (List A)) → andThen (mapRes (λ ys. xs ++ ys) r) (λ l y. ok (a ∷ l) y) ≡ mapRes (λ ys. a ∷ xs ++ ys) r
+      behind (ok l e) = refl
+      behind (no n v) = refl
+  joined-more a (no n v) = refl
+
+joined-none : {A : Type 0} (r : Res (List A)) → r ≡ mapRes (λ ys. [] ++ ys) r
+joined-none (ok l e) = refl
+joined-none (no n v) = refl
+
+many-append : {A : Type 0} (p : Parser A) (m : List ℕ) (k j at : ℕ) → many p (k + j) m at ≡ andThen (many p k m at) (λ xs x. mapRes (λ ys. xs ++ ys) (many p j m x))
+many-append p m zero j at = rw (zero-add j) (joined-none (many p j m at))
+many-append {A = A} p m (suc k) j at = rw (suc-add k j) (first (λ x. many-append p m k j x) (p m at))
+  where
+    first : ((x : ℕ) → many p (k + j) m x ≡ joined (many p j m) (many p k m x)) → (r : Res A) → andThen r (λ a x. andThen (many p (k + j) m x) (λ l y. ok (a ∷ l) y)) ≡ joined (many p j m) (andThen r (λ a x. andThen (many p k m x) (λ l y. ok (a ∷ l) y)))
+    first ih (ok a x) = rw (ih x) (joined-more (many p j m) a (many p k m x))
+    first ih (no n v) = refl
+
+-- the sums of a table from those of its parts
+of-parts : ZoomRow → ZoomRow → Sums
+of-parts v w = record {
+  points = v .points;
+  ways = v .ways;
+  «all_points» = cut (v .points + w .points);
+  «all_ways» = cut (v .ways + w .ways);
+}
+
+sums-of : (a b z : ℕ) (xs ys : List Row) → rowsUpto a b z ≡ length xs → of-parts (sumOf xs) (sumOf ys) ≡ zoomSums a b z (xs ++ ys)
+unfolding of-parts
+sums-of a b z xs ys h =
+    rw (h, take-append-seam xs ys, total-append (λ r. r .points) xs ys, total-append (λ r. r .ways) xs ys, cut-both (pointsOf xs) (pointsOf ys), cut-both (waysOf xs) (waysOf ys))
+
+-- a table of which the first k rows and then the others are summed
+module _ (m : List ℕ) (a b at k : ℕ) where
+  parts : a ≤ b → k ≤ suc (b - a) → intervalTable a b m at ≡ andThen (many row k m at) (λ xs x. mapRes (λ ys. xs ++ ys) (many row (b - a + 1 - k) m x))
+  parts h l =
+      let e : k + (b - a + 1 - k) ≡ b - a + 1 = omega arith in
+      sym (table-is m a b at h) ∙ (rw e at (many-append row m k (b - a + 1 - k) at))
+
+  module _ {B : Type 0} (f : List Row → ℕ → Res B) where
+    pub sum-reversed : b < a → refused ReversedInterval ≡ andThen (intervalTable a b m at) f
+    sum-reversed h = rw (← (table-reversed m a b at h))
+
+    pub front-no : (g : RowRead) (e′ e : Refusal) → rowRes g ≡ mapRes sumOf (many row k m at) → g ≡ row-read.Refused e → e′ ≡ rowRefusal g → a ≤ b → k ≤ suc (b - a) → refused e′ ≡ andThen (intervalTable a b m at) f
+    front-no g e′ e q d z h l =
+        rw (parts h l) (ap refused (z ∙ ap rowRefusal d) ∙ then-then (many row k m at) _ f (refused e) (view-stop sumOf (many row k m at) _ (sym q ∙ ap rowRes d)))
+
+    pub back-no : (n : ℕ) (g q : RowRead) (v : ZoomRow) (e′ e : Refusal) → rowRes g ≡ mapRes sumOf (many row k m at) → g ≡ row-read.Value v n → rowRes q ≡ mapRes sumOf (many row (b - a + 1 - k) m n) → q ≡ row-read.Refused e → e′ ≡ rowRefusal q → a ≤ b → k ≤ suc (b - a) → refused e′ ≡ andThen (intervalTable a b m at) f
+    back-no n g q v e′ e c d i j z h l =
+        rw (parts h l) (ap refused (z ∙ ap rowRefusal j) ∙ then-then (many row k m at) _ f (refused e) (viewed sumOf (many row k m at) _ (sym c ∙ ap rowRes d)
+        (λ xs _. then-then (many row (b - a + 1 - k) m n) _ f (refused e) (view-stop sumOf (many row (b - a + 1 - k) m n) _ (sym i ∙ ap rowRes j)))))
+
+  pub both-ok : (n e p w z : ℕ) (g q : RowRead) (v u : ZoomRow) → rowRes g ≡ mapRes sumOf (many row k m at) → g ≡ row-read.Value v n → rowRes q ≡ mapRes sumOf (many row (b - a + 1 - k) m n) → q ≡ row-read.Value u e → a ≤ b → k ≡ rowsUpto a b z → k ≤ suc (b - a) → p ≡ cut (v .points + u .points) → w ≡ cut (v .ways + u .ways) → _≡_ {A = Res Sums} (ok (record { points = v .points; ways = v .ways; «all_points» = p; «all_ways» = w }) e) (mapRes (zoomSums a b z) (intervalTable a b m at))
+  unfolding of-parts
+  both-ok n e p w z g q v u c d i j h o l x y =
+      let s = split (many row k m at) (λ xs r. ok (sumOf xs) r) v n (sym c ∙ ap rowRes d) in
+      let t = split (many row (b - a + 1 - k) m n) (λ ys r. ok (sumOf ys) r) u e (sym i ∙ ap rowRes j) in
+      done (s .val) (s .mid) (t .val) (t .mid) (s .first) (ok-val (s .second)) (ok-at (s .second)) (t .first) (ok-val (t .second)) (ok-at (t .second))
+    where
+      done : (xs : List Row) (r : ℕ) (ys : List Row) (r′ : ℕ) → many row k m at ≡ ok xs r → sumOf xs ≡ v → r ≡ n → many row (b - a + 1 - k) m n ≡ ok ys r′ → sumOf ys ≡ u → r′ ≡ e → ok (record { points = v .points; ways = v .ways; «all_points» = p; «all_ways» = w }) e ≡ mapRes (zoomSums a b z) (intervalTable a b m at)
+      done xs r ys r′ f1 w1 o1 f2 w2 o2 =
+          let c1 : rowsUpto a b z ≡ length xs = sym o ∙ sym (many-count row m k at xs r f1) in
+          let c2 : of-parts v u ≡ zoomSums a b z (xs ++ ys) = rw (← w1, ← w2) (sums-of a b z xs ys c1) in
+          rw (parts h l, f1, o1, f2, o2, x, y) (ap (λ (q : Sums). ok q e) c2)
+
+pub ruleset parted = (needs, sum-reversed, front-no, back-no, both-ok)
+
+-- sums that were read, in a definition that goes on from the table
+module _ {B : Type 0} (a b z : ℕ) (g : SumsRead) (r : Res (List Row)) (f : List Row → ℕ → Res B) where
+  pub sums-ok : (v : Sums) (n : ℕ) (x : Res B) → sumsRes g ≡ mapRes (zoomSums a b z) r → g ≡ sums-read.Value v n → ((l : List Row) → v ≡ zoomSums a b z l → x ≡ f l n) → x ≡ andThen r f
+  sums-ok v n x q h p = viewed (zoomSums a b z) r f (sym q ∙ ap sumsRes h) p
+
+  pub sums-stop : (e′ e : Refusal) → sumsRes g ≡ mapRes (zoomSums a b z) r → g ≡ sums-read.Refused e → e′ ≡ sumsRefusal g → refused e′ ≡ andThen r f
+  sums-stop e′ e q h p = ap refused (p ∙ ap sumsRefusal h) ∙ view-stop (zoomSums a b z) r f (sym q ∙ ap sumsRes h)

@@ -1,0 +1,12 @@
+use Rattle.blocks.proofs.BlockLaws.{refusals}
+use Rattle.blocks.proofs.row_refusal.Statement.{statement}
+use Rattle.blocks.proofs.row_refusal.Tie as tie
+
+pub row-refusal-spec : {M : Type 1} → statement M
+row-refusal-spec =
+    tie.close
+    (tie.spec
+    (search refusals)
+    (search refusals)
+    (λ c. search refusals)
+    (λ c. search refusals))

@@ -1,0 +1,12 @@
+use Rattle.blocks.proofs.BlockLaws.{refusals}
+use Rattle.blocks.proofs.sums_refusal.Statement.{statement}
+use Rattle.blocks.proofs.sums_refusal.Tie as tie
+
+pub sums-refusal-spec : {M : Type 1} → statement M
+sums-refusal-spec =
+    tie.close
+    (tie.spec
+    (search refusals)
+    (search refusals)
+    (λ c. search refusals)
+    (λ c. search refusals))

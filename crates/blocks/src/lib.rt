@@ -1,0 +1,189 @@
+// blocks.rs: the zoom table of a tile.
+use byte_source::NumberRead;
+use error::Refusal;
+use types::End;
+ghost use mathlib.Core.Path.{_≡_};
+ghost use Prim.Native.Nat.{_-_, _≤_, suc};
+ghost use Rattle.parsing.specs.Parse.{mapRes, many};
+ghost use Rattle.format.specs.Tile.{row};
+ghost use Rattle.format.specs.Rows.{rowsUpto, intervalTable};
+ghost use Rattle.blocks.specs.Blocks.{zoomRow, rowRes, rowRefusal, sumOf, noRows, shownRows, TableIs, zoomSums, sumsRes, sumsRefusal};
+
+// The points and ways of a zoom level.
+pub struct ZoomRow {
+    pub points: u64,
+    pub ways: u64,
+}
+
+// Rows from the front, zeros behind them.
+pub struct ZoomTableRead {
+    pub rows: [ZoomRow; 256],
+    pub count: usize,
+    pub end: End,
+}
+
+// Points and ways of the rows up to a zoom, and of all rows. 2^64 - 1 stands for any larger sum.
+pub struct Sums {
+    pub points: u64,
+    pub ways: u64,
+    pub all_points: u64,
+    pub all_ways: u64,
+}
+
+pub enum SumsRead {
+    Value(Sums, usize),
+    Refused(Refusal),
+}
+
+enum RowRead {
+    Value(ZoomRow, usize),
+    Refused(Refusal),
+}
+
+pub fn sums_refusal(got: SumsRead) -> Refusal
+    ensures { λ r. ⌜ r ≡ sumsRefusal got ⌝ }
+{
+    match got {
+        SumsRead::Refused(r) => r,
+        SumsRead::Value(_, _) => Refusal::Source,
+    }
+}
+
+fn row_refusal(got: RowRead) -> Refusal
+    ensures { λ r. ⌜ r ≡ rowRefusal got ⌝ }
+{
+    match got {
+        RowRead::Refused(r) => r,
+        RowRead::Value(_, _) => Refusal::Source,
+    }
+}
+
+fn read_row(map: &[u8], at: usize) -> RowRead
+    ensures { λ r. ⌜ rowRes r ≡ mapRes zoomRow (row (now (map .entry)) at) ⌝ }
+{
+    let got = utils::read_vbe_u_int(map, at);
+    let NumberRead::Value(points, at) = got else {
+        return RowRead::Refused(byte_source::number_refusal(got));
+    };
+    let got = utils::read_vbe_u_int(map, at);
+    let NumberRead::Value(ways, at) = got else {
+        return RowRead::Refused(byte_source::number_refusal(got));
+    };
+    RowRead::Value(ZoomRow { points, ways }, at)
+}
+
+fn refused_table(refusal: Refusal) -> ZoomTableRead
+    ensures { λ r. ⌜ (shownRows r ≡ noRows) × (r .end ≡ End.Refused refusal) ⌝ }
+{
+    let empty = ZoomRow { points: 0, ways: 0 };
+    ZoomTableRead {
+        rows: [empty; 256],
+        count: 0,
+        end: End::Refused(refusal),
+    }
+}
+
+// `count` rows.
+fn fill_rows(map: &[u8], at: usize, count: usize) -> ZoomTableRead
+    requires { ⌜ count ≤ 256 ⌝ }
+    ensures { λ r. ⌜ TableIs (many row count (now (map .entry)) at) r ⌝ }
+{
+    let empty = ZoomRow { points: 0, ways: 0 };
+    let mut rows = [empty; 256];
+    let mut next = at;
+    let mut i = 0;
+    while i < count {
+        let got = read_row(map, next);
+        let RowRead::Value(one, after) = got else {
+            return refused_table(row_refusal(got));
+        };
+        rows[i] = one;
+        next = after;
+        i += 1;
+    }
+    ZoomTableRead {
+        rows,
+        count,
+        end: End::At(next),
+    }
+}
+
+// A row for each level of an interval.
+pub fn read_zoom_table(map: &[u8], at: usize, min: u8, max: u8) -> ZoomTableRead
+    ensures { λ r. ⌜ TableIs (intervalTable min max (now (map .entry)) at) r ⌝ }
+{
+    if max < min {
+        return refused_table(Refusal::ReversedInterval);
+    }
+    fill_rows(map, at, (max - min) as usize + 1)
+}
+
+// The sums of `count` rows.
+fn sum_rows(map: &[u8], at: usize, count: usize) -> RowRead
+    ensures { λ r. ⌜ rowRes r ≡ mapRes sumOf (many row count (now (map .entry)) at) ⌝ }
+{
+    let mut points = 0;
+    let mut ways = 0;
+    let mut next = at;
+    let mut i = 0;
+    while i < count {
+        let got = read_row(map, next);
+        let RowRead::Value(one, after) = got else {
+            return RowRead::Refused(row_refusal(got));
+        };
+        points = arithmetic::saturating_add_usize(points, one.points as usize);
+        ways = arithmetic::saturating_add_usize(ways, one.ways as usize);
+        next = after;
+        i += 1;
+    }
+    RowRead::Value(
+        ZoomRow {
+            points: points as u64,
+            ways: ways as u64,
+        },
+        next,
+    )
+}
+
+// How many rows count at a zoom, which is clamped into the interval.
+fn rows_upto(min: u8, max: u8, zoom: u8) -> usize
+    requires { ⌜ min ≤ max ⌝ }
+    ensures { λ r. ⌜ (r ≡ rowsUpto min max zoom) × (r ≤ suc (max - min)) ⌝ }
+{
+    if zoom < min {
+        return 1;
+    }
+    if max < zoom {
+        return (max - min) as usize + 1;
+    }
+    (zoom - min) as usize + 1
+}
+
+// The sums of a zoom table, and the place behind it.
+pub fn sum_zoom_table(map: &[u8], at: usize, min: u8, max: u8, zoom: u8) -> SumsRead
+    ensures { λ r. ⌜ sumsRes r ≡ mapRes (zoomSums min max zoom) (intervalTable min max (now (map .entry)) at) ⌝ }
+{
+    if max < min {
+        return SumsRead::Refused(Refusal::ReversedInterval);
+    }
+    let upto = rows_upto(min, max, zoom);
+    let got = sum_rows(map, at, upto);
+    let RowRead::Value(first, at) = got else {
+        return SumsRead::Refused(row_refusal(got));
+    };
+    let got = sum_rows(map, at, (max - min) as usize + 1 - upto);
+    let RowRead::Value(rest, at) = got else {
+        return SumsRead::Refused(row_refusal(got));
+    };
+    let points = arithmetic::saturating_add_usize(first.points as usize, rest.points as usize);
+    let ways = arithmetic::saturating_add_usize(first.ways as usize, rest.ways as usize);
+    SumsRead::Value(
+        Sums {
+            points: first.points,
+            ways: first.ways,
+            all_points: points as u64,
+            all_ways: ways as u64,
+        },
+        at,
+    )
+}

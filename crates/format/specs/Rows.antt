@@ -1,0 +1,28 @@
+-- The rows of a zoom table: format document, "Tile header" ("zoom table"); document 01, blocks.rs, refusal 13, and "The stream and the
+-- collected tile" ("Zoom is clamped into the interval; rows up to it count").
+use Prim.Native.Nat.{ℕ, suc, _-_, max, min}
+use mathlib.Core.List.{List, []}
+use lib.Dec.{leb}
+use Rattle.parsing.specs.Parse.{Parser, fail, pick}
+use Rattle.parsing.specs.Good.{Good, goods, total}
+use Rattle.format.specs.Tile.{Row, zoomTable, zoomTable-good}
+
+-- a row for each level from low to high
+unfoldable pub intervalTable : ℕ → ℕ → Parser (List Row)
+intervalTable low high = pick (leb low high) (zoomTable (suc (high - low))) (fail 13 [])
+
+-- how many rows count at a zoom
+abbrev pub rowsUpto : ℕ → ℕ → ℕ → ℕ
+rowsUpto low high zoom = suc (max low (min zoom high) - low)
+
+-- the points and the ways of these rows
+abbrev pub pointsOf : List Row → ℕ
+pointsOf rows = total (λ r. r .points) rows
+
+abbrev pub waysOf : List Row → ℕ
+waysOf rows = total (λ r. r .ways) rows
+
+-- the laws
+pub intervalTable-good : (low high : ℕ) → Good (intervalTable low high)
+unfolding intervalTable
+intervalTable-good low high = search (goods, zoomTable-good)
