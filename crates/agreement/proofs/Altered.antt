@@ -9,7 +9,8 @@ use lib.ListN.{length, getD}
 use Rattle.parsing.specs.Parse.{ok, many, Maybe, none, some}
 use Rattle.parsing.specs.Good.{Agree, narrow, many-good, split, ok-at}
 use Rattle.arithmetic.specs.Cut.{cut}
-use Rattle.agreement.specs.Calls.{LentLists, Call, next, accept, decline, Step, run, fits}
+use Rattle.format.specs.Lent.{LentLists, fits}
+use Rattle.agreement.specs.Calls.{Call, next, accept, decline, Step, run}
 use Rattle.agreement.specs.Format.{Format, Laws, dataEnd}
 use Rattle.agreement.specs.Stream.{StreamAnswer, State, idle, waits, stream}
 use Rattle.agreement.specs.Collected.{Way}

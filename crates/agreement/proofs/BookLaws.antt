@@ -7,10 +7,10 @@ use native.Mathlib.Nat.{zero-sub, le-of-suc-le-suc, not-suc-le-zero}
 use native.Mathlib.Omega.{arith}
 use borrow.Author.Tests.{lt-ltb, le-ltb}
 use lib.ListN.{length-take, drop-of-length-le, length, take, drop}
-use Rattle.parsing.specs.Parse.{some}
+use Rattle.parsing.specs.Parse.{some, nth}
 use Rattle.agreement.specs.Calls.{Call, next, accept, decline, run}
 use Rattle.agreement.specs.Format.{Format}
-use Rattle.agreement.specs.Collected.{Way, StoredTile, storedCollection, storedTile, aPoint, aWay, nth, fetch}
+use Rattle.agreement.specs.Collected.{Way, StoredTile, storedCollection, storedTile, aPoint, aWay, fetch}
 use Rattle.agreement.specs.Book.{BookState, bookState, bookStart, bookCall}
 use Rattle.agreement.proofs.Remaining.{Alike, simulate, accept-alike, Remaining, between, waiting, remaining}
 

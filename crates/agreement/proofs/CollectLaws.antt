@@ -8,14 +8,16 @@ use native.Mathlib.Omega.{arith}
 use borrow.Author.Tests.{lt-ltb, le-ltb}
 use lib.Dec.{eqb}
 use lib.ListN.{length, length-append}
-use Rattle.parsing.specs.Parse.{Res, ok, no, Parser, andThen, mapRes, bind, return, many, some, none}
+use Rattle.parsing.specs.Parse.{Res, ok, no, Parser, andThen, mapRes, bind, return, many, some, none, nth}
 use Rattle.parsing.specs.Good.{bind-good, return-good, many-good, strict-left, split, ok-val, ok-at, no-ok, total}
 use Rattle.parsing.proofs.Loops.{fold-more, fold-no}
+use Rattle.parsing.proofs.Lists.{nth-past}
 use Rattle.arithmetic.specs.Cut.{cut}
 use Rattle.arithmetic.proofs.CutLaws.{cut-fits}
-use Rattle.agreement.specs.Format.{Format, Laws, pointCount, wayCount}
+use Rattle.format.specs.Rows.{pointsOf, waysOf}
+use Rattle.agreement.specs.Format.{Format, Laws}
 use Rattle.agreement.specs.Stream.{openStream}
-use Rattle.agreement.specs.Collected.{Way, way, exact, allExact, StoredTile, collect, cutPlace, storedTile, aPoint, aWay, missing, nth, fetch}
+use Rattle.agreement.specs.Collected.{Way, way, exact, allExact, StoredTile, collect, cutPlace, storedTile, aPoint, aWay, missing, fetch}
 use Rattle.agreement.proofs.Chain.{Chain, stop, link}
 use Rattle.agreement.proofs.TileAgrees.{way-good, way-strict, collected}
 use Rattle.parsing.proofs.Ends.{PastEnd, bind-end, many-end}
@@ -167,34 +169,34 @@ module _ (F : Format) (L : Laws F) (S : PastEnd (F .head)) (m : List ℕ) (small
       ∙ ap (λ r. andThen r (λ ws y. ok (f ws) y)) (sym (at-cut (many-end (suc n) (omega arith) (way-end F S)) m v small))
 
   cut-points : (h : F .TileHead) (e : ℕ) → 0 < e → (r : Res (List (F .Point)))
-      → cutPlace (andThen r (λ ps _. andThen (many (way F) (wayCount (F .table h)) m (e + F .offset h)) (λ ws y. ok (tileOf {F = F} h e ps ws) y)))
-      ≡ andThen r (λ ps _. andThen (many (way F) (cut (wayCount (F .table h))) m (cut (e + F .offset h))) (λ ws y. ok (tileOf {F = F} h e ps ws) y))
+      → cutPlace (andThen r (λ ps _. andThen (many (way F) (waysOf (F .table h)) m (e + F .offset h)) (λ ws y. ok (tileOf {F = F} h e ps ws) y)))
+      ≡ andThen r (λ ps _. andThen (many (way F) (cut (waysOf (F .table h))) m (cut (e + F .offset h))) (λ ws y. ok (tileOf {F = F} h e ps ws) y))
   cut-points h e b (ok ps x) =
-      cut-ways (wayCount (F .table h)) (e + F .offset h) (tileOf h e ps)
+      cut-ways (waysOf (F .table h)) (e + F .offset h) (tileOf h e ps)
       ∙ ap (λ r. andThen r (λ ws y. ok (tileOf {F = F} h e ps ws) y))
-      (sym (many-cut (way-good F L) (way-strict F L) m (wayCount (F .table h)) (cut (e + F .offset h)) small (below-cut (e + F .offset h) 1 (omega arith) (omega arith))))
+      (sym (many-cut (way-good F L) (way-strict F L) m (waysOf (F .table h)) (cut (e + F .offset h)) small (below-cut (e + F .offset h) 1 (omega arith) (omega arith))))
   cut-points h e b (no k l) = refl
 
   -- collecting with every sum cut at 2 ^ 64 - 1: the head, the points, then the ways
   pub collect-cut : (i : ℕ) → cutPlace (collect F m i) ≡ andThen (F .tileHead m i) (λ h e.
-      andThen (many (F .point) (cut (pointCount (F .table h))) m e) (λ ps _.
-      andThen (many (way F) (cut (wayCount (F .table h))) m (cut (e + F .offset h))) (λ ws y.
+      andThen (many (F .point) (cut (pointsOf (F .table h))) m e) (λ ps _.
+      andThen (many (way F) (cut (waysOf (F .table h))) m (cut (e + F .offset h))) (λ ws y.
       ok (tileOf {F = F} h e ps ws) y)))
   collect-cut i = go (F .tileHead m i) refl
     where
       go : (r : Res (F .TileHead)) → F .tileHead m i ≡ r
           → cutPlace (andThen r (λ h e.
-          andThen (many (F .point) (pointCount (F .table h)) m e) (λ ps _.
-          andThen (many (way F) (wayCount (F .table h)) m (e + F .offset h)) (λ ws y.
+          andThen (many (F .point) (pointsOf (F .table h)) m e) (λ ps _.
+          andThen (many (way F) (waysOf (F .table h)) m (e + F .offset h)) (λ ws y.
           ok (tileOf {F = F} h e ps ws) y))))
           ≡ andThen r (λ h e.
-          andThen (many (F .point) (cut (pointCount (F .table h))) m e) (λ ps _.
-          andThen (many (way F) (cut (wayCount (F .table h))) m (cut (e + F .offset h))) (λ ws y.
+          andThen (many (F .point) (cut (pointsOf (F .table h))) m e) (λ ps _.
+          andThen (many (way F) (cut (waysOf (F .table h))) m (cut (e + F .offset h))) (λ ws y.
           ok (tileOf {F = F} h e ps ws) y)))
       go (ok h e) q =
           let u = L .tileHead-strict .more m i h e q in
-          rw (many-cut (L .point-good) (L .point-strict) m (pointCount (F .table h)) e small (omega arith))
-          (cut-points h e (omega arith) (many (F .point) (pointCount (F .table h)) m e))
+          rw (many-cut (L .point-good) (L .point-strict) m (pointsOf (F .table h)) e small (omega arith))
+          (cut-points h e (omega arith) (many (F .point) (pointsOf (F .table h)) m e))
       go (no k l) q = refl
 
 -- value k of a run, found by reading k values and then one more
@@ -206,26 +208,21 @@ module _ {A : Type 0} (p : Parser A) (m : List ℕ) where
       let t = split (many p k m y) (λ l u. ok (v ∷ l) u) qs x (rw g at h) in
       nth-at k y x c (le-of-suc-le-suc b) (t .first ∙ ap (ok (t .val)) (ok-at (t .second))) q
 
-nth-past : {A : Type 0} (l : List A) (k : ℕ) → length l ≤ k → nth l k ≡ none
-nth-past [] k b = refl
-nth-past (a ∷ l) zero b = absurd (not-suc-le-zero b)
-nth-past (a ∷ l) (suc k) b = nth-past l k (le-of-suc-le-suc b)
-
 -- a fetch that walks to its feature
 module _ (F : Format) (m : List ℕ) (i : ℕ) (t : StoredTile F) (e : ℕ) (c : collect F m i ≡ ok t e) (z : F .End) where
-  pub fetch-point : (k x : ℕ) {qs : List (F .Point)} {p : F .Point} {y : ℕ} → k < pointCount (F .table (t .head))
+  pub fetch-point : (k x : ℕ) {qs : List (F .Point)} {p : F .Point} {y : ℕ} → k < pointsOf (F .table (t .head))
       → many (F .point) k m (t .start) ≡ ok qs x → F .point m x ≡ ok p y → fetch (storedTile t z) k ≡ aPoint p
   fetch-point k x b h q =
       let C = collected F m i t e c in
       let l : k < length (t .points) = omega (arith, C .points .count) in
       rw (lt-ltb k (length (t .points)) l, nth-at (F .point) m k (t .start) x (C .points .chain) l h q)
 
-  pub fetch-way : (j x : ℕ) {qs : List (Way F)} {w : Way F} {y : ℕ} → j < wayCount (F .table (t .head))
+  pub fetch-way : (j x : ℕ) {qs : List (Way F)} {w : Way F} {y : ℕ} → j < waysOf (F .table (t .head))
       → many (way F) j m (t .start + F .offset (t .head)) ≡ ok qs x → way F m x ≡ ok w y
-      → fetch (storedTile t z) (pointCount (F .table (t .head)) + j) ≡ aWay w
+      → fetch (storedTile t z) (pointsOf (F .table (t .head)) + j) ≡ aWay w
   fetch-way j x b h q =
       let C = collected F m i t e c in
-      let n : length (t .points) ≡ pointCount (F .table (t .head)) = C .points .count in
+      let n : length (t .points) ≡ pointsOf (F .table (t .head)) = C .points .count in
       let d : length (t .points) + j - length (t .points) ≡ j = omega arith in
       rw (
         ← n,
@@ -234,7 +231,7 @@ module _ (F : Format) (m : List ℕ) (i : ℕ) (t : StoredTile F) (e : ℕ) (c :
         nth-at (way F) m j (t .start + F .offset (t .head)) x (C .ways .chain) (omega (arith, C .ways .count)) h q,
       )
 
-  pub fetch-missing : (k : ℕ) → pointCount (F .table (t .head)) + wayCount (F .table (t .head)) ≤ k → fetch (storedTile t z) k ≡ missing
+  pub fetch-missing : (k : ℕ) → pointsOf (F .table (t .head)) + waysOf (F .table (t .head)) ≤ k → fetch (storedTile t z) k ≡ missing
   fetch-missing k b =
       let C = collected F m i t e c in
       let n = C .points .count in

@@ -8,7 +8,8 @@ use native.Mathlib.Omega.{arith}
 use lib.ListN.{getD}
 use Rattle.parsing.specs.Parse.{Parser, _>>=_, return, here, byte}
 use Rattle.parsing.specs.Good.{goods, stricts, bind-post, ok-val, ok-at}
-use Rattle.agreement.specs.Calls.{Call, next, decline, gotPoint, gotHead, gotBody, declined, ended, refused, Reply, noLists}
+use Rattle.format.specs.Lent.{Reply}
+use Rattle.agreement.specs.Calls.{Call, next, decline, gotPoint, gotHead, gotBody, declined, ended, refused, noLists}
 use Rattle.agreement.specs.Format.{Format, Laws}
 use Rattle.agreement.specs.Stream.{StreamAnswer}
 use Rattle.agreement.specs.Collected.{StoredTile}

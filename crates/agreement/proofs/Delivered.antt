@@ -4,7 +4,8 @@ use mathlib.Core.List.{List, [], _∷_}
 use Prim.Native.Nat.{ℕ, zero, suc, _+_, _≤_}
 use native.Mathlib.Omega.{arith}
 use Rattle.parsing.specs.Parse.{Res, ok, no}
-use Rattle.agreement.specs.Calls.{LentLists, Call, next, accept, decline, gotBody, refused, Step, run, lending, fits, written, needed, accepted}
+use Rattle.format.specs.Lent.{LentLists, fits, written, needed}
+use Rattle.agreement.specs.Calls.{Call, next, accept, decline, gotBody, refused, Step, run, lending, accepted}
 use Rattle.agreement.specs.Format.{Format}
 use Rattle.agreement.specs.Stream.{StreamAnswer, State, idle, waits, onPoint, onHead, onBody, stream}
 use Rattle.agreement.specs.Declined.{isPoint, pointsDelivered}

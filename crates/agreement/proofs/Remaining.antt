@@ -7,7 +7,8 @@ use Prim.Native.Nat.{ℕ}
 use lib.ListN.{length}
 use Rattle.parsing.specs.Parse.{ok}
 use Rattle.arithmetic.specs.Cut.{cut}
-use Rattle.agreement.specs.Calls.{LentLists, Call, next, accept, decline, Answer, gotPoint, gotHead, gotBody, declined, ended, refused, Step, run, plain, lending, fits, written, needed, accepted}
+use Rattle.format.specs.Lent.{LentLists, fits, written, needed}
+use Rattle.agreement.specs.Calls.{Call, next, accept, decline, Answer, gotPoint, gotHead, gotBody, declined, ended, refused, Step, run, plain, lending, accepted}
 use Rattle.agreement.specs.Format.{Format, dataEnd}
 use Rattle.agreement.specs.Stream.{StreamAnswer, State, idle, waits, stream}
 use Rattle.agreement.specs.Collected.{Way}

@@ -13,7 +13,8 @@ use Rattle.parsing.specs.Good.{Good, Strict, goods, stricts, split, ok-val, ok-
 use Rattle.arithmetic.specs.Cut.{cut}
 use Rattle.arithmetic.proofs.CutLaws.{cut-fits}
 use Rattle.agreement.specs.Calls.{Call, run}
-use Rattle.agreement.specs.Format.{Format, Laws, dataEnd, pointCount, wayCount, pointsUpTo, waysUpTo}
+use Rattle.format.specs.Rows.{pointsOf, waysOf}
+use Rattle.agreement.specs.Format.{Format, Laws, dataEnd, pointsUpTo, waysUpTo}
 use Rattle.agreement.specs.Stream.{idle, stream}
 use Rattle.agreement.specs.Collected.{Way, way, exact, allExact, StoredTile, collect}
 use Rattle.agreement.specs.Demand3.{Collects, Agrees, storedReplies, freshOf}
@@ -92,13 +93,13 @@ same-by F m z c x p q = rw (← p, ← q) (same-between _ _ _ _ _ c x)
 pub record Collected (F : Format) (m : List ℕ) (i : ℕ) (t : StoredTile F) : Type 0 where
   pub head : F .tileHead m i ≡ ok (t .head) (t .start)
   pub last : ℕ
-  pub points : Many (F .point) m (pointCount (F .table (t .head))) (t .start) (t .points) last
+  pub points : Many (F .point) m (pointsOf (F .table (t .head))) (t .start) (t .points) last
   pub past : ℕ
-  pub ways : Many (way F) m (wayCount (F .table (t .head))) (t .start + F .offset (t .head)) (t .ways) past
+  pub ways : Many (way F) m (waysOf (F .table (t .head))) (t .start + F .offset (t .head)) (t .ways) past
 
 module _ (F : Format) (m : List ℕ) (i : ℕ) (t : StoredTile F) (z : ℕ) where
   collected-of : (h : F .TileHead) (e : ℕ) (ps : List (F .Point)) (x : ℕ) (ws : List (Way F)) (y : ℕ) → F .tileHead m i ≡ ok h e
-      → many (F .point) (pointCount (F .table h)) m e ≡ ok ps x → many (way F) (wayCount (F .table h)) m (e + F .offset h) ≡ ok ws y
+      → many (F .point) (pointsOf (F .table h)) m e ≡ ok ps x → many (way F) (waysOf (F .table h)) m (e + F .offset h) ≡ ok ws y
       → ok (record { head = h; start = e; points = ps; ways = ws }) y ≡ ok t z → Collected F m i t
   collected-of h e ps x ws y p q r d =
       rw (← (ok-val d)) record {
@@ -112,13 +113,13 @@ module _ (F : Format) (m : List ℕ) (i : ℕ) (t : StoredTile F) (z : ℕ) wher
   pub collected : collect F m i ≡ ok t z → Collected F m i t
   collected c =
       let a = split (F .tileHead m i) (λ g x.
-      andThen (many (F .point) (pointCount (F .table g)) m x) (λ ps _.
-      andThen (many (way F) (wayCount (F .table g)) m (x + F .offset g)) (λ ws y.
+      andThen (many (F .point) (pointsOf (F .table g)) m x) (λ ps _.
+      andThen (many (way F) (waysOf (F .table g)) m (x + F .offset g)) (λ ws y.
       ok (record { head = g; start = x; points = ps; ways = ws }) y))) t z c in
-      let b = split (many (F .point) (pointCount (F .table (a .val))) m (a .mid)) (λ ps _.
-      andThen (many (way F) (wayCount (F .table (a .val))) m (a .mid + F .offset (a .val))) (λ ws y.
+      let b = split (many (F .point) (pointsOf (F .table (a .val))) m (a .mid)) (λ ps _.
+      andThen (many (way F) (waysOf (F .table (a .val))) m (a .mid + F .offset (a .val))) (λ ws y.
       ok (record { head = a .val; start = a .mid; points = ps; ways = ws }) y)) t z (a .second) in
-      let d = split (many (way F) (wayCount (F .table (a .val))) m (a .mid + F .offset (a .val))) (λ ws y.
+      let d = split (many (way F) (waysOf (F .table (a .val))) m (a .mid + F .offset (a .val))) (λ ws y.
       ok (record { head = a .val; start = a .mid; points = b .val; ways = ws }) y) t z (b .second) in
       collected-of (a .val) (a .mid) (b .val) (b .mid) (d .val) (d .mid) (a .first) (b .first) (d .first) (d .second)
 

@@ -5,10 +5,12 @@ use mathlib.Core.List.{List, [], _∷_, map}
 use Prim.Native.Nat.{ℕ, zero, suc, _+_, _-_}
 use lib.Dec.{ltb}
 use lib.ListN.{length}
-use Rattle.agreement.specs.Calls.{LentLists, Call, next, accept, decline, gotBody, ended, refused, Step, run, plain, lending, fits, written, needed, accepted}
+use Rattle.format.specs.Lent.{LentLists, fits, written, needed}
+use Rattle.agreement.specs.Calls.{Call, next, accept, decline, gotBody, ended, refused, Step, run, plain, lending, accepted}
 use Rattle.agreement.specs.Format.{Format, pointsUpTo, waysUpTo}
 use Rattle.agreement.specs.Stream.{StreamAnswer}
-use Rattle.agreement.specs.Collected.{Way, StoredTile, storedCollection, storedTile, Feature, aPoint, aWay, missing, nth, pointOr, wayOr, fetch}
+use Rattle.parsing.specs.Parse.{nth}
+use Rattle.agreement.specs.Collected.{Way, StoredTile, storedCollection, storedTile, Feature, aPoint, aWay, missing, pointOr, wayOr, fetch}
 use Rattle.agreement.specs.Book.{BookAnswer, BookState, bookState, bookPoint, bookHead, bookBody, bookWay, bookNext, bookCall, book}
 use Rattle.agreement.specs.View.{View, ViewLaws, collectedTile, streamedReply, streamedReplies}
 

@@ -5,7 +5,8 @@ use mathlib.Core.List.{List, []}
 use Prim.Native.Nat.{ℕ, suc, _+_, _-_}
 use lib.Dec.{ltb}
 use lib.ListN.{length}
-use Rattle.agreement.specs.Calls.{LentLists, Call, next, accept, decline, Answer, gotPoint, gotHead, declined, ended, refused, Reply, Step, run, plain, lending, accepted}
+use Rattle.format.specs.Lent.{LentLists, Reply}
+use Rattle.agreement.specs.Calls.{Call, next, accept, decline, Answer, gotPoint, gotHead, declined, ended, refused, Step, run, plain, lending, accepted}
 use Rattle.agreement.specs.Format.{pointsUpTo, waysUpTo}
 use Rattle.agreement.specs.Collected.{Collection, CollectedTile, Feature, aPoint, aWay, missing, fetch}
 

@@ -1,19 +1,9 @@
 -- The calls of a stream, their answers, and the lent lists after each: document 01, "The stream and the collected tile". The stream
 -- (Stream.antt) and the book of demand 3 (Book.antt) are two machines that answer such calls.
-use mathlib.Core.Bool.{Bool, _&&_, cond}
+use mathlib.Core.Bool.{cond}
 use mathlib.Core.List.{List, [], _∷_}
 use Prim.Native.Nat.{ℕ}
-use lib.Dec.{leb}
-use lib.Ieee.{Float}
-use lib.ListN.{length}
-use Rattle.error.specs.Refusals.{lengths}
-use Rattle.format.specs.Lent.{front}
-
--- the lists that accept is lent: node counts, latitudes and longitudes
-pub record LentLists : Type 0 where
-  pub counts : List ℕ
-  pub latitudes : List Float
-  pub longitudes : List Float
+use Rattle.format.specs.Lent.{LentLists, Reply, fits, written, needed}
 
 pub data Call : Type 0 where
   next : Call
@@ -30,10 +20,14 @@ pub data Answer (Point Head Body End : Type 0) : Type 0 where
   ended : End → Answer Point Head Body End
   refused : ℕ → List ℕ → Answer Point Head Body End
 
--- an answer, and the lent lists after the call
-pub record Reply (A : Type 0) : Type 0 where
-  pub answer : A
-  pub lists : LentLists
+-- an answer whose parts are shown another way
+abbrev pub mapAnswer : {P H B E P′ H′ B′ E′ : Type 0} → (P → P′) → (H → H′) → (B → B′) → (E → E′) → Answer P H B E → Answer P′ H′ B′ E′
+mapAnswer p h b e (gotPoint x) = gotPoint (p x)
+mapAnswer p h b e (gotHead x) = gotHead (h x)
+mapAnswer p h b e (gotBody x) = gotBody (b x)
+mapAnswer p h b e declined = declined
+mapAnswer p h b e (ended x) = ended (e x)
+mapAnswer p h b e (refused n v) = refused n v
 
 -- a reply, and the state that the call leaves
 pub record Step (A S : Type 0) : Type 0 where
@@ -56,24 +50,6 @@ plain a s = record { reply = record { answer = a; lists = noLists }; left = s }
 -- accept, with the lists after it
 abbrev pub lending : {A S : Type 0} → A → LentLists → S → Step A S
 lending a l s = record { reply = record { answer = a; lists = l }; left = s }
-
--- no lent list is shorter than what is to go to it
-abbrev pub fits : (values lent : LentLists) → Bool
-fits v l =
-    leb (length (v .counts)) (length (l .counts)) && leb (length (v .latitudes)) (length (l .latitudes))
-    && leb (length (v .longitudes)) (length (l .longitudes))
-
--- the values go to the front of the lent lists; entries behind them keep their values
-abbrev pub written : (values lent : LentLists) → LentLists
-written v l = record {
-  counts = front (v .counts) (l .counts);
-  latitudes = front (v .latitudes) (l .latitudes);
-  longitudes = front (v .longitudes) (l .longitudes);
-}
-
--- the lengths that refusal 15 gives: the counts of blocks, nodes and nodes; accept is lent no further list and no buffer
-abbrev pub needed : LentLists → List ℕ
-needed v = lengths (length (v .counts)) (length (v .latitudes)) (length (v .longitudes)) 0 0 0
 
 -- accept of a way that was decoded whole: its body, and its lists written; or 15 if a lent list is shorter, which changes nothing
 abbrev pub accepted : {P H B E S : Type 0} → B → (values lent : LentLists) → (stay go : S) → Step (Answer P H B E) S

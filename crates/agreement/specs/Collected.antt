@@ -5,11 +5,12 @@ use mathlib.Core.List.{List, [], _∷_}
 use Prim.Native.Nat.{ℕ, zero, suc, _+_, _-_}
 use lib.Dec.{ltb, eqb}
 use lib.ListN.{length}
-use Rattle.parsing.specs.Parse.{Res, ok, no, Parser, _>>=_, return, many, here, seek, Maybe, none, some}
+use Rattle.parsing.specs.Parse.{Res, ok, no, Parser, _>>=_, return, many, here, seek, Maybe, none, some, nth}
 use Rattle.arithmetic.specs.Cut.{cut}
 use Rattle.format.specs.Tile.{Row}
-use Rattle.agreement.specs.Calls.{LentLists}
-use Rattle.agreement.specs.Format.{Format, pointCount, wayCount}
+use Rattle.format.specs.Lent.{LentLists}
+use Rattle.format.specs.Rows.{pointsOf, waysOf}
+use Rattle.agreement.specs.Format.{Format}
 
 -- a way that was read whole, and the place behind it
 pub record Way (F : Format) : Type 0 where
@@ -49,8 +50,8 @@ abbrev pub collect : (F : Format) → Parser (StoredTile F)
 collect F = do
   h ← F .tileHead
   e ← here
-  ps ← many (F .point) (pointCount (F .table h))
-  ws ← seek (e + F .offset h) (many (way F) (wayCount (F .table h)))
+  ps ← many (F .point) (pointsOf (F .table h))
+  ws ← seek (e + F .offset h) (many (way F) (waysOf (F .table h)))
   return (record { head = h; start = e; points = ps; ways = ws })
 
 -- a result as code holds it, its place cut at 2 ^ 64 - 1: where no way is read, the first-way offset may lead past that
@@ -102,12 +103,6 @@ pub data Feature (K : Collection) : Type 0 where
   aPoint : K .Point → Feature K
   aWay : K .Way → Feature K
   missing : Feature K
-
--- entry k of a list, counted from 0
-abbrev pub nth : {A : Type 0} → List A → ℕ → Maybe A
-nth [] k = none
-nth (a ∷ l) zero = some a
-nth (a ∷ l) (suc k) = nth l k
 
 abbrev pub pointOr : {K : Collection} → Maybe (K .Point) → Feature K
 pointOr none = missing

@@ -8,7 +8,8 @@ use Prim.Native.Nat.{ℕ, _≤_, _<_}
 use lib.ListN.{length, getD}
 use Rattle.parsing.specs.Parse.{Parser, endOf, Maybe, none, some}
 use Rattle.parsing.specs.Good.{total}
-use Rattle.agreement.specs.Calls.{Call, next, accept, decline, Answer, gotPoint, gotHead, gotBody, declined, ended, refused, Reply}
+use Rattle.format.specs.Lent.{Reply}
+use Rattle.agreement.specs.Calls.{Call, next, accept, decline, Answer, gotPoint, gotHead, gotBody, declined, ended, refused}
 use Rattle.agreement.specs.Format.{Format, dataEnd}
 use Rattle.agreement.specs.Stream.{StreamAnswer}
 

@@ -5,7 +5,8 @@ use mathlib.Core.List.{List, [], _∷_}
 use Prim.Native.Nat.{ℕ, _+_, _^_, _≤_, _<_}
 use lib.ListN.{length}
 use Rattle.parsing.specs.Parse.{ok, many}
-use Rattle.agreement.specs.Calls.{Call, Reply, run}
+use Rattle.format.specs.Lent.{Reply}
+use Rattle.agreement.specs.Calls.{Call, run}
 use Rattle.agreement.specs.Format.{Format, pointsUpTo}
 use Rattle.agreement.specs.Stream.{StreamAnswer, State, stream, freshStream, openStream}
 use Rattle.agreement.specs.Collected.{StoredTile, allExact, collect, storedCollection, storedTile}

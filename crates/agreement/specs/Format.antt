@@ -8,7 +8,7 @@ use Rattle.parsing.specs.Parse.{Parser}
 use Rattle.parsing.specs.Good.{Good, Strict, Post, total}
 use Rattle.format.specs.Tile.{Row}
 use Rattle.format.specs.Rows.{pointsOf, waysOf}
-use Rattle.agreement.specs.Calls.{LentLists}
+use Rattle.format.specs.Lent.{LentLists}
 
 pub record Format : Type 1 where
   pub TileHead : Type 0
@@ -36,19 +36,12 @@ pub record Format : Type 1 where
 abbrev pub dataEnd : (F : Format) → F .Head → ℕ
 dataEnd F h = F .start h + F .size h
 
--- how many points and ways rows of a zoom table count
-abbrev pub pointCount : List Row → ℕ
-pointCount rows = pointsOf rows
-
-abbrev pub wayCount : List Row → ℕ
-wayCount rows = waysOf rows
-
--- of the first rows
+-- how many points and ways the first rows of a zoom table count
 abbrev pub pointsUpTo : List Row → (rows : ℕ) → ℕ
-pointsUpTo table rows = pointCount (take rows table)
+pointsUpTo table rows = pointsOf (take rows table)
 
 abbrev pub waysUpTo : List Row → (rows : ℕ) → ℕ
-waysUpTo table rows = wayCount (take rows table)
+waysUpTo table rows = waysOf (take rows table)
 
 -- what every format has to meet: a read depends only on the bytes that it passes, heads and points have at least one byte, and a
 -- way's head knows where it ends

@@ -4,8 +4,9 @@ use mathlib.Core.List.{List, [], _∷_, map}
 use Prim.Native.Nat.{ℕ}
 use Rattle.parsing.specs.Parse.{Res, ok, Parser, andThen}
 use Rattle.parsing.specs.Good.{Good}
+use Rattle.format.specs.Rows.{rowsUpto}
 use Rattle.agreement.specs.Format.{Format, Laws}
-use Rattle.agreement.specs.Stream.{State, rowsUpTo, openStream}
+use Rattle.agreement.specs.Stream.{State, openStream}
 use Rattle.agreement.specs.Collected.{StoredTile, collect, Feature, fetch, fetched}
 use Rattle.agreement.specs.View.{View, ViewLaws, collectedTile}
 use Rattle.agreement.specs.Declined.{Bytes, bytesOf}
@@ -53,7 +54,7 @@ openedBytes C m h =
 
 -- the rows that count at a zoom
 abbrev pub rowsAt : (C : MapLayout) → C .Header → (zoom : ℕ) → ℕ
-rowsAt C h zoom = rowsUpTo (C .low h) (C .high h) zoom
+rowsAt C h zoom = rowsUpto (C .low h) (C .high h) zoom
 
 -- opening the tile's stream at a zoom, and collecting the tile, in a map that was opened with header h
 abbrev pub openTile : (C : MapLayout) (h : C .Header) → (zoom : ℕ) → List ℕ → Res (State (C .format h))

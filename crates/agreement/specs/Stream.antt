@@ -3,9 +3,9 @@
 use mathlib.Core.List.{List, []}
 use Prim.Native.Nat.{ℕ, zero, suc, _+_, _-_, min, max}
 use Rattle.parsing.specs.Parse.{Res, ok, no, Parser, _>>=_, return, here}
-use Rattle.format.specs.Rows.{rowsUpto}
 use Rattle.arithmetic.specs.Cut.{cut}
-use Rattle.agreement.specs.Calls.{LentLists, Call, next, accept, decline, Answer, gotPoint, gotHead, declined, ended, refused, Step, plain, lending, accepted}
+use Rattle.format.specs.Lent.{LentLists}
+use Rattle.agreement.specs.Calls.{Call, next, accept, decline, Answer, gotPoint, gotHead, declined, ended, refused, Step, plain, lending, accepted}
 use Rattle.agreement.specs.Format.{Format, dataEnd, pointsUpTo, waysUpTo}
 
 -- what a stream answers: features as stored (View.antt has what is shown of them)
@@ -44,10 +44,6 @@ stream F m (idle n w i v z) decline = plain (refused 16 []) (idle n w i v z)
 stream F m (waits w x b z) next = plain (refused 16 []) (waits w x b z)
 stream F m (waits w x b z) (accept l) = onBody F w x b z l (F .body m b)
 stream F m (waits w x b z) decline = plain declined (idle 0 w x x z)
-
--- rows of the zoom table up to a zoom that is clamped into the interval from low to high
-abbrev pub rowsUpTo : (low high zoom : ℕ) → ℕ
-rowsUpTo low high zoom = rowsUpto low high zoom
 
 -- a freshly opened stream of the first rows of a tile's zoom table; h is the tile's head, e the place behind it, z the end's answer
 abbrev pub freshStream : (F : Format) → (rows : ℕ) → F .End → F .TileHead → ℕ → State F

@@ -2,9 +2,8 @@
 use Prim.Native.Nat.{ℕ}
 use mathlib.Core.Bool.{Bool}
 use mathlib.Core.List.{List}
-use Rattle.format.specs.WayData.{concat}
-use Rattle.format.specs.Nodes.{nodeCounts, latitudes, longitudes}
 use Rattle.format.specs.Tile as tile
+use Rattle.format.specs.BodyLists.{bodyLists}
 use Rattle.tag.specs.declared.Kind.{Kind}
 use Rattle.agreement.specs.Format.{Format}
 
@@ -30,9 +29,5 @@ tileFormat debug rows poiKinds wayKinds = record {
   size = λ h. h .size;
   behind = λ h. h .behind;
   body = tile.body;
-  lists = λ b. record {
-    counts = nodeCounts (concat (b .dataBlocks));
-    latitudes = latitudes (tile.doubleDelta (b .fields)) (concat (b .dataBlocks));
-    longitudes = longitudes (tile.doubleDelta (b .fields)) (concat (b .dataBlocks));
-  };
+  lists = bodyLists;
 }

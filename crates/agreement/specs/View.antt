@@ -3,7 +3,8 @@
 -- are not valid UTF-8). The book is fed the collected view, with its texts as stored.
 use mathlib.Core.Path.{_≡_}
 use mathlib.Core.List.{List, [], _∷_, map}
-use Rattle.agreement.specs.Calls.{gotPoint, gotHead, gotBody, declined, ended, refused, Reply}
+use Rattle.format.specs.Lent.{Reply}
+use Rattle.agreement.specs.Calls.{mapAnswer}
 use Rattle.agreement.specs.Format.{Format}
 use Rattle.agreement.specs.Stream.{StreamAnswer}
 use Rattle.agreement.specs.Collected.{Way, StoredTile, Collection, CollectedTile}
@@ -39,12 +40,7 @@ module _ {F : Format} (S : View F) where
 
   -- a stream's answers, as it shows them
   abbrev pub streamed : StreamAnswer F → BookAnswer (S .collection)
-  streamed (gotPoint p) = gotPoint (S .streamedPoint p)
-  streamed (gotHead h) = gotHead (S .streamedHead h)
-  streamed (gotBody b) = gotBody (S .streamedBody b)
-  streamed declined = declined
-  streamed (ended z) = ended (S .streamedEnd z)
-  streamed (refused n v) = refused n v
+  streamed a = mapAnswer (S .streamedPoint) (S .streamedHead) (S .streamedBody) (S .streamedEnd) a
 
   abbrev pub streamedReply : Reply (StreamAnswer F) → Reply (BookAnswer (S .collection))
   streamedReply r = record { answer = streamed (r .answer); lists = r .lists }

@@ -10,23 +10,21 @@ use borrow.Author.Tests.{le-ltb, lt-ltb}
 use Rattle.parsing.specs.Parse.{Res, ok, no}
 use Rattle.error.specs.Refusals.{numberOf}
 use Rattle.error.specs.declared.Refusal.{Refusal}
-use Rattle.format.specs.Lent.{sets-front}
+use Rattle.format.specs.Lent.{Reply, sets-front}
 use Rattle.way_measure.specs.Answers.{wayDataRes}
 use Rattle.way_measure.specs.declared.Sizes.{Sizes}
 use Rattle.way_measure.specs.declared.WayDataRead.{WayDataRead}
 use Rattle.way_measure.specs.declared.WayDataRead.the-variants as way-data
-use Rattle.way_data.specs.Reply.{Reply, reply}
+use Rattle.way_data.specs.Reply.{reply}
 use Rattle.exports.specs.Numbers.{numberIn, Numbered, Measured}
 
 pub number-refused : (g : WayDataRead) (x : Refusal) (k : ℕ) → g ≡ way-data.Refused x → k ≡ numberOf x → k ≡ numberIn (wayDataRes g)
 number-refused g x k h w = w ∙ sym (ap (λ a. numberIn (wayDataRes a)) h)
 
-pub numbered : (r : Reply) (g : WayDataRead) (k : ℕ) (c : List ℕ) (la lo : List Float) → reply g c la lo ≡ r → k ≡ numberIn (wayDataRes g) → Numbered r k c la lo
+pub numbered : (r : Reply (Res Sizes)) (g : WayDataRead) (k : ℕ) (c : List ℕ) (la lo : List Float) → reply g c la lo ≡ r → k ≡ numberIn (wayDataRes g) → Numbered r k c la lo
 numbered r g k c la lo q w = record {
-  answer = w ∙ ap (λ (a : Reply). numberIn (a .answer)) q;
-  nodeCounts = ap (λ (a : Reply). a .nodeCounts) q;
-  latitudes = ap (λ (a : Reply). a .latitudes) q;
-  longitudes = ap (λ (a : Reply). a .longitudes) q;
+  answer = w ∙ ap (λ (a : Reply (Res Sizes)). numberIn (a .answer)) q;
+  lists = ap (λ (a : Reply (Res Sizes)). a .lists) q;
 }
 
 -- the second of three stores

@@ -7,8 +7,8 @@ use lib.Dec.{ltb}
 use lib.Ieee.{Float}
 use lib.ListN.{length}
 use Rattle.parsing.specs.Parse.{Res, ok, no}
-use Rattle.format.specs.Lent.{front}
-use Rattle.way_data.specs.Reply.{Reply}
+use Rattle.format.specs.Lent.{front, Reply}
+use Rattle.way_data.specs.Reply.{lent}
 use Rattle.way_measure.specs.declared.Sizes.{Sizes}
 
 -- 0 for a result
@@ -17,11 +17,9 @@ numberIn (ok a end) = 0
 numberIn (no n v) = n
 
 -- a reply with its answer's number
-pub record Numbered (r : Reply) (number : ℕ) (counts : List ℕ) (lats lons : List Float) : Type 0 where
+pub record Numbered (r : Reply (Res Sizes)) (number : ℕ) (counts : List ℕ) (lats lons : List Float) : Type 0 where
   pub answer : number ≡ numberIn (r .answer)
-  pub nodeCounts : counts ≡ r .nodeCounts
-  pub latitudes : lats ≡ r .latitudes
-  pub longitudes : lons ≡ r .longitudes
+  pub lists : lent counts lats lons ≡ r .lists
 
 -- what is measured goes to a list of at least three entries: 15 if it is shorter, which comes only when nothing else is refused
 abbrev pub measuredNumber : Res Sizes → List ℕ → ℕ

@@ -7,13 +7,14 @@ use mathlib.Core.List.{List, [], _∷_}
 use lib.Dec.{leb, ltb, eqb}
 use lib.ListN.{length, take, drop}
 use borrow.Author.Tests.{lt-ltb, le-ltb, ltb-true, ltb-false}
-use Rattle.parsing.specs.Parse.{ok, no, Parser, andThen, many, chunk, Part, part, none, some}
+use Rattle.parsing.specs.Parse.{ok, no, Parser, andThen, many, chunk, Part, part, none, some, nth}
 use Rattle.parsing.specs.Good.{split, ok-val, ok-at, no-ok}
 use Rattle.parsing.proofs.Loops.{many-count}
 use Rattle.byte_source.specs.BigEndian.{bigEndian}
 use Rattle.utils.specs.Vbe.{unsigned, text}
+use Rattle.parsing.proofs.Lists.{nth-past}
 use Rattle.format.specs.Header.{Header, Tags, tags, front, options, intervals, tables, header, debug, signatures, opened}
-use Rattle.format.specs.TagTable.{tableOf, tagText, nth, named}
+use Rattle.format.specs.TagTable.{tableOf, tagText, named}
 
 -- value k of n values, read again behind the k values in front of it
 pub record Behind {A : Type 0} (p : Parser A) (k : ℕ) (m : List ℕ) (i : ℕ) (l : List A) : Type 0 where
@@ -56,11 +57,6 @@ module _ {A : Type 0} (p : Parser A) (m : List ℕ) where
         second = r .second;
         found = r .found;
       })
-
-nth-past : {A : Type 0} (l : List A) (k : ℕ) → length l ≤ k → nth l k ≡ none
-nth-past [] k h = refl
-nth-past (a ∷ l) zero h = absurd (omega arith)
-nth-past (a ∷ l) (suc k) h = nth-past l k (omega arith)
 
 -- a text ends behind its bytes
 cond-end : {A : Type 0} (c : Bool) (a b : A) (x e : ℕ) → cond c (ok a x) (no 1 []) ≡ ok b e → e ≡ x

@@ -6,7 +6,7 @@ use mathlib.Core.List.{List, [], _∷_}
 use lib.Dec.{leb, ltb}
 use lib.IntN.{ℤ, natAbs, _-ℤ_}
 use lib.Signed.{leZ}
-use Rattle.parsing.specs.Parse.{Res, ok, no, Parser, andThen, mapRes, _>>=_, return, Maybe, none, some}
+use Rattle.parsing.specs.Parse.{Res, ok, no, Parser, andThen, mapRes, _>>=_, return, Maybe, none, some, nth}
 use Rattle.parsing.specs.Good.{Good, goods}
 use Rattle.byte_source.specs.BigEndian.{bigEndian, bytes}
 use Rattle.format.specs.Header.{Interval, between}
@@ -14,12 +14,6 @@ use Rattle.format.specs.Header.{Interval, between}
 -- a result that no read goes on from: it has no next place, and 0 stands there
 abbrev pub answer : {A : Type 0} → A → Res A
 answer a = ok a 0
-
--- the sub file of a number, counted from 0
-abbrev pub subFile : List Interval → ℕ → Maybe Interval
-subFile [] k = none
-subFile (z ∷ zs) zero = some z
-subFile (z ∷ zs) (suc k) = subFile zs k
 
 -- what is asked of a sub file, or the answer for a missing one
 abbrev pub inSubFile : {A : Type 0} → Maybe Interval → Res A → (Interval → Res A) → Res A
@@ -61,7 +55,7 @@ gridTiles g = cond (goodGrid g) (answer (tilesOf g)) (no 14 [])
 
 -- none for a missing sub file, then 14 for a bad grid
 unfoldable pub tileCount : List Interval → ℕ → Grid → Res (Maybe ℕ)
-tileCount zs s g = inSubFile (subFile zs s) (answer none) (λ z. mapRes some (gridTiles g))
+tileCount zs s g = inSubFile (nth zs s) (answer none) (λ z. mapRes some (gridTiles g))
 
 abbrev pub inGrid : Grid → ℤ → ℤ → Bool
 inGrid g x y = between (g .xMin) (g .xMax) x && between (g .yMin) (g .yMax) y
@@ -79,7 +73,7 @@ gridIndex g x y = andThen (gridTiles g) (λ _ _. answer (indexIn g x y))
 
 -- none for a missing sub file first
 unfoldable pub tileIndexOf : List Interval → ℕ → Grid → ℤ → ℤ → Res (Maybe ℕ)
-tileIndexOf zs s g x y = inSubFile (subFile zs s) (answer none) (λ z. gridIndex g x y)
+tileIndexOf zs s g x y = inSubFile (nth zs s) (answer none) (λ z. gridIndex g x y)
 
 -- 5 bytes: the top bit is water, the other 39 bits are the tile's offset in the sub file
 pub record Entry : Type 0 where
@@ -103,7 +97,19 @@ entryIn d start g tile m =
 
 -- sub file (8) first
 unfoldable pub tileIndexEntry : Bool → List Interval → ℕ → Grid → ℕ → List ℕ → Res Entry
-tileIndexEntry d zs s g tile m = inSubFile (subFile zs s) (no 8 []) (λ z. entryIn d (z .start) g tile m)
+tileIndexEntry d zs s g tile m = inSubFile (nth zs s) (no 8 []) (λ z. entryIn d (z .start) g tile m)
+
+-- a tile's interval and entry
+pub record Located : Type 0 where
+  pub interval : Interval
+  pub entry : Entry
+
+-- in document 01's order: sub file (8), grid (14), tile (8), entry (1), and last the interval (13)
+unfoldable pub locate : Bool → List Interval → ℕ → Grid → ℕ → List ℕ → Res Located
+locate d zs s g tile m =
+    inSubFile (nth zs s) (no 8 []) (λ z.
+    andThen (entryIn d (z .start) g tile m) (λ n _.
+    cond (leb (z .min) (z .max)) (answer (record { interval = z; entry = n })) (no 13 [])))
 
 -- the laws
 pub entry-good : (start : ℕ) → Good (entry start)

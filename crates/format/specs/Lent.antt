@@ -1,15 +1,56 @@
 -- Document 01, "The stream and the collected tile": results go to the front of lent lists; entries behind them keep their values.
-use Prim.Native.Nat.{_+_, _≤_}
+use Prim.Native.Nat.{ℕ, _+_, _≤_}
 use native.Mathlib.Omega.{arith}
 use native.Mathlib.Nat.{zero-add}
 use mathlib.Core.Path.{_≡_, refl, _∙_}
+use mathlib.Core.Bool.{Bool, _&&_, cond}
 use mathlib.Core.List.{List, _++_}
+use lib.Dec.{leb}
+use lib.Ieee.{Float}
 use lib.ListN.{length, drop}
 use lib.Seq.{sets, sets-eq}
+use Rattle.parsing.specs.Parse.{Res, ok, no}
+use Rattle.error.specs.Refusals.{lengths}
 
 -- a list with these values at its front
 abbrev pub front : {A : Type 0} → List A → List A → List A
 front xs l = xs ++ drop (length xs) l
+
+-- the lists that a way's body is lent: node counts, latitudes and longitudes
+pub record LentLists : Type 0 where
+  pub counts : List ℕ
+  pub latitudes : List Float
+  pub longitudes : List Float
+
+-- an answer, and the lent lists after the call
+pub record Reply (A : Type 0) : Type 0 where
+  pub answer : A
+  pub lists : LentLists
+
+-- no lent list is shorter than what is to go to it
+abbrev pub fits : (values lent : LentLists) → Bool
+fits v l =
+    leb (length (v .counts)) (length (l .counts)) && leb (length (v .latitudes)) (length (l .latitudes))
+    && leb (length (v .longitudes)) (length (l .longitudes))
+
+-- the values go to the front of the lent lists; entries behind them keep their values
+abbrev pub written : (values lent : LentLists) → LentLists
+written v l = record {
+  counts = front (v .counts) (l .counts);
+  latitudes = front (v .latitudes) (l .latitudes);
+  longitudes = front (v .longitudes) (l .longitudes);
+}
+
+-- the lengths that refusal 15 gives: the counts of blocks, nodes and nodes; no further list and no buffer is lent
+abbrev pub needed : LentLists → List ℕ
+needed v = lengths (length (v .counts)) (length (v .latitudes)) (length (v .longitudes)) 0 0 0
+
+-- What was decoded whole: its value as it is shown, and its lists written; 15 if a lent list is shorter, which comes only when nothing
+-- else is refused. With any refusal the lists are as before the call.
+abbrev pub deliver : {A B : Type 0} → (show : A → B) → (values : A → LentLists) → Res A → (lent : LentLists) → Reply (Res B)
+deliver show values (ok a e) l =
+    cond (fits (values a) l) (record { answer = ok (show a) e; lists = written (values a) l }) (record { answer = no 15 (needed (values a)); lists = l })
+deliver show values (no n v) l = record { answer = no n v; lists = l }
 
 -- as a run of stores leaves it
 pub sets-front : {A : Type 0} (xs l : List A) → length xs ≤ length l → sets l 0 xs ≡ front xs l

@@ -9,3 +9,4 @@ pub mod Tile
 pub mod Elevation
 pub mod Streamed
 pub mod Rows
+pub mod BodyLists

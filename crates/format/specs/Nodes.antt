@@ -11,6 +11,7 @@ use lib.Ieee as Ieee
 use lib.Ieee.{Float, binary64}
 use Rattle.utils.specs.Degree.{degrees}
 use Rattle.format.specs.WayData.{Node, concat}
+use Rattle.format.specs.Lent.{LentLists}
 
 abbrev pub zero64 : Float
 zero64 = Ieee.ofBits binary64 0
@@ -52,6 +53,9 @@ latitudes double blocks = concat (map (λ b. blockNodes double (map latitudeOf b
 
 abbrev pub longitudes : Bool → List (List Node) → List Float
 longitudes double blocks = concat (map (λ b. blockNodes double (map longitudeOf b)) blocks)
+
+abbrev pub wayLists : Bool → List (List Node) → LentLists
+wayLists double blocks = record { counts = nodeCounts blocks; latitudes = latitudes double blocks; longitudes = longitudes double blocks }
 
 abbrev pub initialLatitudes : List (List Node) → List Float
 initialLatitudes blocks = map (λ b. initialNode (map latitudeOf b)) blocks

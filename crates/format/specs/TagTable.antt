@@ -21,12 +21,6 @@ tableOf t = record { start = t .start; count = length (t .texts) }
 unfoldable pub tagText : Table → ℕ → List ℕ → Res Part
 tagText t k m = cond (ltb k (t .count)) (andThen (many text k m (t .start)) (λ _ e. text m e)) (no 7 (k ∷ []))
 
--- element k of a list, counted from 0
-abbrev pub nth : {A : Type 0} → List A → ℕ → Maybe A
-nth [] k = none
-nth (a ∷ l) zero = some a
-nth (a ∷ l) (suc k) = nth l k
-
 -- the tag name of an id as a result: the text with the place behind it, or refusal 7
 abbrev pub named : ℕ → Maybe Part → Res Part
 named k none = no 7 (k ∷ [])

@@ -7,12 +7,12 @@ use lib.ListN.{length, replicate, length-map}
 use lib.Seq.{take-at}
 use borrow.Author.Needs.{needs}
 use borrow.Author.Tests.{eq-eqb, ne-eqb}
-use Rattle.parsing.specs.Parse.{ok, mapRes}
+use Rattle.parsing.specs.Parse.{ok, mapRes, nth}
 use Rattle.parsing.proofs.Steps.{then-then}
 use Rattle.error.specs.declared.Refusal.{Refusal}
 use Rattle.error.specs.declared.Refusal.the-variants.{InvalidHeaderSize}
 use Rattle.format.specs.Header.{Header, Interval, tags, intervals, tables, header}
-use Rattle.format.specs.TagTable.{tagText, nth, named}
+use Rattle.format.specs.TagTable.{tagText, named}
 use Rattle.format.proofs.TagLaws.{header-tags}
 use Rattle.types.specs.Types.{intervalOf, intervalsOf, optionalSpan, optionalByte, endRefusal}
 use Rattle.types.specs.declared.Position.{Position}

@@ -11,19 +11,19 @@ use lib.ListN.{length, getD, take, drop, length-take, length-map, drop-of-length
 use lib.Seq.{drop-cons, getD-take, length-take-le}
 use borrow.Author.Needs.{needs}
 use borrow.Author.Tests.{le-leb, lt-leb}
-use Rattle.parsing.specs.Parse.{Maybe, none, some}
+use Rattle.parsing.specs.Parse.{Maybe, none, some, nth}
 use Rattle.format.specs.Header.{Interval}
-use Rattle.format.specs.Index.{subFile, holdsZoom, subFileFrom}
+use Rattle.format.specs.Index.{holdsZoom, subFileFrom}
 use Rattle.types.specs.Types.{intervalOf}
 use Rattle.types.specs.declared.ZoomInterval.{ZoomInterval}
 
-pub file-missing : (l : List ZoomInterval) (n k : ℕ) → n ≤ k → none ≡ subFile (mapped intervalOf (take n l)) k
+pub file-missing : (l : List ZoomInterval) (n k : ℕ) → n ≤ k → none ≡ nth (mapped intervalOf (take n l)) k
 file-missing l zero k h = refl
 file-missing [] (suc n) k h = refl
 file-missing (z ∷ l) (suc n) zero h = absurd (omega arith)
 file-missing (z ∷ l) (suc n) (suc k) h = file-missing l n k (omega arith)
 
-pub file-at : (l : List ZoomInterval) (n k : ℕ) (d : ZoomInterval) → k < n → n ≤ length l → some (intervalOf (getD l k d)) ≡ subFile (mapped intervalOf (take n l)) k
+pub file-at : (l : List ZoomInterval) (n k : ℕ) (d : ZoomInterval) → k < n → n ≤ length l → some (intervalOf (getD l k d)) ≡ nth (mapped intervalOf (take n l)) k
 file-at l zero k d h b = absurd (omega arith)
 file-at [] (suc n) k d h b = absurd (omega arith)
 file-at (z ∷ l) (suc n) zero d h b = refl

@@ -10,8 +10,9 @@ ghost use Prim.Native.Nat.{_+_, _*_, _≤_, _<_, _^_};
 ghost use lib.IntN.{natAbs, _-ℤ_};
 ghost use lib.Signed.{leZ};
 ghost use Rattle.arithmetic.specs.Cut.{cut};
+ghost use Rattle.parsing.specs.Parse.{nth};
 ghost use Rattle.format.specs.Header.{between, bit};
-ghost use Rattle.format.specs.Index.{subFile, holdsZoom, subFileForZoom, width, gridTiles, tileCount, inGrid, rowMajor, gridIndex, tileIndexOf, entry, entryAt, entryIn, tileIndexEntry};
+ghost use Rattle.format.specs.Index.{holdsZoom, subFileForZoom, width, gridTiles, tileCount, inGrid, rowMajor, gridIndex, tileIndexOf, entry, entryAt, entryIn, tileIndexEntry};
 ghost use Rattle.types.specs.Types.{intervalOf, intervalsOf, debugOf, gridOf};
 ghost use Rattle.index.specs.Asked.{Ordered, Inside};
 ghost use Rattle.index.specs.Answers.{subFileNumber, intervalFound, gridRes, gridRefusal, countRes, indexRes, heldRes, entryRes, entryRefusal};
@@ -78,7 +79,7 @@ pub fn entry_refusal(got: EntryRead) -> Refusal
 
 // The zoom interval of a sub file.
 pub fn interval_of(header: MapHeader, sub_file: usize) -> IntervalRead
-    ensures { λ r. ⌜ intervalFound r ≡ subFile (intervalsOf header) «sub_file» ⌝ }
+    ensures { λ r. ⌜ intervalFound r ≡ nth (intervalsOf header) «sub_file» ⌝ }
 {
     if header.num_zoom_intervals as usize <= sub_file {
         return IntervalRead::Missing;

@@ -83,6 +83,12 @@ pub data Maybe (A : Type 0) : Type 0 where
   none : Maybe A
   some : A → Maybe A
 
+-- entry k of a list, counted from 0
+abbrev pub nth : {A : Type 0} → List A → ℕ → Maybe A
+nth [] k = none
+nth (a ∷ l) zero = some a
+nth (a ∷ l) (suc k) = nth l k
+
 unfoldable pub optional : {A : Type 0} → Bool → Parser A → Parser (Maybe A)
 optional true p = do
   a ← p

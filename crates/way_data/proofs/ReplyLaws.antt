@@ -2,26 +2,26 @@
 use Prim.Native.Nat.{ℕ, _≤_, _<_}
 use native.Mathlib.Omega.{arith}
 use mathlib.Core.Path.{_≡_, refl, sym, ap, _∙_}
-use mathlib.Core.Bool.{Bool, true, false, cond, _||_}
+use mathlib.Core.Bool.{Bool, true, false, cond, _||_, _&&_}
 use mathlib.Core.List.{List}
-use lib.Dec.{ltb}
+use lib.Dec.{leb, ltb}
 use lib.ListN.{length, length-map}
 use lib.Ieee.{Float}
 use borrow.Author.Needs.{needs}
-use borrow.Author.Tests.{le-ltb, lt-ltb, ltb-false}
+use borrow.Author.Tests.{le-ltb, lt-ltb, ltb-true, ltb-false, le-leb, lt-leb}
 use Rattle.parsing.specs.Parse.{Res, ok, no, mapRes, listOf}
 use Rattle.parsing.specs.Good.{ok-val, ok-at, no-ok}
-use Rattle.error.specs.Refusals.{refused}
+use Rattle.error.specs.Refusals.{refused, valuesOf}
 use Rattle.error.specs.declared.Refusal.{Refusal}
-use Rattle.format.specs.Lent.{sets-front}
+use Rattle.format.specs.Lent.{Reply, fits, written, needed, sets-front}
 use Rattle.format.specs.WayData.{Node, concat, nodeCount}
-use Rattle.format.specs.Nodes.{latitudeOf, longitudeOf, nodeCounts, latitudes, longitudes}
-use Rattle.way_measure.specs.Answers.{waySizes, wayDataRes, wayDataRefusal}
+use Rattle.format.specs.Nodes.{latitudeOf, longitudeOf, nodeCounts, latitudes, longitudes, wayLists}
+use Rattle.way_measure.specs.Answers.{sizesOf, waySizes, wayDataRes, wayDataRefusal}
 use Rattle.way_measure.specs.declared.Sizes.{Sizes}
 use Rattle.way_measure.specs.declared.WayDataRead.{WayDataRead}
 use Rattle.way_measure.specs.declared.WayDataRead.the-variants as way-data
-use Rattle.way_data.specs.Reply.{tooShort, shorter, delivered, unchanged, readWayData}
-use Rattle.way_data.specs.Writes.{BlocksFit, BlocksWritten}
+use Rattle.way_data.specs.Reply.{lent, readWayData}
+use Rattle.way_data.specs.Writes.{shorter, tooShort, BlocksFit, BlocksWritten}
 use Rattle.way_data.specs.declared.Progress.{Progress}
 use Rattle.way_data.proofs.BlockLaws.{length-along}
 
@@ -49,26 +49,60 @@ module _ (z : Sizes) (c l o : ℕ) where
       neither true b h = (h, absurd (let x : _≡_ {A = ℕ} 0 1 = ap (λ (y : Bool). cond y 0 1) h in omega arith))
       neither false b h = (refl, h)
 
+-- by the lengths of what goes to the lists
+flip : (a b : ℕ) → leb b a ≡ cond (ltb a b) false true
+flip a b = go (ltb a b) refl
+  where
+    go : (x : Bool) → ltb a b ≡ x → leb b a ≡ cond x false true
+    go true h = lt-leb b a (ltb-true a b h)
+    go false h = le-leb b a (ltb-false a b h)
+
+none-shorter : (x y z : Bool) → (cond x false true && cond y false true && cond z false true) ≡ cond (x || y || z) false true
+none-shorter true y z = refl
+none-shorter false true z = refl
+none-shorter false false true = refl
+none-shorter false false false = refl
+
 module _ (t : Bool) (c : List ℕ) (la lo : List Float) where
-  pub reply-no : (r : WayData) (g : WayDataRead) (x y : Refusal) → wayDataRes g ≡ mapRes waySizes r → g ≡ way-data.Refused x → y ≡ wayDataRefusal g → unchanged c la lo (refused y) ≡ readWayData t r c la lo
+  abbrev unchanged : Res Sizes → Reply (Res Sizes)
+  unchanged a = record { answer = a; lists = lent c la lo }
+
+  abbrev delivered : List (List Node) → ℕ → Reply (Res Sizes)
+  delivered b e = record { answer = ok (sizesOf b) e; lists = written (wayLists t b) (lent c la lo) }
+
+  fits-is : (b : List (List Node)) → fits (wayLists t b) (lent c la lo) ≡ cond (shorter (sizesOf b) (length c) (length la) (length lo)) false true
+  fits-is b =
+      rw (
+        length-map b length,
+        length-along t latitudeOf b,
+        length-along t longitudeOf b,
+        flip (length c) (length b),
+        flip (length la) (nodeCount b),
+        flip (length lo) (nodeCount b),
+      ) (none-shorter (ltb (length c) (length b)) (ltb (length la) (nodeCount b)) (ltb (length lo) (nodeCount b)))
+
+  needed-is : (b : List (List Node)) → needed (wayLists t b) ≡ valuesOf (tooShort (sizesOf b))
+  needed-is b = rw (length-map b length, length-along t latitudeOf b, length-along t longitudeOf b) refl
+
+  pub reply-no : (r : WayData) (g : WayDataRead) (x y : Refusal) → wayDataRes g ≡ mapRes waySizes r → g ≡ way-data.Refused x → y ≡ wayDataRefusal g → unchanged (refused y) ≡ readWayData t r c la lo
   reply-no (ok d e) g x y q h w = no-ok (sym (ap wayDataRes h) ∙ q)
   reply-no (no n v) g x y q h w =
       let k : refused y ≡ no n v = ap refused (w ∙ ap wayDataRefusal h) ∙ sym (ap wayDataRes h) ∙ q in
-      ap (unchanged c la lo) k
+      ap unchanged k
 
   module _ (z : Sizes) (e : ℕ) where
     -- what a caller that has measured gets
-    pub short-is : (r : WayData) → mapRes waySizes r ≡ ok z e → shorter z (length c) (length la) (length lo) ≡ true → readWayData t r c la lo ≡ unchanged c la lo (refused (tooShort z))
+    short-is : (r : WayData) → mapRes waySizes r ≡ ok z e → shorter z (length c) (length la) (length lo) ≡ true → readWayData t r c la lo ≡ unchanged (refused (tooShort z))
     short-is (no n v) m f = no-ok m
     short-is (ok d i) m f =
         let f′ : shorter (waySizes d) (length c) (length la) (length lo) ≡ true = ap (λ s. shorter s (length c) (length la) (length lo)) (ok-val m) ∙ f in
-        rw f′ (ap (λ s. unchanged c la lo (refused (tooShort s))) (ok-val m))
+        rw (fits-is (concat d), f′) (ap (λ v. unchanged (no 15 v)) (needed-is (concat d) ∙ ap (λ s. valuesOf (tooShort s)) (ok-val m)))
 
-    pub delivered-is : (r : WayData) → mapRes waySizes r ≡ ok z e → shorter z (length c) (length la) (length lo) ≡ false → readWayData t r c la lo ≡ delivered c la lo t (concat (listOf r)) e
+    delivered-is : (r : WayData) → mapRes waySizes r ≡ ok z e → shorter z (length c) (length la) (length lo) ≡ false → readWayData t r c la lo ≡ delivered (concat (listOf r)) e
     delivered-is (no n v) m f = no-ok m
     delivered-is (ok d x) m f =
         let f′ : shorter (waySizes d) (length c) (length la) (length lo) ≡ false = ap (λ s. shorter s (length c) (length la) (length lo)) (ok-val m) ∙ f in
-        rw f′ (ap (delivered c la lo t (concat d)) (ok-at m))
+        rw (fits-is (concat d), f′) (ap (delivered (concat d)) (ok-at m))
 
     -- where the second pass starts
     module _ (at : ℕ) (f : shorter z (length c) (length la) (length lo) ≡ false) where
@@ -83,7 +117,7 @@ module _ (t : Bool) (c : List ℕ) (la lo : List Float) where
           let v : nodeCount (concat d) ≡ z .nodes = ap (λ (s : Sizes). s .nodes) (ok-val m) in
           record { fine = tt; counts = omega arith; lats = omega arith; lons = omega arith }
 
-      done-as : (r : WayData) (p : Progress) (c′ : List ℕ) (la′ lo′ : List Float) → mapRes waySizes r ≡ ok z e → BlocksWritten t (mapRes concat r) start c la lo p c′ la′ lo′ → unchanged c′ la′ lo′ (ok z e) ≡ readWayData t r c la lo
+      done-as : (r : WayData) (p : Progress) (c′ : List ℕ) (la′ lo′ : List Float) → mapRes waySizes r ≡ ok z e → BlocksWritten t (mapRes concat r) start c la lo p c′ la′ lo′ → _≡_ {A = Reply (Res Sizes)} (record { answer = ok z e; lists = lent c′ la′ lo′ }) (readWayData t r c la lo)
       done-as (no n v) p c′ la′ lo′ m w = no-ok m
       done-as (ok d x) p c′ la′ lo′ m w =
           let b = concat d in
@@ -103,13 +137,13 @@ module _ (t : Bool) (c : List ℕ) (la lo : List Float) where
 
     -- the same by the code's answer
     module _ (r : WayData) (g : WayDataRead) (q : wayDataRes g ≡ mapRes waySizes r) (h : g ≡ way-data.Value z e) (k : Bool) (i : k ≡ shorter z (length c) (length la) (length lo)) where
-      pub reply-short : (x : Refusal) → k ≡ true → x ≡ tooShort z → unchanged c la lo (refused x) ≡ readWayData t r c la lo
+      pub reply-short : (x : Refusal) → k ≡ true → x ≡ tooShort z → unchanged (refused x) ≡ readWayData t r c la lo
       reply-short x j w = rw w (sym (short-is r (sym q ∙ ap wayDataRes h) (sym i ∙ j)))
 
       pub reply-fit : (at : ℕ) → k ≡ false → BlocksFit (mapRes concat r) (record { next = at; blocks = 0; nodes = 0 }) c la lo
       reply-fit at j = fit-as at (sym i ∙ j) r (sym q ∙ ap wayDataRes h)
 
-      pub reply-done : (at : ℕ) (p : Progress) (c′ : List ℕ) (la′ lo′ : List Float) → k ≡ false → BlocksWritten t (mapRes concat r) (record { next = at; blocks = 0; nodes = 0 }) c la lo p c′ la′ lo′ → unchanged c′ la′ lo′ (ok z e) ≡ readWayData t r c la lo
+      pub reply-done : (at : ℕ) (p : Progress) (c′ : List ℕ) (la′ lo′ : List Float) → k ≡ false → BlocksWritten t (mapRes concat r) (record { next = at; blocks = 0; nodes = 0 }) c la lo p c′ la′ lo′ → _≡_ {A = Reply (Res Sizes)} (record { answer = ok z e; lists = lent c′ la′ lo′ }) (readWayData t r c la lo)
       reply-done at p c′ la′ lo′ j w = done-as at (sym i ∙ j) r p c′ la′ lo′ (sym q ∙ ap wayDataRes h) w
 
 pub ruleset replies = (needs, shorter-counts, shorter-lats, shorter-lons, reply-no, reply-short, reply-fit, reply-done)

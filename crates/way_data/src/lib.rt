@@ -11,8 +11,8 @@ ghost use mathlib.Core.Path.{_≡_};
 ghost use Rattle.parsing.specs.Parse.{mapRes, many};
 ghost use Rattle.format.specs.WayData.{node, dataBlock, wayData, concat};
 ghost use Rattle.format.specs.Nodes.{nextDelta};
-ghost use Rattle.way_data.specs.Reply.{tooShort, shorter, reply, readWayData};
-ghost use Rattle.way_data.specs.Writes.{startAt, movedBy, later, inBlock, oneBlock, NodesFit, NodesWritten, BlocksFit, BlocksWritten};
+ghost use Rattle.way_data.specs.Reply.{reply, readWayData};
+ghost use Rattle.way_data.specs.Writes.{shorter, tooShort, startAt, movedBy, later, inBlock, oneBlock, NodesFit, NodesWritten, BlocksFit, BlocksWritten};
 
 // The last node of a block in degrees, and the delta that led to it.
 struct Cursor {
