@@ -1,0 +1,46 @@
+-- A way's body as it is handed out (document 01, way.rs), from what is stored.
+use Prim.Native.Nat.{ℕ}
+use mathlib.Core.List.{List}
+use lib.Ieee.{Float}
+use Rattle.parsing.specs.Parse.{Res, ok}
+use Rattle.error.specs.Refusals.{refused}
+use Rattle.error.specs.declared.Refusal.{Refusal}
+use Rattle.error.specs.declared.Refusal.the-variants.{Source}
+use Rattle.format.specs.Lent.{Reply}
+use Rattle.format.specs.Tile.{Body}
+use Rattle.way_fields.specs.WayFields.{BodyHead, wayFieldsOf}
+use Rattle.way_fields.specs.declared.WayFields.{WayFields}
+use Rattle.way_measure.specs.Answers.{waySizes}
+use Rattle.way_measure.specs.declared.Sizes.{Sizes}
+use Rattle.way_data.specs.Reply.{lent}
+use Rattle.way.specs.declared.WayBody.{WayBody}
+use Rattle.way.specs.declared.WayBodyRead.{WayBodyRead}
+use Rattle.way.specs.declared.WayBodyRead.the-variants as body
+
+-- a way's fields, with the sizes of its data
+abbrev pub bodyWith : WayFields → Sizes → WayBody
+bodyWith f s = record {
+  name = f .name;
+  «house_number» = f .«house_number»;
+  reference = f .reference;
+  «label_position» = f .«label_position»;
+  «double_delta» = f .«double_delta»;
+  blocks = s .blocks;
+  nodes = s .nodes;
+}
+
+-- how many data blocks there are is not shown
+abbrev pub bodyOf : Body → WayBody
+bodyOf b = bodyWith (wayFieldsOf (record { fields = b .fields; dataBlocks = 0 })) (waySizes (b .dataBlocks))
+
+abbrev pub bodyRes : WayBodyRead → Res WayBody
+bodyRes (body.Value v n) = ok v n
+bodyRes (body.Refused r) = refused r
+
+abbrev pub bodyRefusal : WayBodyRead → Refusal
+bodyRefusal (body.Value v n) = Source
+bodyRefusal (body.Refused r) = r
+
+-- an answer of the code, with the lists after the call
+abbrev pub bodyReply : WayBodyRead → List ℕ → List Float → List Float → Reply (Res WayBody)
+bodyReply r counts lats lons = record { answer = bodyRes r; lists = lent counts lats lons }
