@@ -104,12 +104,15 @@ pub record Located : Type 0 where
   pub interval : Interval
   pub entry : Entry
 
--- in document 01's order: sub file (8), grid (14), tile (8), entry (1), and last the interval (13)
-unfoldable pub locate : Bool → List Interval → ℕ → Grid → ℕ → List ℕ → Res Located
-locate d zs s g tile m =
-    inSubFile (nth zs s) (no 8 []) (λ z.
+-- grid (14), tile (8), entry (1), and last the interval (13)
+unfoldable pub locateIn : Bool → Interval → Grid → ℕ → List ℕ → Res Located
+locateIn d z g tile m =
     andThen (entryIn d (z .start) g tile m) (λ n _.
-    cond (leb (z .min) (z .max)) (answer (record { interval = z; entry = n })) (no 13 [])))
+    cond (leb (z .min) (z .max)) (answer (record { interval = z; entry = n })) (no 13 []))
+
+-- sub file (8) first
+unfoldable pub locate : Bool → List Interval → ℕ → Grid → ℕ → List ℕ → Res Located
+locate d zs s g tile m = inSubFile (nth zs s) (no 8 []) (λ z. locateIn d z g tile m)
 
 -- the laws
 pub entry-good : (start : ℕ) → Good (entry start)

@@ -258,7 +258,7 @@ fn read_entry(map: &[u8], start: u64, at: usize) -> EntryRead
 }
 
 // The entry of a tile of the sub file with this start.
-fn entry_in(map: &[u8], flags: u8, start: u64, grid: Grid, tile: usize) -> EntryRead
+pub fn entry_in(map: &[u8], flags: u8, start: u64, grid: Grid, tile: usize) -> EntryRead
     ensures { λ r. ⌜ entryRes r ≡ heldRes (entryIn (bit 7 flags) start (gridOf grid) tile (now (map .entry))) ⌝ }
 {
     let got = grid_tiles(grid);
