@@ -59,7 +59,7 @@ module _ (F : Format) (L : Laws F) (m m′ : List ℕ) (long : length m ≡ leng
 
   -- a state of the stream of a tile that collects; the way declined next, if it is untried; a place behind which only declined bytes
   -- were altered, and one before which none lies; and how many points are read alike
-  pub data Sound : State F → Maybe (F .Head) → (low high n : ℕ) → Type 0 where
+  pub data Sound : State (F .End) → Maybe (F .Head) → (low high n : ℕ) → Type 0 where
     s-idle : {n i v : ℕ} {ps : List (F .Point)} {ws : List (Way F)} → Points n i ps → Ways F m v ws
         → Sound (idle (length ps) (length ws) i v z) none v v n
     s-untried : {n b : ℕ} {w : Way F} {ws : List (Way F)} → F .behind (w .head) ≡ b → Body F m b w → Ways F m (cut (dataEnd F (w .head))) ws
@@ -68,7 +68,7 @@ module _ (F : Format) (L : Laws F) (m m′ : List ℕ) (long : length m ≡ leng
         → Sound (waits (length ws) (cut (dataEnd F (w .head))) b z) none b (cut (dataEnd F (w .head))) n
 
   -- what one call does to that, and what it needs to be answered alike from both maps
-  record Onward (s : State F) (w : Maybe (F .Head)) (lo hi n : ℕ) (c : Call) (st : Step (StreamAnswer F) (State F)) : Type 0 where
+  record Onward (s : State (F .End)) (w : Maybe (F .Head)) (lo hi n : ℕ) (c : Call) (st : Step (StreamAnswer F) (State (F .End))) : Type 0 where
     low : ℕ
     high : ℕ
     points : ℕ
@@ -81,7 +81,7 @@ module _ (F : Format) (L : Laws F) (m m′ : List ℕ) (long : length m ≡ leng
         → ((j : ℕ) → lo ≤ j → j < high → (LiesIn j (bytesAdded F w c) → ⊥) → getD m j 0 ≡ getD m′ j 0) → stream F m′ s c ≡ st
 
   -- a call that reads nothing and leaves the state
-  stays : {s : State F} {w : Maybe (F .Head)} {lo hi n : ℕ} {c : Call} {st : Step (StreamAnswer F) (State F)} → Sound (st .left) (untried w c (st .reply .answer)) lo hi n
+  stays : {s : State (F .End)} {w : Maybe (F .Head)} {lo hi n : ℕ} {c : Call} {st : Step (StreamAnswer F) (State (F .End))} → Sound (st .left) (untried w c (st .reply .answer)) lo hi n
       → isPoint (st .reply .answer) ≡ 0 → ((j : ℕ) → LiesIn j (bytesAdded F w c) → ⊥) → stream F m′ s c ≡ st → Onward s w lo hi n c st
   stays g p d r = record {
     low = _;
@@ -125,7 +125,7 @@ module _ (F : Format) (L : Laws F) (m m′ : List ℕ) (long : length m ≡ leng
         reads = λ _ g. rw (L .body-good .near m m′ b (y .body) _ (record { long = long; same = λ j p q. g j p q nowhere }) (d .reads), e);
       }
 
-  onward : (s : State F) (w : Maybe (F .Head)) (lo hi n : ℕ) (c : Call) → Sound s w lo hi n → Onward s w lo hi n c (stream F m s c)
+  onward : (s : State (F .End)) (w : Maybe (F .Head)) (lo hi n : ℕ) (c : Call) → Sound s w lo hi n → Onward s w lo hi n c (stream F m s c)
   onward s u lo hi n next (s-idle (near {n = k} h h′ y) x) =
       rw h record {
         low = lo;
@@ -199,7 +199,7 @@ module _ (F : Format) (L : Laws F) (m m′ : List ℕ) (long : length m ≡ leng
       }
 
   -- no declined byte lies before the second place
-  pub above : (cs : List Call) (s : State F) (w : Maybe (F .Head)) (lo hi n : ℕ) → Sound s w lo hi n
+  pub above : (cs : List Call) (s : State (F .End)) (w : Maybe (F .Head)) (lo hi n : ℕ) → Sound s w lo hi n
       → (j : ℕ) → LiesIn j (declinedFrom F w cs (run (stream F m) s cs)) → hi ≤ j
   above [] s w lo hi n g j h = nowhere h
   above (c ∷ cs) s w lo hi n g j h =
@@ -209,7 +209,7 @@ module _ (F : Format) (L : Laws F) (m m′ : List ℕ) (long : length m ≡ leng
       (λ k. le-trans (o .highs) (above cs _ _ _ _ _ (o .sound) j k))
 
   -- altered only there: the same replies
-  pub alike : (cs : List Call) (s : State F) (w : Maybe (F .Head)) (lo hi n : ℕ) → Sound s w lo hi n → pointsDelivered (run (stream F m) s cs) ≤ n
+  pub alike : (cs : List Call) (s : State (F .End)) (w : Maybe (F .Head)) (lo hi n : ℕ) → Sound s w lo hi n → pointsDelivered (run (stream F m) s cs) ≤ n
       → ((j : ℕ) → lo ≤ j → (LiesIn j (declinedFrom F w cs (run (stream F m) s cs)) → ⊥) → getD m j 0 ≡ getD m′ j 0)
       → run (stream F m′) s cs ≡ run (stream F m) s cs
   alike [] s w lo hi n g b d = refl

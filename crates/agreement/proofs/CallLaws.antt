@@ -9,10 +9,10 @@ use Rattle.agreement.specs.Format.{Format}
 use Rattle.agreement.specs.Stream.{idle, stream, onPoint, onHead}
 
 module _ (F : Format) (m : List ℕ) (n w i v : ℕ) (z : F .End) where
-  pub next-point : 0 < n → stream F m (idle n w i v z) next ≡ onPoint (n - 1) w i v z (F .point m i)
+  pub next-point : 0 < n → stream F m (idle n w i v z) next ≡ onPoint F (n - 1) w i v z (F .point m i)
   next-point h = go n h
     where
-      go : (n : ℕ) → 0 < n → stream F m (idle n w i v z) next ≡ onPoint (n - 1) w i v z (F .point m i)
+      go : (n : ℕ) → 0 < n → stream F m (idle n w i v z) next ≡ onPoint F (n - 1) w i v z (F .point m i)
       go zero h = absurd (not-suc-le-zero h)
       go (suc n) h = rw sub-one
 

@@ -10,15 +10,15 @@ use Rattle.agreement.specs.Format.{Format}
 use Rattle.agreement.specs.Stream.{StreamAnswer, State, idle, waits, onPoint, onHead, onBody, stream}
 use Rattle.agreement.specs.Declined.{isPoint, pointsDelivered}
 
-abbrev pub pointsLeft : {F : Format} → State F → ℕ
+abbrev pub pointsLeft : {E : Type 0} → State E → ℕ
 pointsLeft (idle n w i v z) = n
 pointsLeft (waits w x b z) = 0
 
 module _ (F : Format) (m : List ℕ) where
-  record Fewer (n : ℕ) (st : Step (StreamAnswer F) (State F)) : Type 0 where
+  record Fewer (n : ℕ) (st : Step (StreamAnswer F) (State (F .End))) : Type 0 where
     fewer : isPoint (st .reply .answer) + pointsLeft (st .left) ≤ n
 
-  fewer-point : (n w i v : ℕ) (z : F .End) (r : Res (F .Point)) → Fewer (suc n) (onPoint n w i v z r)
+  fewer-point : (n w i v : ℕ) (z : F .End) (r : Res (F .Point)) → Fewer (suc n) (onPoint F n w i v z r)
   fewer-point n w i v z (ok p e) = record { fewer = omega arith }
   fewer-point n w i v z (no k x) = record { fewer = omega arith }
 
@@ -37,7 +37,7 @@ module _ (F : Format) (m : List ℕ) where
   fewer-body w x b z l (ok d e) = fewer-accepted d (F .lists d) l w x b e z
   fewer-body w x b z l (no k y) = record { fewer = omega arith }
 
-  fewer : (s : State F) (c : Call) → Fewer (pointsLeft s) (stream F m s c)
+  fewer : (s : State (F .End)) (c : Call) → Fewer (pointsLeft s) (stream F m s c)
   fewer (idle (suc n) w i v z) next = fewer-point n w i v z (F .point m i)
   fewer (idle zero (suc w) i v z) next = fewer-head w i v z (F .head m v)
   fewer (idle zero zero i v z) next = record { fewer = omega arith }
@@ -47,6 +47,6 @@ module _ (F : Format) (m : List ℕ) where
   fewer (waits w x b z) (accept l) = fewer-body w x b z l (F .body m b)
   fewer (waits w x b z) decline = record { fewer = omega arith }
 
-  pub delivered-le : (cs : List Call) (s : State F) → pointsDelivered (run (stream F m) s cs) ≤ pointsLeft s
+  pub delivered-le : (cs : List Call) (s : State (F .End)) → pointsDelivered (run (stream F m) s cs) ≤ pointsLeft s
   delivered-le [] s = omega arith
   delivered-le (c ∷ cs) s = omega (arith, fewer s c .fewer, delivered-le cs (stream F m s c .left))

@@ -65,13 +65,13 @@ pub data Ways (F : Format) (m : List ℕ) : ℕ → List (Way F) → Type 0 wher
 
 module _ (F : Format) (m : List ℕ) (z : F .End) where
   -- the stream stands where these points and ways remain
-  pub data Same : State F → Remaining F → Type 0 where
+  pub data Same : State (F .End) → Remaining F → Type 0 where
     same-between : (ps : List (F .Point)) (ws : List (Way F)) (i v e : ℕ) → Chain (F .point) m i ps e → Ways F m v ws
         → Same (idle (length ps) (length ws) i v z) (between ps ws)
     same-waiting : (w : Way F) (ws : List (Way F)) (b : ℕ) → Body F m b w → Ways F m (cut (dataEnd F (w .head))) ws
         → Same (waits (length ws) (cut (dataEnd F (w .head))) b z) (waiting w ws)
 
-  pub keeps : (s : State F) (t : Remaining F) (c : Call) → Same s t → Alike Same (stream F m s c) (remaining F z t c)
+  pub keeps : (s : State (F .End)) (t : Remaining F) (c : Call) → Same s t → Alike Same (stream F m s c) (remaining F z t c)
   keeps s t next (same-between (p ∷ ps) ws i v e (link h c) x) = rw h record { reply = refl; left = same-between ps ws _ v e c x }
   keeps s t next (same-between [] (w ∷ ws) i v e c (cons h b x)) = rw h record { reply = refl; left = same-waiting w ws _ b x }
   keeps s t next (same-between [] [] i v e c x) = record { reply = refl; left = same-between [] [] i v e c x }

@@ -28,7 +28,7 @@ abbrev pub storedReplies : (F : Format) → StoredTile F → F .End → (rows : 
 storedReplies F t z rows cs = bookReplies (storedCollection F) (storedTile t z) rows cs
 
 -- a tile's stream, freshly opened
-abbrev pub freshOf : (F : Format) → StoredTile F → F .End → (rows : ℕ) → State F
+abbrev pub freshOf : (F : Format) → StoredTile F → F .End → (rows : ℕ) → State (F .End)
 freshOf F t z rows = freshStream F rows z (t .head) (t .start)
 
 -- the stream opens, and every answer and every lent list are exactly those of the book
@@ -67,7 +67,7 @@ pub record MapCollects (C : MapLayout) (m : List ℕ) (h : C .Header) (n : C .En
 abbrev pub mapReplies : (C : MapLayout) (h : C .Header) (n : C .Entry) → StoredTile (C .format h) → (zoom : ℕ) → List Call → List (Reply (StreamAnswer (C .format h)))
 mapReplies C h n t zoom cs = storedReplies (C .format h) t (C .end h n) (rowsAt C h zoom) cs
 
-abbrev pub freshTile : (C : MapLayout) (h : C .Header) (n : C .Entry) → StoredTile (C .format h) → (zoom : ℕ) → State (C .format h)
+abbrev pub freshTile : (C : MapLayout) (h : C .Header) (n : C .Entry) → StoredTile (C .format h) → (zoom : ℕ) → State (C .format h .End)
 freshTile C h n t zoom = freshOf (C .format h) t (C .end h n) (rowsAt C h zoom)
 
 -- the stream opens, and every answer and every lent list are exactly those of the book. `shown`: so they are as the stream shows

@@ -57,7 +57,7 @@ abbrev pub rowsAt : (C : MapLayout) → C .Header → (zoom : ℕ) → ℕ
 rowsAt C h zoom = rowsUpto (C .low h) (C .high h) zoom
 
 -- opening the tile's stream at a zoom, and collecting the tile, in a map that was opened with header h
-abbrev pub openTile : (C : MapLayout) (h : C .Header) → (zoom : ℕ) → List ℕ → Res (State (C .format h))
+abbrev pub openTile : (C : MapLayout) (h : C .Header) → (zoom : ℕ) → List ℕ → Res (State (C .format h .End))
 openTile C h zoom m =
     andThen (C .entry h m (C .entryAt h)) (λ n _. openStream (C .format h) (rowsAt C h zoom) (C .end h n) m (C .tileAt h n))
 
