@@ -1,15 +1,20 @@
 -- The rows of a zoom table: format document, "Tile header" ("zoom table"); document 01, blocks.rs, refusal 13, and "The stream and the
 -- collected tile" ("Zoom is clamped into the interval; rows up to it count").
 use Prim.Native.Nat.{ℕ, suc, _-_, max, min}
+use mathlib.Core.Bool.{Bool}
 use mathlib.Core.List.{List, []}
 use lib.Dec.{leb}
 use Rattle.parsing.specs.Parse.{Parser, fail, pick}
 use Rattle.parsing.specs.Good.{Good, goods, total}
-use Rattle.format.specs.Tile.{Row, zoomTable, zoomTable-good}
+use Rattle.format.specs.Tile.{Row, zoomTable, zoomTable-good, TileHead, tileHead}
 
 -- a row for each level from low to high
 unfoldable pub intervalTable : ℕ → ℕ → Parser (List Row)
 intervalTable low high = pick (leb low high) (zoomTable (suc (high - low))) (fail 13 [])
+
+-- the head of a tile of these levels; a reversed interval is refused before any byte is read
+unfoldable pub intervalHead : Bool → ℕ → ℕ → Parser TileHead
+intervalHead debug low high = pick (leb low high) (tileHead debug (suc (high - low))) (fail 13 [])
 
 -- how many rows count at a zoom
 abbrev pub rowsUpto : ℕ → ℕ → ℕ → ℕ

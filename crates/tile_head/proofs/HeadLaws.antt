@@ -1,0 +1,59 @@
+-- A tile's head, and definitions that go on from it.
+use Prim.Native.Nat.{ℕ, suc, _-_, _≤_, _<_}
+use mathlib.Core.Path.{_≡_, refl, sym, ap, _∙_}
+use mathlib.Core.Bool.{Bool}
+use mathlib.Core.List.{List, []}
+use borrow.Author.Needs.{needs}
+use borrow.Author.Tests.{le-leb, lt-leb}
+use Rattle.parsing.specs.Parse.{Res, ok, no, andThen, mapRes, Part, Maybe}
+use Rattle.parsing.proofs.Steps.{then-then}
+use Rattle.parsing.proofs.Views.{viewed, view-stop}
+use Rattle.error.specs.Refusals.{refused}
+use Rattle.error.specs.declared.Refusal.{Refusal}
+use Rattle.byte_source.proofs.ReadLaws.{taken, number-ok, number-no}
+use Rattle.format.specs.Tile as format
+use Rattle.format.specs.Tile.{Row, zoomTable, tileHead}
+use Rattle.format.specs.Rows.{intervalTable, intervalHead}
+use Rattle.types.specs.Types.{optionalSpan}
+use Rattle.types.specs.declared.OptionalSpan.{OptionalSpan}
+use Rattle.fields.proofs.FieldLaws.{optional-span-ok, optional-span-no}
+use Rattle.blocks.specs.Blocks.{zoomSums, sumsRes, sumsRefusal}
+use Rattle.blocks.specs.declared.Sums.{Sums}
+use Rattle.blocks.specs.declared.SumsRead.{SumsRead}
+use Rattle.blocks.specs.declared.SumsRead.the-variants as sums
+use Rattle.tile_head.specs.TileHead.{headAt, headRes, headRefusal}
+use Rattle.tile_head.specs.declared.TileHead.{TileHead}
+use Rattle.tile_head.specs.declared.TileHeadRead.{TileHeadRead}
+use Rattle.tile_head.specs.declared.TileHeadRead.the-variants as head
+
+pub head-refused : (g : TileHeadRead) (e : Refusal) → g ≡ head.Refused e → e ≡ headRefusal g
+head-refused g e h = taken headRefusal h refl
+
+pub ruleset refusals = (needs, head-refused)
+
+-- the zoom table of an interval that is not reversed
+module _ {B : Type 0} (m : List ℕ) (at low high zoom : ℕ) (g : SumsRead) (f : List Row → ℕ → Res B) (o : low ≤ high) (q : sumsRes g ≡ mapRes (zoomSums low high zoom) (intervalTable low high m at)) where
+  table-is : sumsRes g ≡ mapRes (zoomSums low high zoom) (zoomTable (suc (high - low)) m at)
+  unfolding intervalTable
+  table-is = q ∙ rw (le-leb low high o)
+
+  pub sums-ok : (v : Sums) (n : ℕ) (x : Res B) → g ≡ sums.Value v n → ((a : List Row) → v ≡ zoomSums low high zoom a → x ≡ f a n) → x ≡ andThen (zoomTable (suc (high - low)) m at) f
+  sums-ok v n x h p = viewed (zoomSums low high zoom) (zoomTable (suc (high - low)) m at) f (sym table-is ∙ ap sumsRes h) p
+
+  pub sums-no : (e′ e : Refusal) → g ≡ sums.Refused e → e′ ≡ sumsRefusal g → refused e′ ≡ andThen (zoomTable (suc (high - low)) m at) f
+  sums-no e′ e h p = ap refused (p ∙ ap sumsRefusal h) ∙ view-stop (zoomSums low high zoom) (zoomTable (suc (high - low)) m at) f (sym table-is ∙ ap sumsRes h)
+
+pub head-made : (s : OptionalSpan) (v : Sums) (low high zoom offset n : ℕ) (a : Maybe Part) (t : List Row) → s ≡ optionalSpan a → v ≡ zoomSums low high zoom t → _≡_ {A = Res TileHead} (ok (record { signature = s; sums = v; offset = offset }) n) (ok (headAt low high zoom (record { signature = a; table = t; offset = offset })) n)
+head-made s v low high zoom offset n a t h k = rw (h, k)
+
+-- the test of the interval comes first
+module _ (debug : Bool) (low high zoom : ℕ) (m : List ℕ) (at : ℕ) where
+  pub head-reversed : high < low → no 13 [] ≡ mapRes (headAt low high zoom) (intervalHead debug low high m at)
+  unfolding intervalHead
+  head-reversed o = rw (lt-leb low high o)
+
+  pub head-ordered : (x : Res TileHead) → low ≤ high → x ≡ mapRes (headAt low high zoom) (tileHead debug (suc (high - low)) m at) → x ≡ mapRes (headAt low high zoom) (intervalHead debug low high m at)
+  unfolding intervalHead
+  head-ordered x o e = e ∙ rw (le-leb low high o)
+
+pub ruleset heads = (needs, then-then, head-reversed, head-ordered, optional-span-ok, optional-span-no, sums-ok, sums-no, number-ok, number-no, head-made)
