@@ -139,25 +139,32 @@ fn read_poi_fields(map: &[u8], at: usize) -> PoiFieldsRead
     )
 }
 
+// What stands where there is no point.
+pub fn empty_poi() -> Poi
+    ensures { λ r. ⌜ r ≡ emptyPoi ⌝ }
+{
+    Poi {
+        signature: OptionalSpan::Absent,
+        position: Position {
+            latitude: 0.0,
+            longitude: 0.0,
+        },
+        layer: 0,
+        tag_ids: TagIds {
+            ids: [0u64; 15],
+            count: 0,
+        },
+        name: OptionalSpan::Absent,
+        house_number: OptionalSpan::Absent,
+        elevation: OptionalElevation::Absent,
+    }
+}
+
 fn refused_poi(refusal: Refusal) -> PoiRead
     ensures { λ r. ⌜ (r .poi ≡ emptyPoi) × (r .end ≡ End.Refused refusal) ⌝ }
 {
     PoiRead {
-        poi: Poi {
-            signature: OptionalSpan::Absent,
-            position: Position {
-                latitude: 0.0,
-                longitude: 0.0,
-            },
-            layer: 0,
-            tag_ids: TagIds {
-                ids: [0u64; 15],
-                count: 0,
-            },
-            name: OptionalSpan::Absent,
-            house_number: OptionalSpan::Absent,
-            elevation: OptionalElevation::Absent,
-        },
+        poi: empty_poi(),
         end: End::Refused(refusal),
     }
 }

@@ -13,13 +13,13 @@ use Rattle.byte_source.proofs.ReadLaws.{taken}
 use Rattle.format.specs.Lent.{LentLists, Reply, fits, written, needed, deliver}
 use Rattle.format.specs.WayData.{Node, wayData, concat}
 use Rattle.format.specs.Nodes.{wayLists}
-use Rattle.format.specs.Tile as format
-use Rattle.format.specs.Tile.{wayFields, dataBlockCount, doubleDelta, Body, body}
+use Rattle.format.specs.Tile.{doubleDelta, Body, body}
 use Rattle.format.specs.BodyLists.{bodyLists}
 use Rattle.way_fields.specs.WayFields.{BodyHead, bodyHead, wayFieldsOf, wayFieldsRes, wayFieldsRefusal}
 use Rattle.way_fields.specs.declared.WayFields.{WayFields}
 use Rattle.way_fields.specs.declared.WayFieldsRead.{WayFieldsRead}
 use Rattle.way_fields.specs.declared.WayFieldsRead.the-variants as fields-read
+use Rattle.way_fields.proofs.StreamLaws.{body-by-head}
 use Rattle.way_measure.specs.Answers.{waySizes, wayDataRes, wayDataRefusal}
 use Rattle.way_measure.specs.declared.Sizes.{Sizes}
 use Rattle.way_measure.specs.declared.WayDataRead.{WayDataRead}
@@ -44,18 +44,6 @@ made h d = record { fields = h .fields; dataBlocks = d }
 
 abbrev behind : BodyHead → Res Data → Res Body
 behind h r = andThen r (λ d i. ok (made h d) i)
-
-body-is : (m : List ℕ) (at : ℕ) → body m at ≡ andThen (bodyHead m at) (λ h e. behind h (wayData (h .dataBlocks) m e))
-unfolding body bodyHead
-body-is m at = go (wayFields m at)
-  where
-    counted : (f : format.WayFields) (r : Res ℕ) → andThen r (λ k y. behind (record { fields = f; dataBlocks = k }) (wayData k m y)) ≡ andThen (andThen r (λ k y. ok (record { fields = f; dataBlocks = k }) y)) (λ h e. behind h (wayData (h .dataBlocks) m e))
-    counted f (ok k y) = refl
-    counted f (no n v) = refl
-
-    go : (r : Res format.WayFields) → andThen r (λ f x. andThen (dataBlockCount (f .flags) m x) (λ k y. behind (record { fields = f; dataBlocks = k }) (wayData k m y))) ≡ andThen (andThen r (λ f x. andThen (dataBlockCount (f .flags) m x) (λ k y. ok (record { fields = f; dataBlocks = k }) y))) (λ h e. behind h (wayData (h .dataBlocks) m e))
-    go (ok f x) = counted f (dataBlockCount (f .flags) m x)
-    go (no n v) = refl
 
 -- a body whose fields are known by what is handed out of them
 record From (v : WayFields) (m : List ℕ) (n : ℕ) (r : Res Body) : Type 0 where
@@ -89,7 +77,7 @@ deliver-behind h (ok d i) l = go (wayLists (doubleDelta (h .fields)) (concat d))
 
 module _ (m : List ℕ) (at : ℕ) (g : WayFieldsRead) (q : wayFieldsRes g ≡ mapRes wayFieldsOf (bodyHead m at)) where
   no-fields : (x y : Refusal) → g ≡ fields-read.Refused x → y ≡ wayFieldsRefusal g → body m at ≡ refused y
-  no-fields x y h w = body-is m at ∙ stopped _ _ m (bodyHead m at) (sym q ∙ ap wayFieldsRes h) ∙ ap refused (sym (w ∙ ap wayFieldsRefusal h))
+  no-fields x y h w = body-by-head m at ∙ stopped _ _ m (bodyHead m at) (sym q ∙ ap wayFieldsRes h) ∙ ap refused (sym (w ∙ ap wayFieldsRefusal h))
 
   pub measure-no-fields : (x y : Refusal) → g ≡ fields-read.Refused x → y ≡ wayFieldsRefusal g → refused y ≡ mapRes bodyOf (body m at)
   measure-no-fields x y h w = rw (no-fields x y h w)
@@ -99,7 +87,7 @@ module _ (m : List ℕ) (at : ℕ) (g : WayFieldsRead) (q : wayFieldsRes g ≡ m
 
   module _ (v : WayFields) (n : ℕ) (h : g ≡ fields-read.Value v n) (w : WayDataRead) where
     body-from : From v m n (body m at)
-    body-from = rw (body-is m at) (from v m n (bodyHead m at) (sym q ∙ ap wayFieldsRes h))
+    body-from = rw (body-by-head m at) (from v m n (bodyHead m at) (sym q ∙ ap wayFieldsRes h))
 
     measured : wayDataRes w ≡ mapRes waySizes (wayData (v .«data_blocks») m n) → mapRes (bodyWith v) (wayDataRes w) ≡ mapRes bodyOf (body m at)
     measured p =
