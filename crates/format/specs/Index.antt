@@ -15,6 +15,10 @@ use Rattle.format.specs.Header.{Interval, between}
 abbrev pub answer : {A : Type 0} → A → Res A
 answer a = ok a 0
 
+-- a result without its next place
+abbrev pub answered : {A : Type 0} → Res A → Res A
+answered r = andThen r (λ a _. answer a)
+
 -- what is asked of a sub file, or the answer for a missing one
 abbrev pub inSubFile : {A : Type 0} → Maybe Interval → Res A → (Interval → Res A) → Res A
 inSubFile none r f = r

@@ -9,12 +9,15 @@ use Rattle.parsing.specs.Good.{Good, goods, total}
 use Rattle.format.specs.Tile.{Row, zoomTable, zoomTable-good, TileHead, tileHead}
 
 -- a row for each level from low to high
+abbrev pub rowsOfInterval : ℕ → ℕ → ℕ
+rowsOfInterval low high = suc (high - low)
+
 unfoldable pub intervalTable : ℕ → ℕ → Parser (List Row)
-intervalTable low high = pick (leb low high) (zoomTable (suc (high - low))) (fail 13 [])
+intervalTable low high = pick (leb low high) (zoomTable (rowsOfInterval low high)) (fail 13 [])
 
 -- the head of a tile of these levels; a reversed interval is refused before any byte is read
 unfoldable pub intervalHead : Bool → ℕ → ℕ → Parser TileHead
-intervalHead debug low high = pick (leb low high) (tileHead debug (suc (high - low))) (fail 13 [])
+intervalHead debug low high = pick (leb low high) (tileHead debug (rowsOfInterval low high)) (fail 13 [])
 
 -- how many rows count at a zoom
 abbrev pub rowsUpto : ℕ → ℕ → ℕ → ℕ

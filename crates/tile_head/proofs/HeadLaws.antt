@@ -57,3 +57,11 @@ module _ (debug : Bool) (low high zoom : ℕ) (m : List ℕ) (at : ℕ) where
   head-ordered x o e = e ∙ rw (le-leb low high o)
 
 pub ruleset heads = (needs, then-then, head-reversed, head-ordered, optional-span-ok, optional-span-no, sums-ok, sums-no, number-ok, number-no, head-made)
+
+-- a head that was read, in a definition that goes on from it
+module _ {B : Type 0} (low high zoom : ℕ) where
+  pub head-ok : (g : TileHeadRead) (v : TileHead) (n : ℕ) (r : Res format.TileHead) (f : format.TileHead → ℕ → Res B) (x : Res B) → headRes g ≡ mapRes (headAt low high zoom) r → g ≡ head.Value v n → ((a : format.TileHead) → v ≡ headAt low high zoom a → x ≡ f a n) → x ≡ andThen r f
+  head-ok g v n r f x q h p = viewed (headAt low high zoom) r f (sym q ∙ ap headRes h) p
+
+  pub head-no : (g : TileHeadRead) (e′ e : Refusal) (r : Res format.TileHead) (f : format.TileHead → ℕ → Res B) → headRes g ≡ mapRes (headAt low high zoom) r → g ≡ head.Refused e → e′ ≡ headRefusal g → refused e′ ≡ andThen r f
+  head-no g e′ e r f q h p = ap refused (p ∙ ap headRefusal h) ∙ view-stop (headAt low high zoom) r f (sym q ∙ ap headRes h)

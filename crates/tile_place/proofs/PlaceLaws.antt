@@ -1,18 +1,19 @@
 -- A tile's place, from its sub file's interval and its entry.
 use Prim.Native.Nat.{ℕ, _≤_, _<_}
-use mathlib.Core.Path.{_≡_, refl, sym, ap, _∙_}
+use mathlib.Core.Path.{_≡_, refl, sym, ap, _∙_, subst}
 use mathlib.Core.Bool.{Bool, true, false, cond}
 use mathlib.Core.List.{List, []}
 use lib.Dec.{leb}
 use borrow.Author.Needs.{needs}
-use borrow.Author.Tests.{le-leb, lt-leb}
-use Rattle.parsing.specs.Parse.{Res, ok, no, andThen, mapRes}
+use borrow.Author.Tests.{le-leb, lt-leb, leb-true}
+use Rattle.parsing.specs.Parse.{Res, ok, no, andThen, mapRes, Maybe, none, some, nth}
 use Rattle.parsing.specs.Good.{ok-val, no-ok}
 use Rattle.parsing.proofs.Steps.{then-then}
 use Rattle.error.specs.Refusals.{refused}
 use Rattle.error.specs.declared.Refusal.{Refusal}
 use Rattle.byte_source.proofs.ReadLaws.{taken}
-use Rattle.format.specs.Index.{answer, Grid, Entry, entryIn, Located, locateIn}
+use Rattle.format.specs.Header.{Interval}
+use Rattle.format.specs.Index.{answer, Grid, Entry, inSubFile, entryIn, Located, locateIn, locate}
 use Rattle.types.specs.Types.{intervalOf}
 use Rattle.types.specs.declared.ZoomInterval.{ZoomInterval}
 use Rattle.index.specs.Answers.{heldEntry, heldRes, entryRes, entryRefusal}
@@ -64,3 +65,20 @@ module _ {B : Type 0} where
   pub place-no : (g : PlaceRead) (e′ e : Refusal) (r : Res Located) (f : Located → ℕ → Res B) → placeRes g ≡ mapRes placeOf r → g ≡ place.Refused e → e′ ≡ placeRefusal g → refused e′ ≡ andThen r f
   place-no g e′ e (ok a n) f q h p = no-ok (ap placeRes (sym h) ∙ q)
   place-no g e′ e (no n w) f q h p = ap refused (p ∙ ap placeRefusal h) ∙ (let c = ap placeRes (sym h) ∙ q in cc)
+
+-- the interval of a tile that was found is not reversed
+located-in : (z : Interval) (r : Res Entry) (l : Located) (e : ℕ) → andThen r (λ n _. cond (leb (z .min) (z .max)) (answer (record { interval = z; entry = n })) (no 13 [])) ≡ ok l e → l .interval .min ≤ l .interval .max
+located-in z (no n v) l e h = no-ok h
+located-in z (ok a n) l e h = go (leb (z .min) (z .max)) refl h
+  where
+    go : (c : Bool) → leb (z .min) (z .max) ≡ c → cond c (answer (record { interval = z; entry = a })) (no 13 []) ≡ ok l e → l .interval .min ≤ l .interval .max
+    go true f h = subst (λ (y : Located). y .interval .min ≤ y .interval .max) (ok-val h) (leb-true (z .min) (z .max) f)
+    go false f h = no-ok h
+
+pub located-ordered : (d : Bool) (zs : List Interval) (s : ℕ) (grid : Grid) (tile : ℕ) (m : List ℕ) (l : Located) (e : ℕ) → locate d zs s grid tile m ≡ ok l e → l .interval .min ≤ l .interval .max
+unfolding locate locateIn
+located-ordered d zs s grid tile m l e h = go (nth zs s) h
+  where
+    go : (r : Maybe Interval) → inSubFile r (no 8 []) (λ z. andThen (entryIn d (z .start) grid tile m) (λ n _. cond (leb (z .min) (z .max)) (answer (record { interval = z; entry = n })) (no 13 []))) ≡ ok l e → l .interval .min ≤ l .interval .max
+    go none h = no-ok h
+    go (some z) h = located-in z (entryIn d (z .start) grid tile m) l e h

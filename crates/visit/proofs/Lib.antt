@@ -1,0 +1,3 @@
+pub mod NextLaws
+pub mod AcceptLaws
+pub mod OpenLaws

@@ -1,0 +1,134 @@
+-- One call of next, by what the readers answered.
+use Prim.Native.Nat.{ℕ, zero, suc, _+_, _-_, _≤_, _<_, _^_}
+use native.Mathlib.Nat.{not-suc-le-zero}
+use native.Mathlib.Omega.{arith}
+use mathlib.Core.Path.{_≡_, refl, sym, ap, _∙_, subst}
+use mathlib.Core.List.{List, []}
+use lib.Signed.{mag}
+use mir.Syntax.{w8}
+use mir.Val.{toZ, ofZ}
+use borrow.Author.Needs.{needs}
+use Rattle.parsing.specs.Parse.{Res, ok, no, mapRes}
+use Rattle.parsing.specs.Good.{ok-val, ok-at, no-ok}
+use Rattle.error.specs.Refusals as error
+use Rattle.error.specs.Refusals.{numberOf, valuesOf}
+use Rattle.error.specs.declared.Refusal.{Refusal}
+use Rattle.error.specs.declared.Refusal.the-variants.{OutOfTurn}
+use Rattle.arithmetic.specs.Cut.{cut}
+use Rattle.format.specs.Kinds.{tagKinds}
+use Rattle.format.specs.Tile.{Point, Head, Body, point, head}
+use Rattle.types.specs.Types.{endRes, endRefusal}
+use Rattle.types.specs.declared.End.{End}
+use Rattle.types.specs.declared.End.the-variants as end
+use Rattle.tag_table.specs.Tables.{tableIn}
+use Rattle.tagged.proofs.LayerLaws.{layer-bits}
+use Rattle.poi.specs.Poi.{poiOf, emptyPoi, PoiIs, streamedPoi}
+use Rattle.poi.specs.declared.Poi.{Poi}
+use Rattle.poi.specs.declared.PoiRead.{PoiRead}
+use Rattle.poi.proofs.StreamLaws.{point-streamed}
+use Rattle.way_head.specs.WayHead.{headOf, HeadIs}
+use Rattle.way_head.specs.declared.WayHead.{WayHead}
+use Rattle.way_head.specs.declared.WayHeadRead.{WayHeadRead}
+use Rattle.agreement.specs.Calls.{Answer, gotPoint, gotHead, ended, refused, Step, plain, next}
+use Rattle.agreement.specs.Stream.{State, idle, waits, stream, onPoint, onHead}
+use Rattle.agreement.specs.TileFormat as tile
+use Rattle.agreement.proofs.CallLaws.{next-point, next-head, next-end}
+use Rattle.visit.specs.Visit.{formatOf, endOf, stateOf, shownPoint, shownHead, shownStep, noHead, NextIs, streamedHead}
+use Rattle.visit.specs.declared.TileLayout.{TileLayout}
+use Rattle.visit.specs.declared.TileEnd.{TileEnd}
+use Rattle.visit.specs.declared.Remaining.{Remaining}
+use Rattle.visit.specs.declared.WaitingWay.{WaitingWay}
+use Rattle.visit.specs.declared.Turn.the-variants as turn
+use Rattle.visit.specs.declared.Stream.{Stream}
+use Rattle.visit.specs.declared.StreamedHead.{StreamedHead}
+use Rattle.visit.specs.declared.NextAnswer.the-variants as next-answer
+use Rattle.visit.specs.declared.NextStep.{NextStep}
+
+abbrev StoredStep : Type 0
+StoredStep = Step (Answer Point Head Body tile.TileEnd) (State tile.TileEnd)
+
+-- a result by its view
+record Stored {A C : Type 0} (view : A → C) (v : C) (n : ℕ) (r : Res A) : Type 0 where
+  value : A
+  shown : v ≡ view value
+  same : r ≡ ok value n
+
+stored : {A C : Type 0} (view : A → C) (v : C) (n : ℕ) (r : Res A) → ok v n ≡ mapRes view r → Stored view v n r
+stored view v n (ok a e) q = record { value = a; shown = ok-val q; same = ap (ok a) (sym (ok-at q)) }
+stored view v n (no k l) q = no-ok (sym q)
+
+stopped : {A C : Type 0} (view : A → C) (k : ℕ) (l : List ℕ) (r : Res A) → no k l ≡ mapRes view r → r ≡ no k l
+stopped view k l (ok a e) q = no-ok q
+stopped view k l (no x y) q = cc
+
+-- a step whose answer is known, and what the code makes of it
+next-same : (s t : StoredStep) (r : NextStep) → s ≡ t → NextIs (shownStep t) r → NextIs (shownStep s) r
+next-same s t r e h = subst (λ (x : StoredStep). NextIs (shownStep x) r) (sym e) h
+
+module _ (r : NextStep) (x : Refusal) (s : Stream) (a : r .answer ≡ next-answer.Refused x) (p : r .poi ≡ emptyPoi) (h : r .head ≡ noHead) (t : r .stream ≡ s) where
+  stays : NextIs (shownStep (plain (refused (numberOf x) (valuesOf x)) (stateOf s))) r
+  stays = record { answer = rw (a, t); poi = p; head = h }
+
+  module _ (l : TileLayout) (m : List ℕ) (rows : ℕ) where
+    -- a way waits
+    pub next-waits : (w : WaitingWay) → s .turn ≡ turn.Waits w → x ≡ OutOfTurn → NextIs (shownStep (stream (formatOf l rows m) m (stateOf s) next)) r
+    next-waits w e o = next-same (stream (formatOf l rows m) m (stateOf s) next) (plain (refused (numberOf x) (valuesOf x)) (stateOf s)) r (rw (e, o)) stays
+
+    module _ (q : Remaining) (z : TileEnd) (e : s ≡ record { turn = turn.Idle q; end = z }) where
+      abbrev at-rest : State tile.TileEnd
+      at-rest = idle (q .points) (q .ways) (q .at) (q .way) (endOf z)
+
+      rests : (k : StoredStep) → k ≡ plain (refused (numberOf x) (valuesOf x)) at-rest → NextIs (shownStep k) r
+      rests k w = next-same k (plain (refused (numberOf x) (valuesOf x)) (stateOf s)) r (w ∙ rw e) stays
+
+      pub no-point : (g : PoiRead) (y : Refusal) → PoiIs (point (l .debug) (tagKinds (tableIn (l .«poi_tags»)) m) m (q .at)) g → g .end ≡ end.Refused y → x ≡ endRefusal (g .end) → 0 < q .points → NextIs (shownStep (stream (formatOf l rows m) m at-rest next)) r
+      no-point g y b h w o =
+          let k = stopped poiOf (numberOf y) (valuesOf y) (point (l .debug) (tagKinds (tableIn (l .«poi_tags»)) m) m (q .at)) (ap (endRes (g .poi)) (sym h) ∙ b .answer) in
+          let v : x ≡ y = w ∙ ap endRefusal h in
+          let u : suc (q .points - 1) ≡ q .points = omega arith in
+          rests _ (next-point (formatOf l rows m) m (q .points) (q .ways) (q .at) (q .way) (endOf z) o ∙ rw (k, v, u))
+
+      pub no-way : (g : WayHeadRead) (y : Refusal) → HeadIs (head (l .debug) (tagKinds (tableIn (l .«way_tags»)) m) m (q .way)) g → g .end ≡ end.Refused y → x ≡ endRefusal (g .end) → q .points ≤ 0 → 0 < q .ways → NextIs (shownStep (stream (formatOf l rows m) m at-rest next)) r
+      no-way g y b h w i o =
+          let k = stopped headOf (numberOf y) (valuesOf y) (head (l .debug) (tagKinds (tableIn (l .«way_tags»)) m) m (q .way)) (ap (endRes (g .head)) (sym h) ∙ b .answer) in
+          let v : x ≡ y = w ∙ ap endRefusal h in
+          let u : suc (q .ways - 1) ≡ q .ways = omega arith in
+          let j : q .points ≡ 0 = omega arith in
+          rests _ (next-head (formatOf l rows m) m (q .points) (q .ways) (q .at) (q .way) (endOf z) i o ∙ rw (k, v, u, j))
+
+module _ (l : TileLayout) (m : List ℕ) (rows : ℕ) (q : Remaining) (z : TileEnd) where
+  abbrev step : StoredStep
+  step = stream (formatOf l rows m) m (idle (q .points) (q .ways) (q .at) (q .way) (endOf z)) next
+
+  pub a-point : (g : PoiRead) (n : ℕ) (p : Poi) (h : StreamedHead) → PoiIs (point (l .debug) (tagKinds (tableIn (l .«poi_tags»)) m) m (q .at)) g → g .end ≡ end.At n → p ≡ streamedPoi m (g .poi) → h ≡ noHead → 0 < q .points
+      → NextIs (shownStep step) (record { answer = next-answer.Point; poi = p; head = h; stream = record { turn = turn.Idle (record { points = q .points - 1; ways = q .ways; at = n; way = q .way }); end = z } })
+  a-point g n p h b e u k o =
+      let s = stored poiOf (g .poi) n (point (l .debug) (tagKinds (tableIn (l .«poi_tags»)) m) m (q .at)) (ap (endRes (g .poi)) (sym e) ∙ b .answer) in
+      let v : p ≡ shownPoint (s .value) = u ∙ ap (streamedPoi m) (s .shown) ∙ point-streamed m (l .debug) (tagKinds (tableIn (l .«poi_tags»)) m) (q .at) (s .value) n (s .same) in
+      next-same step (plain (gotPoint (s .value)) (idle (q .points - 1) (q .ways) n (q .way) (endOf z))) _
+      (next-point (formatOf l rows m) m (q .points) (q .ways) (q .at) (q .way) (endOf z) o ∙ ap (onPoint (formatOf l rows m) (q .points - 1) (q .ways) (q .at) (q .way) (endOf z)) (s .same))
+      (record { answer = rw v; poi = v; head = k })
+
+  pub a-way : (g : WayHeadRead) (n past : ℕ) (p : Poi) (h : StreamedHead) → HeadIs (head (l .debug) (tagKinds (tableIn (l .«way_tags»)) m) m (q .way)) g → g .end ≡ end.At n → past ≡ cut (g .head .start + g .head .size) → p ≡ emptyPoi → h ≡ streamedHead (g .head) → q .points ≤ 0 → 0 < q .ways
+      → NextIs (shownStep step) (record { answer = next-answer.Way; poi = p; head = h; stream = record { turn = turn.Waits (record { ways = q .ways - 1; past = past; body = n }); end = z } })
+  a-way g n past p h b e x k u i o =
+      let s = stored headOf (g .head) n (head (l .debug) (tagKinds (tableIn (l .«way_tags»)) m) m (q .way)) (ap (endRes (g .head)) (sym e) ∙ b .answer) in
+      let v : h ≡ shownHead (s .value) = u ∙ ap streamedHead (s .shown) in
+      let y : past ≡ cut (s .value .start + s .value .size) = x ∙ ap (λ (w : WayHead). cut (w .start + w .size)) (s .shown) in
+      next-same step (plain (gotHead (s .value)) (waits (q .ways - 1) (cut (s .value .start + s .value .size)) n (endOf z))) _
+      (next-head (formatOf l rows m) m (q .points) (q .ways) (q .at) (q .way) (endOf z) i o ∙ ap (onHead (formatOf l rows m) (q .ways - 1) (q .at) (q .way) (endOf z)) (s .same))
+      (record { answer = rw (v, y); poi = k; head = v })
+
+  pub the-end : (p : Poi) (h : StreamedHead) → p ≡ emptyPoi → h ≡ noHead → q .points ≤ 0 → q .ways ≤ 0 → NextIs (shownStep step) (record { answer = next-answer.End z; poi = p; head = h; stream = record { turn = turn.Idle q; end = z } })
+  the-end p h k v i j =
+      let a : q .points ≡ 0 = omega arith in
+      let b : q .ways ≡ 0 = omega arith in
+      next-same step (plain (ended (endOf z)) (idle 0 0 (q .at) (q .way) (endOf z))) _
+      (next-end (formatOf l rows m) m (q .points) (q .ways) (q .at) (q .way) (endOf z) i j)
+      (record { answer = rw (a, b); poi = k; head = v })
+
+-- while no way waits
+pub next-idle : (l : TileLayout) (m : List ℕ) (rows : ℕ) (s : Stream) (q : Remaining) (r : NextStep) → s .turn ≡ turn.Idle q → ((k : ℕ) → NextIs (shownStep (stream (formatOf l k m) m (idle (q .points) (q .ways) (q .at) (q .way) (endOf (s .end))) next)) r) → NextIs (shownStep (stream (formatOf l rows m) m (stateOf s) next)) r
+next-idle l m rows s q r e h = rw e (h rows)
+
+pub ruleset steps = (needs, next-waits, no-point, no-way, a-point, a-way, the-end, next-idle)

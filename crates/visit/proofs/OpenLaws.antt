@@ -1,0 +1,80 @@
+-- Opening, by what the readers answered.
+use Prim.Native.Nat.{ℕ, _+_, _^_, _≤_, _<_}
+use mathlib.Core.Path.{_≡_, refl, sym, ap, _∙_}
+use mathlib.Core.Bool.{Bool}
+use mathlib.Core.List.{List, []}
+use lib.ListN.{length}
+use borrow.Author.Needs.{needs}
+use borrow.Author.Tests.{le-leb}
+use Rattle.parsing.specs.Parse.{Res, ok, no, andThen, mapRes}
+use Rattle.parsing.specs.Good.{ok-val, no-ok}
+use Rattle.error.specs.Refusals.{refused}
+use Rattle.error.specs.declared.Refusal.{Refusal}
+use Rattle.arithmetic.specs.Cut.{cut}
+use Rattle.arithmetic.proofs.CutLaws.{at-cut}
+use Rattle.format.specs.Index.{answer, answered, Grid, Located, locate}
+use Rattle.format.specs.Rows.{rowsOfInterval, rowsUpto, intervalHead}
+use Rattle.format.specs.Tile as format
+use Rattle.format.specs.Tile.{tileHead}
+use Rattle.types.specs.Types.{intervalsOf, debugOf}
+use Rattle.types.specs.declared.MapHeader.{MapHeader}
+use Rattle.tile_head.specs.TileHead.{headAt}
+use Rattle.tile_head.specs.declared.TileHead.{TileHead}
+use Rattle.tile_head.proofs.HeadLaws.{head-ok, head-no}
+use Rattle.tile_place.specs.Places.{placeOf, placeRes, placeRefusal}
+use Rattle.tile_place.specs.declared.TilePlace.{TilePlace}
+use Rattle.tile_place.specs.declared.PlaceRead.{PlaceRead}
+use Rattle.tile_place.specs.declared.PlaceRead.the-variants as place
+use Rattle.tile_place.proofs.PlaceLaws.{located-ordered}
+use Rattle.agreement.specs.Stream.{State, openStream, freshStream}
+use Rattle.agreement.specs.TileFormat as tile
+use Rattle.agreement.proofs.TileFormatLaws.{tileHead-end}
+use Rattle.visit.specs.Visit.{layoutOf, formatOf, stateOf, openTile, openRes, freshAt, openedAt}
+use Rattle.visit.specs.declared.Stream.{Stream}
+use Rattle.visit.specs.declared.OpenRead.{OpenRead}
+use Rattle.visit.specs.declared.Turn.the-variants as turn
+
+pub fresh-made : (s zoom : ℕ) (p : TilePlace) (h : TileHead) (n way : ℕ) (a : format.TileHead) → way ≡ cut (n + h .offset) → h ≡ headAt (p .«min_zoom») (p .«max_zoom») zoom a
+    → _≡_ {A = Res (State tile.TileEnd)} (ok (stateOf (record { turn = turn.Idle (record { points = h .sums .points; ways = h .sums .ways; at = n; way = way }); end = record { «sub_file» = s; «is_water» = p .«is_water» } })) 0) (ok (freshAt s zoom p a n) 0)
+fresh-made s zoom p h n way a w q = rw (w, q)
+
+pub ruleset heads = (needs, head-ok, head-no, fresh-made)
+
+-- a stream at a tile's place as the code holds it is the machine's
+module _ (h : MapHeader) (s : ℕ) (zoom : ℕ) (m : List ℕ) (small : length m < 2 ^ 64) where
+  abbrev opened : Located → Res (State tile.TileEnd)
+  opened l =
+      answered (openStream (formatOf (layoutOf h) (rowsOfInterval (l .interval .min) (l .interval .max)) m)
+      (rowsUpto (l .interval .min) (l .interval .max) zoom) (record { subFile = s; water = l .entry .water }) m (l .entry .absolute))
+
+  opened-is : (l : Located) → l .interval .min ≤ l .interval .max → openedAt (debugOf h) s zoom (placeOf l) m ≡ opened l
+  unfolding intervalHead
+  opened-is l o =
+      rw (le-leb (l .interval .min) (l .interval .max) o, at-cut (tileHead-end (debugOf h) (rowsOfInterval (l .interval .min) (l .interval .max))) m (l .entry .absolute) small)
+      (go (tileHead (debugOf h) (rowsOfInterval (l .interval .min) (l .interval .max)) m (l .entry .absolute)))
+    where
+      go : (r : Res format.TileHead) → andThen r (λ a e. answer (freshAt s zoom (placeOf l) a e))
+          ≡ answered (andThen r (λ a e. ok (freshStream (formatOf (layoutOf h) (rowsOfInterval (l .interval .min) (l .interval .max)) m) (rowsUpto (l .interval .min) (l .interval .max) zoom) (record { subFile = s; water = l .entry .water }) a e) e))
+      go (ok a e) = refl
+      go (no k v) = refl
+
+  module _ (g : PlaceRead) (grid : Grid) (number : ℕ) (q : placeRes g ≡ mapRes placeOf (locate (debugOf h) (intervalsOf h) s grid number m)) where
+    pub open-no : (x y : Refusal) → g ≡ place.Refused x → y ≡ placeRefusal g → refused y ≡ openTile h s grid number zoom m
+    unfolding openTile
+    open-no x y e w = ap refused (w ∙ ap placeRefusal e) ∙ go (locate (debugOf h) (intervalsOf h) s grid number m) (ap placeRes (sym e) ∙ q)
+      where
+        go : (r : Res Located) → refused x ≡ mapRes placeOf r → refused x ≡ andThen r (λ l _. opened l)
+        go (ok l e) d = no-ok d
+        go (no k v) d = cc
+
+    pub open-at : (p : TilePlace) (r : OpenRead) → g ≡ place.At p → openRes r ≡ openedAt (debugOf h) s zoom p m → openRes r ≡ openTile h s grid number zoom m
+    unfolding openTile
+    open-at p r e w = go (locate (debugOf h) (intervalsOf h) s grid number m) refl (ap placeRes (sym e) ∙ q)
+      where
+        go : (k : Res Located) → locate (debugOf h) (intervalsOf h) s grid number m ≡ k → ok p 0 ≡ mapRes placeOf k → openRes r ≡ andThen k (λ l _. opened l)
+        go (ok l e) f d =
+            w ∙ ap (λ x. openedAt (debugOf h) s zoom x m) (ok-val d)
+            ∙ opened-is l (located-ordered (debugOf h) (intervalsOf h) s grid number m l e f)
+        go (no k v) f d = no-ok (sym d)
+
+pub ruleset opens = (needs, open-no, open-at)

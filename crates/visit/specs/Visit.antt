@@ -1,0 +1,183 @@
+-- The stream as the code holds it, and its answers (document 01, visit.rs and "The stream and the collected tile"). The machine is
+-- `stream` of crate agreement; what it answers is stored features, and here is what is shown of them.
+use Prim.Native.Nat.{ℕ, _+_}
+use mathlib.Core.Bool.{Bool}
+use mathlib.Core.Path.{_≡_}
+use mathlib.Core.List.{List}
+use lib.Ieee.{Float}
+use lib.ListN.{take}
+use Rattle.parsing.specs.Parse.{Res, andThen}
+use Rattle.error.specs.Refusals as error
+use Rattle.error.specs.Refusals.{numberOf, valuesOf}
+use Rattle.arithmetic.specs.Cut.{cut}
+use Rattle.format.specs.Kinds.{tagKinds}
+use Rattle.format.specs.Index.{answer, answered, Grid, locate}
+use Rattle.format.specs.Rows.{rowsOfInterval, rowsUpto, intervalHead, pointsOf, waysOf}
+use Rattle.format.specs.Streamed.{streamedPoint, streamedFields}
+use Rattle.format.specs.Tile.{TileHead, Point, Head, Body}
+use Rattle.types.specs.Types.{intervalsOf, debugOf}
+use Rattle.types.specs.declared.MapHeader.{MapHeader}
+use Rattle.tag_table.specs.Tables.{tableIn}
+use Rattle.tagged.specs.TagIds.{tagIds, noTags}
+use Rattle.fields.specs.Fields.{streamedSpan}
+use Rattle.poi.specs.Poi.{poiOf, emptyPoi}
+use Rattle.poi.specs.declared.Poi.{Poi}
+use Rattle.tile_place.specs.declared.TilePlace.{TilePlace}
+use Rattle.way.specs.Way.{bodyOf}
+use Rattle.way.specs.declared.WayBody.{WayBody}
+use Rattle.way_data.specs.Reply.{lent}
+use Rattle.way_head.specs.declared.WayHead.{WayHead}
+use Rattle.agreement.specs.Calls.{Answer, gotPoint, gotHead, gotBody, declined, ended, refused, Step, plain, lending, mapAnswer}
+use Rattle.agreement.specs.Format.{Format}
+use Rattle.agreement.specs.Stream.{State, idle, waits, openStream}
+use Rattle.agreement.specs.TileFormat as tile
+use Rattle.agreement.specs.TileFormat.{tileFormat}
+use Rattle.visit.specs.declared.TileLayout.{TileLayout}
+use Rattle.visit.specs.declared.TileEnd.{TileEnd}
+use Rattle.visit.specs.declared.Turn.{Turn}
+use Rattle.visit.specs.declared.Turn.the-variants as turn
+use Rattle.visit.specs.declared.Stream.{Stream}
+use Rattle.visit.specs.declared.OpenRead.{OpenRead}
+use Rattle.visit.specs.declared.OpenRead.the-variants as open-read
+use Rattle.visit.specs.declared.StreamedHead.{StreamedHead}
+use Rattle.visit.specs.declared.StreamedBody.{StreamedBody}
+use Rattle.visit.specs.declared.NextAnswer.{NextAnswer}
+use Rattle.visit.specs.declared.NextAnswer.the-variants as next-answer
+use Rattle.visit.specs.declared.NextStep.{NextStep}
+use Rattle.visit.specs.declared.AcceptAnswer.{AcceptAnswer}
+use Rattle.visit.specs.declared.AcceptAnswer.the-variants as accept-answer
+use Rattle.visit.specs.declared.Accepted.{Accepted}
+use Rattle.visit.specs.declared.DeclineAnswer.{DeclineAnswer}
+use Rattle.visit.specs.declared.DeclineAnswer.the-variants as decline-answer
+use Rattle.visit.specs.declared.Declined.{Declined}
+
+-- what a tile's features need of the header
+abbrev pub layoutOf : MapHeader → TileLayout
+layoutOf h = record { debug = debugOf h; «poi_tags» = h .«poi_tags»; «way_tags» = h .«way_tags» }
+
+-- the format of a tile with so many rows in its zoom table
+abbrev pub formatOf : TileLayout → (rows : ℕ) → List ℕ → Format
+formatOf l rows m = tileFormat (l .debug) rows (tagKinds (tableIn (l .«poi_tags»)) m) (tagKinds (tableIn (l .«way_tags»)) m)
+
+-- the state
+abbrev pub endOf : TileEnd → tile.TileEnd
+endOf z = record { subFile = z .«sub_file»; water = z .«is_water» }
+
+abbrev pub turnState : Turn → tile.TileEnd → State tile.TileEnd
+turnState (turn.Idle r) z = idle (r .points) (r .ways) (r .at) (r .way) z
+turnState (turn.Waits w) z = waits (w .ways) (w .past) (w .body) z
+
+abbrev pub stateOf : Stream → State tile.TileEnd
+stateOf s = turnState (s .turn) (endOf (s .end))
+
+-- opening: sub file (8), grid (14), tile (8), entry (1), interval (13), then the tile's head
+unfoldable pub openTile : MapHeader → (subFile : ℕ) → Grid → (number zoom : ℕ) → List ℕ → Res (State tile.TileEnd)
+openTile h s g t zoom m =
+    andThen (locate (debugOf h) (intervalsOf h) s g t m) (λ l _.
+    answered (openStream (formatOf (layoutOf h) (rowsOfInterval (l .interval .min) (l .interval .max)) m)
+    (rowsUpto (l .interval .min) (l .interval .max) zoom) (record { subFile = s; water = l .entry .water }) m (l .entry .absolute)))
+
+abbrev pub openRes : OpenRead → Res (State tile.TileEnd)
+openRes (open-read.Stream s) = answer (stateOf s)
+openRes (open-read.Refused r) = error.refused r
+
+-- what is shown of a feature: no signature, no delta form, and each text that is not valid UTF-8 is empty
+abbrev pub shownPoint : Point → Poi
+shownPoint p = poiOf (streamedPoint p)
+
+abbrev pub shownHead : Head → StreamedHead
+shownHead h = record { bitmap = h .bitmap; layer = h .tagged .layer; «tag_ids» = tagIds (h .tagged .ids) }
+
+abbrev pub bodyShown : WayBody → StreamedBody
+bodyShown b = record {
+  name = b .name;
+  «house_number» = b .«house_number»;
+  reference = b .reference;
+  «label_position» = b .«label_position»;
+  blocks = b .blocks;
+  nodes = b .nodes;
+}
+
+abbrev pub shownBody : Body → StreamedBody
+shownBody b = bodyShown (bodyOf (record { fields = streamedFields (b .fields); dataBlocks = b .dataBlocks }))
+
+abbrev pub ShownAnswer : Type 0
+ShownAnswer = Answer Poi StreamedHead StreamedBody tile.TileEnd
+
+abbrev pub shown : Answer Point Head Body tile.TileEnd → ShownAnswer
+shown a = mapAnswer shownPoint shownHead shownBody (λ z. z) a
+
+abbrev pub shownStep : {S : Type 0} → Step (Answer Point Head Body tile.TileEnd) S → Step ShownAnswer S
+shownStep s = record { reply = record { answer = shown (s .reply .answer); lists = s .reply .lists }; left = s .left }
+
+-- where there is no way
+abbrev pub noHead : StreamedHead
+noHead = record { bitmap = 0; layer = noTags .layer; «tag_ids» = noTags .ids }
+
+-- next: the point and the head stand beside the answer (an enum holds no array), and are empty where it is none
+abbrev pub nextAnswer : NextAnswer → Poi → StreamedHead → ShownAnswer
+nextAnswer next-answer.Point p h = gotPoint p
+nextAnswer next-answer.Way p h = gotHead h
+nextAnswer (next-answer.End z) p h = ended (endOf z)
+nextAnswer (next-answer.Refused r) p h = refused (numberOf r) (valuesOf r)
+
+abbrev pub poiIn : ShownAnswer → Poi
+poiIn (gotPoint p) = p
+poiIn (gotHead h) = emptyPoi
+poiIn (gotBody b) = emptyPoi
+poiIn declined = emptyPoi
+poiIn (ended z) = emptyPoi
+poiIn (refused n v) = emptyPoi
+
+abbrev pub headIn : ShownAnswer → StreamedHead
+headIn (gotPoint p) = noHead
+headIn (gotHead h) = h
+headIn (gotBody b) = noHead
+headIn declined = noHead
+headIn (ended z) = noHead
+headIn (refused n v) = noHead
+
+pub record NextIs (step : Step ShownAnswer (State tile.TileEnd)) (r : NextStep) : Type 0 where
+  pub answer : plain (nextAnswer (r .answer) (r .poi) (r .head)) (stateOf (r .stream)) ≡ step
+  pub poi : r .poi ≡ poiIn (step .reply .answer)
+  pub head : r .head ≡ headIn (step .reply .answer)
+
+-- accept, with the lists after the call
+abbrev pub acceptAnswer : AcceptAnswer → ShownAnswer
+acceptAnswer (accept-answer.Body b) = gotBody b
+acceptAnswer (accept-answer.Refused r) = refused (numberOf r) (valuesOf r)
+
+abbrev pub acceptStep : Accepted → List ℕ → List Float → List Float → Step ShownAnswer (State tile.TileEnd)
+acceptStep r counts lats lons = lending (acceptAnswer (r .answer)) (lent counts lats lons) (stateOf (r .stream))
+
+-- what is streamed of a body that is handed out with raw texts
+abbrev pub streamedBody : List ℕ → WayBody → StreamedBody
+streamedBody m b = record {
+  name = streamedSpan m (b .name);
+  «house_number» = streamedSpan m (b .«house_number»);
+  reference = streamedSpan m (b .reference);
+  «label_position» = b .«label_position»;
+  blocks = b .blocks;
+  nodes = b .nodes;
+}
+
+abbrev pub streamedHead : WayHead → StreamedHead
+streamedHead h = record { bitmap = h .bitmap; layer = h .layer; «tag_ids» = h .«tag_ids» }
+
+-- decline
+abbrev pub declineAnswer : DeclineAnswer → ShownAnswer
+declineAnswer decline-answer.Declined = declined
+declineAnswer (decline-answer.Refused r) = refused (numberOf r) (valuesOf r)
+
+abbrev pub declineStep : Declined → Step ShownAnswer (State tile.TileEnd)
+declineStep r = plain (declineAnswer (r .answer)) (stateOf (r .stream))
+
+-- opening, from a tile's place on
+abbrev pub freshAt : (subFile zoom : ℕ) → TilePlace → TileHead → ℕ → State tile.TileEnd
+freshAt s zoom p h e =
+    idle (cut (pointsOf (take (rowsUpto (p .«min_zoom») (p .«max_zoom») zoom) (h .table))))
+    (cut (waysOf (take (rowsUpto (p .«min_zoom») (p .«max_zoom») zoom) (h .table)))) e (cut (e + h .offset))
+    (record { subFile = s; water = p .«is_water» })
+
+abbrev pub openedAt : Bool → (subFile zoom : ℕ) → TilePlace → List ℕ → Res (State tile.TileEnd)
+openedAt debug s zoom p m = andThen (intervalHead debug (p .«min_zoom») (p .«max_zoom») m (p .at)) (λ h e. answer (freshAt s zoom p h e))

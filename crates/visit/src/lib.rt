@@ -1,0 +1,386 @@
+// visit.rs: a tile's stream, as a chain of calls. Each call takes the stream that the last one left and gives it back; a refused call
+// gives it back as it was.
+use error::Refusal;
+use poi::Poi;
+use tagged::TagIds;
+use tile_head::TileHeadRead;
+use tile_place::PlaceRead;
+use tile_place::TilePlace;
+use types::End;
+use types::Grid;
+use types::MapHeader;
+use types::OptionalPosition;
+use types::OptionalSpan;
+use types::TagTable;
+use way::WayBody;
+use way::WayBodyRead;
+use way_head::WayHead;
+ghost use mathlib.Core.Path.{_≡_};
+ghost use mathlib.Core.List.{List};
+ghost use Prim.Native.Nat.{ℕ, _≤_, _<_};
+ghost use Rattle.types.specs.Types.{gridOf};
+ghost use Rattle.poi.specs.Poi.{emptyPoi};
+ghost use Rattle.way_data.specs.Reply.{lent};
+ghost use Rattle.agreement.specs.Calls.{next as nextCall, accept as acceptCall, decline as declineCall};
+ghost use Rattle.agreement.specs.Stream.{idle, stream as machine};
+ghost use Rattle.visit.specs.Visit.{layoutOf, formatOf, endOf, stateOf, openTile, openedAt, openRes, shownStep, noHead, NextIs, acceptStep, streamedBody, streamedHead, declineStep};
+
+// What a tile's features need of the header: it is passed at each call, since the header is 6 KB.
+pub struct TileLayout {
+    pub debug: bool,
+    pub poi_tags: TagTable,
+    pub way_tags: TagTable,
+}
+
+// What the stream's end says.
+pub struct TileEnd {
+    pub sub_file: usize,
+    pub is_water: bool,
+}
+
+// The points and ways that remain, and the places of the next point and the next way.
+pub struct Remaining {
+    pub points: u64,
+    pub ways: u64,
+    pub at: usize,
+    pub way: usize,
+}
+
+// The ways that remain behind the one that waits, where declining it goes, and where its body starts.
+pub struct WaitingWay {
+    pub ways: u64,
+    pub past: usize,
+    pub body: usize,
+}
+
+pub enum Turn {
+    Idle(Remaining),
+    Waits(WaitingWay),
+}
+
+pub struct Stream {
+    pub turn: Turn,
+    pub end: TileEnd,
+}
+
+pub enum OpenRead {
+    Stream(Stream),
+    Refused(Refusal),
+}
+
+pub struct StreamedHead {
+    pub bitmap: u16,
+    pub layer: i8,
+    pub tag_ids: TagIds,
+}
+
+// `blocks` node counts and `nodes` latitudes and longitudes went to the lists.
+pub struct StreamedBody {
+    pub name: OptionalSpan,
+    pub house_number: OptionalSpan,
+    pub reference: OptionalSpan,
+    pub label_position: OptionalPosition,
+    pub blocks: u64,
+    pub nodes: u64,
+}
+
+pub enum NextAnswer {
+    Point,
+    Way,
+    End(TileEnd),
+    Refused(Refusal),
+}
+
+// `poi` is the point and `head` the way's head, where that is the answer; else they are empty.
+pub struct NextStep {
+    pub answer: NextAnswer,
+    pub poi: Poi,
+    pub head: StreamedHead,
+    pub stream: Stream,
+}
+
+pub enum AcceptAnswer {
+    Body(StreamedBody),
+    Refused(Refusal),
+}
+
+pub struct Accepted {
+    pub answer: AcceptAnswer,
+    pub stream: Stream,
+}
+
+pub enum DeclineAnswer {
+    Declined,
+    Refused(Refusal),
+}
+
+pub struct Declined {
+    pub answer: DeclineAnswer,
+    pub stream: Stream,
+}
+
+pub fn layout_of(header: MapHeader) -> TileLayout
+    ensures { λ r. ⌜ r ≡ layoutOf header ⌝ }
+{
+    let poi_tags = header.poi_tags;
+    let way_tags = header.way_tags;
+    TileLayout {
+        debug: header.flags / 128 % 2 == 1,
+        poi_tags,
+        way_tags,
+    }
+}
+
+fn refused_next(refusal: Refusal, stream: Stream) -> NextStep
+    ensures { λ r. ⌜ (r .answer ≡ NextAnswer.Refused refusal) × (r .poi ≡ emptyPoi) × (r .head ≡ noHead) × (r .stream ≡ stream) ⌝ }
+{
+    NextStep {
+        answer: NextAnswer::Refused(refusal),
+        poi: poi::empty_poi(),
+        head: no_head(),
+        stream,
+    }
+}
+
+fn no_head() -> StreamedHead
+    ensures { λ r. ⌜ r ≡ noHead ⌝ }
+{
+    StreamedHead {
+        bitmap: 0,
+        layer: 0,
+        tag_ids: TagIds {
+            ids: [0u64; 15],
+            count: 0,
+        },
+    }
+}
+
+fn streamed_head(head: WayHead) -> StreamedHead
+    ensures { λ r. ⌜ r ≡ streamedHead head ⌝ }
+{
+    let tag_ids = head.tag_ids;
+    StreamedHead {
+        bitmap: head.bitmap,
+        layer: head.layer,
+        tag_ids,
+    }
+}
+
+fn streamed_body(map: &[u8], body: WayBody) -> StreamedBody
+    ensures { λ r. ⌜ r ≡ streamedBody (now (map .entry)) body ⌝ }
+{
+    let stored = body.name;
+    let name = fields::streamed_span(map, stored);
+    let stored = body.house_number;
+    let house_number = fields::streamed_span(map, stored);
+    let stored = body.reference;
+    let reference = fields::streamed_span(map, stored);
+    let label_position = body.label_position;
+    StreamedBody {
+        name,
+        house_number,
+        reference,
+        label_position,
+        blocks: body.blocks,
+        nodes: body.nodes,
+    }
+}
+
+fn next_point(map: &[u8], layout: TileLayout, rest: Remaining, end: TileEnd) -> NextStep
+    requires { ⌜ 0 < rest .points ⌝ }
+    ensures { λ r. ⌜ ((rows : ℕ) → NextIs (shownStep (machine (formatOf layout rows (now (map .entry))) (now (map .entry)) (idle (rest .points) (rest .ways) (rest .at) (rest .way) (endOf end)) nextCall)) r) ⌝ }
+{
+    let table = layout.poi_tags;
+    let got = poi::read_poi(map, rest.at, layout.debug, table);
+    let ending = got.end;
+    let End::At(at) = ending else {
+        let turn = Turn::Idle(rest);
+        return refused_next(types::end_refusal(ending), Stream { turn, end });
+    };
+    let stored = got.poi;
+    let turn = Turn::Idle(Remaining {
+        points: rest.points - 1,
+        ways: rest.ways,
+        at,
+        way: rest.way,
+    });
+    NextStep {
+        answer: NextAnswer::Point,
+        poi: poi::streamed_poi(map, stored),
+        head: no_head(),
+        stream: Stream { turn, end },
+    }
+}
+
+fn next_way(map: &[u8], layout: TileLayout, rest: Remaining, end: TileEnd) -> NextStep
+    requires { ⌜ (rest .points ≤ 0) × (0 < rest .ways) ⌝ }
+    ensures { λ r. ⌜ ((rows : ℕ) → NextIs (shownStep (machine (formatOf layout rows (now (map .entry))) (now (map .entry)) (idle (rest .points) (rest .ways) (rest .at) (rest .way) (endOf end)) nextCall)) r) ⌝ }
+{
+    let table = layout.way_tags;
+    let got = way_head::read_way_head(map, rest.way, layout.debug, table);
+    let ending = got.end;
+    let End::At(body) = ending else {
+        let turn = Turn::Idle(rest);
+        return refused_next(types::end_refusal(ending), Stream { turn, end });
+    };
+    let head = got.head;
+    let past = arithmetic::saturating_add_usize(head.start, head.size as usize);
+    let turn = Turn::Waits(WaitingWay {
+        ways: rest.ways - 1,
+        past,
+        body,
+    });
+    NextStep {
+        answer: NextAnswer::Way,
+        poi: poi::empty_poi(),
+        head: streamed_head(head),
+        stream: Stream { turn, end },
+    }
+}
+
+// While no way waits: a point, then a way's head, at last the end.
+fn next_idle(map: &[u8], layout: TileLayout, rest: Remaining, end: TileEnd) -> NextStep
+    ensures { λ r. ⌜ ((rows : ℕ) → NextIs (shownStep (machine (formatOf layout rows (now (map .entry))) (now (map .entry)) (idle (rest .points) (rest .ways) (rest .at) (rest .way) (endOf end)) nextCall)) r) ⌝ }
+{
+    if 0 < rest.points {
+        return next_point(map, layout, rest, end);
+    }
+    if 0 < rest.ways {
+        return next_way(map, layout, rest, end);
+    }
+    let turn = Turn::Idle(rest);
+    NextStep {
+        answer: NextAnswer::End(end),
+        poi: poi::empty_poi(),
+        head: no_head(),
+        stream: Stream { turn, end },
+    }
+}
+
+// The next point; after the last point the next way's head, which then waits; at last the end, again and again. 16 while a way waits.
+pub fn next(map: &[u8], layout: TileLayout, stream: Stream) -> NextStep
+    ensures { λ r. ⌜ ((rows : ℕ) → NextIs (shownStep (machine (formatOf layout rows (now (map .entry))) (now (map .entry)) (stateOf «stream») nextCall)) r) ⌝ }
+{
+    let turn = stream.turn;
+    let Turn::Idle(rest) = turn else {
+        return refused_next(Refusal::OutOfTurn, stream);
+    };
+    let end = stream.end;
+    next_idle(map, layout, rest, end)
+}
+
+fn refused_accept(refusal: Refusal, stream: Stream) -> Accepted
+    ensures { λ r. ⌜ (r .answer ≡ AcceptAnswer.Refused refusal) × (r .stream ≡ stream) ⌝ }
+{
+    Accepted {
+        answer: AcceptAnswer::Refused(refusal),
+        stream,
+    }
+}
+
+// The body of the waiting way, decoded whole; then its node counts, latitudes and longitudes go to the fronts of the lists. 16 while no
+// way waits; a refused accept leaves the way waiting and the lists alone.
+pub fn accept(
+    map: &[u8],
+    stream: Stream,
+    node_counts: &mut [u64],
+    latitudes: &mut [f64],
+    longitudes: &mut [f64],
+) -> Accepted
+    ensures { λ r. ⌜ ((layout : TileLayout) (rows : ℕ) → acceptStep r (now («node_counts» .exit)) (now (latitudes .exit)) (now (longitudes .exit)) ≡ shownStep (machine (formatOf layout rows (now (map .entry))) (now (map .entry)) (stateOf «stream») (acceptCall (lent (now («node_counts» .entry)) (now (latitudes .entry)) (now (longitudes .entry)))))) ⌝ }
+{
+    let turn = stream.turn;
+    let Turn::Waits(way) = turn else {
+        return refused_accept(Refusal::OutOfTurn, stream);
+    };
+    let got = way::read_way_body(map, way.body, node_counts, latitudes, longitudes);
+    let WayBodyRead::Value(stored, at) = got else {
+        return refused_accept(way::way_body_refusal(got), stream);
+    };
+    let turn = Turn::Idle(Remaining {
+        points: 0,
+        ways: way.ways,
+        at,
+        way: at,
+    });
+    let end = stream.end;
+    let body = streamed_body(map, stored);
+    Accepted {
+        answer: AcceptAnswer::Body(body),
+        stream: Stream { turn, end },
+    }
+}
+
+// Goes to the waiting way's data start plus stored size. 16 while no way waits.
+pub fn decline(stream: Stream) -> Declined
+    ensures { λ r. ⌜ ((layout : TileLayout) (rows : ℕ) (m : List ℕ) → declineStep r ≡ shownStep (machine (formatOf layout rows m) m (stateOf «stream») declineCall)) ⌝ }
+{
+    let turn = stream.turn;
+    let Turn::Waits(way) = turn else {
+        return Declined {
+            answer: DeclineAnswer::Refused(Refusal::OutOfTurn),
+            stream,
+        };
+    };
+    let turn = Turn::Idle(Remaining {
+        points: 0,
+        ways: way.ways,
+        at: way.past,
+        way: way.past,
+    });
+    let end = stream.end;
+    Declined {
+        answer: DeclineAnswer::Declined,
+        stream: Stream { turn, end },
+    }
+}
+
+// The stream of a tile whose place is known.
+fn open_at(map: &[u8], place: TilePlace, debug: bool, sub_file: usize, zoom: u8) -> OpenRead
+    ensures { λ r. ⌜ openRes r ≡ openedAt debug «sub_file» zoom place (now (map .entry)) ⌝ }
+{
+    let got = tile_head::read_tile_head(
+        map,
+        place.at as usize,
+        debug,
+        place.min_zoom,
+        place.max_zoom,
+        zoom,
+    );
+    let TileHeadRead::Value(head, at) = got else {
+        return OpenRead::Refused(tile_head::tile_head_refusal(got));
+    };
+    let sums = head.sums;
+    let way = arithmetic::saturating_add_usize(at, head.offset as usize);
+    let turn = Turn::Idle(Remaining {
+        points: sums.points,
+        ways: sums.ways,
+        at,
+        way,
+    });
+    let end = TileEnd {
+        sub_file,
+        is_water: place.is_water,
+    };
+    OpenRead::Stream(Stream { turn, end })
+}
+
+// A stream of a tile at a zoom, which is clamped into the sub file's interval. Refused in this order: sub file (8), grid (14), tile (8),
+// entry (1), interval (13), then as the tile's head is read.
+pub fn open(
+    map: &[u8],
+    header: MapHeader,
+    sub_file: usize,
+    grid: Grid,
+    tile: usize,
+    zoom: u8,
+) -> OpenRead
+    ensures { λ r. ⌜ openRes r ≡ openTile header «sub_file» (gridOf grid) tile zoom (now (map .entry)) ⌝ }
+{
+    let debug = header.flags / 128 % 2 == 1;
+    let got = tile_place::find_tile(map, header, sub_file, grid, tile);
+    let PlaceRead::At(place) = got else {
+        return OpenRead::Refused(tile_place::place_refusal(got));
+    };
+    open_at(map, place, debug, sub_file, zoom)
+}
