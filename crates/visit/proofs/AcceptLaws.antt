@@ -30,8 +30,9 @@ use Rattle.way_data.specs.Reply.{lent}
 use Rattle.agreement.specs.Calls.{gotBody, declined, refused, Step, plain, lending, accepted, accept, decline}
 use Rattle.agreement.specs.Stream.{State, idle, waits, stream, onBody}
 use Rattle.agreement.specs.TileFormat as tile
-use Rattle.visit.specs.Visit.{formatOf, endOf, turnState, stateOf, ShownAnswer, shownBody, shownStep, acceptAnswer, acceptStep, streamedBody, declineStep}
-use Rattle.visit.specs.declared.TileLayout.{TileLayout}
+use Rattle.tile_layout.specs.TileLayout.{formatOf}
+use Rattle.visit.specs.Visit.{endOf, turnState, stateOf, ShownAnswer, shownBody, shownStep, acceptAnswer, acceptStep, streamedBody, declineStep}
+use Rattle.tile_layout.specs.declared.TileLayout.{TileLayout}
 use Rattle.visit.specs.declared.TileEnd.{TileEnd}
 use Rattle.visit.specs.declared.Remaining.{Remaining}
 use Rattle.visit.specs.declared.WaitingWay.{WaitingWay}

@@ -33,8 +33,9 @@ use Rattle.agreement.specs.Calls.{Answer, gotPoint, gotHead, ended, refused, St
 use Rattle.agreement.specs.Stream.{State, idle, waits, stream, onPoint, onHead}
 use Rattle.agreement.specs.TileFormat as tile
 use Rattle.agreement.proofs.CallLaws.{next-point, next-head, next-end}
-use Rattle.visit.specs.Visit.{formatOf, endOf, stateOf, shownPoint, shownHead, shownStep, noHead, NextIs, streamedHead}
-use Rattle.visit.specs.declared.TileLayout.{TileLayout}
+use Rattle.tile_layout.specs.TileLayout.{formatOf}
+use Rattle.visit.specs.Visit.{endOf, stateOf, shownPoint, shownHead, shownStep, noHead, NextIs, streamedHead}
+use Rattle.tile_layout.specs.declared.TileLayout.{TileLayout}
 use Rattle.visit.specs.declared.TileEnd.{TileEnd}
 use Rattle.visit.specs.declared.Remaining.{Remaining}
 use Rattle.visit.specs.declared.WaitingWay.{WaitingWay}

@@ -29,7 +29,8 @@ use Rattle.tile_place.proofs.PlaceLaws.{located-ordered}
 use Rattle.agreement.specs.Stream.{State, openStream, freshStream}
 use Rattle.agreement.specs.TileFormat as tile
 use Rattle.agreement.proofs.TileFormatLaws.{tileHead-end}
-use Rattle.visit.specs.Visit.{layoutOf, formatOf, stateOf, openTile, openRes, freshAt, openedAt}
+use Rattle.tile_layout.specs.TileLayout.{layoutOf, formatOf}
+use Rattle.visit.specs.Visit.{stateOf, openTile, openRes, freshAt, openedAt}
 use Rattle.visit.specs.declared.Stream.{Stream}
 use Rattle.visit.specs.declared.OpenRead.{OpenRead}
 use Rattle.visit.specs.declared.Turn.the-variants as turn

@@ -10,14 +10,12 @@ use Rattle.parsing.specs.Parse.{Res, andThen}
 use Rattle.error.specs.Refusals as error
 use Rattle.error.specs.Refusals.{numberOf, valuesOf}
 use Rattle.arithmetic.specs.Cut.{cut}
-use Rattle.format.specs.Kinds.{tagKinds}
 use Rattle.format.specs.Index.{answer, answered, Grid, locate}
 use Rattle.format.specs.Rows.{rowsOfInterval, rowsUpto, intervalHead, pointsOf, waysOf}
 use Rattle.format.specs.Streamed.{streamedPoint, streamedFields}
 use Rattle.format.specs.Tile.{TileHead, Point, Head, Body}
 use Rattle.types.specs.Types.{intervalsOf, debugOf}
 use Rattle.types.specs.declared.MapHeader.{MapHeader}
-use Rattle.tag_table.specs.Tables.{tableIn}
 use Rattle.tagged.specs.TagIds.{tagIds, noTags}
 use Rattle.fields.specs.Fields.{streamedSpan}
 use Rattle.poi.specs.Poi.{poiOf, emptyPoi}
@@ -28,11 +26,9 @@ use Rattle.way.specs.declared.WayBody.{WayBody}
 use Rattle.way_data.specs.Reply.{lent}
 use Rattle.way_head.specs.declared.WayHead.{WayHead}
 use Rattle.agreement.specs.Calls.{Answer, gotPoint, gotHead, gotBody, declined, ended, refused, Step, plain, lending, mapAnswer}
-use Rattle.agreement.specs.Format.{Format}
 use Rattle.agreement.specs.Stream.{State, idle, waits, openStream}
 use Rattle.agreement.specs.TileFormat as tile
-use Rattle.agreement.specs.TileFormat.{tileFormat}
-use Rattle.visit.specs.declared.TileLayout.{TileLayout}
+use Rattle.tile_layout.specs.TileLayout.{layoutOf, formatOf}
 use Rattle.visit.specs.declared.TileEnd.{TileEnd}
 use Rattle.visit.specs.declared.Turn.{Turn}
 use Rattle.visit.specs.declared.Turn.the-variants as turn
@@ -50,14 +46,6 @@ use Rattle.visit.specs.declared.Accepted.{Accepted}
 use Rattle.visit.specs.declared.DeclineAnswer.{DeclineAnswer}
 use Rattle.visit.specs.declared.DeclineAnswer.the-variants as decline-answer
 use Rattle.visit.specs.declared.Declined.{Declined}
-
--- what a tile's features need of the header
-abbrev pub layoutOf : MapHeader → TileLayout
-layoutOf h = record { debug = debugOf h; «poi_tags» = h .«poi_tags»; «way_tags» = h .«way_tags» }
-
--- the format of a tile with so many rows in its zoom table
-abbrev pub formatOf : TileLayout → (rows : ℕ) → List ℕ → Format
-formatOf l rows m = tileFormat (l .debug) rows (tagKinds (tableIn (l .«poi_tags»)) m) (tagKinds (tableIn (l .«way_tags»)) m)
 
 -- the state
 abbrev pub endOf : TileEnd → tile.TileEnd

@@ -4,6 +4,7 @@ use error::Refusal;
 use poi::Poi;
 use tagged::TagIds;
 use tile_head::TileHeadRead;
+use tile_layout::TileLayout;
 use tile_place::PlaceRead;
 use tile_place::TilePlace;
 use types::End;
@@ -11,7 +12,6 @@ use types::Grid;
 use types::MapHeader;
 use types::OptionalPosition;
 use types::OptionalSpan;
-use types::TagTable;
 use way::WayBody;
 use way::WayBodyRead;
 use way_head::WayHead;
@@ -23,14 +23,8 @@ ghost use Rattle.poi.specs.Poi.{emptyPoi};
 ghost use Rattle.way_data.specs.Reply.{lent};
 ghost use Rattle.agreement.specs.Calls.{next as nextCall, accept as acceptCall, decline as declineCall};
 ghost use Rattle.agreement.specs.Stream.{idle, stream as machine};
-ghost use Rattle.visit.specs.Visit.{layoutOf, formatOf, endOf, stateOf, openTile, openedAt, openRes, shownStep, noHead, NextIs, acceptStep, streamedBody, streamedHead, declineStep};
-
-// What a tile's features need of the header: it is passed at each call, since the header is 6 KB.
-pub struct TileLayout {
-    pub debug: bool,
-    pub poi_tags: TagTable,
-    pub way_tags: TagTable,
-}
+ghost use Rattle.tile_layout.specs.TileLayout.{formatOf};
+ghost use Rattle.visit.specs.Visit.{endOf, stateOf, openTile, openedAt, openRes, shownStep, noHead, NextIs, acceptStep, streamedBody, streamedHead, declineStep};
 
 // What the stream's end says.
 pub struct TileEnd {
@@ -117,18 +111,6 @@ pub enum DeclineAnswer {
 pub struct Declined {
     pub answer: DeclineAnswer,
     pub stream: Stream,
-}
-
-pub fn layout_of(header: MapHeader) -> TileLayout
-    ensures { λ r. ⌜ r ≡ layoutOf header ⌝ }
-{
-    let poi_tags = header.poi_tags;
-    let way_tags = header.way_tags;
-    TileLayout {
-        debug: header.flags / 128 % 2 == 1,
-        poi_tags,
-        way_tags,
-    }
 }
 
 fn refused_next(refusal: Refusal, stream: Stream) -> NextStep
