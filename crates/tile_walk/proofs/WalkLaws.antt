@@ -1,0 +1,141 @@
+-- Loops over a tile's points and ways.
+use Prim.Native.Nat.{ℕ, _+_, _-_, _≤_, _<_}
+use native.Mathlib.Nat.{le-trans}
+use native.Mathlib.Omega.{arith}
+use mathlib.Core.Path.{_≡_, refl, sym, ap, _∙_}
+use mathlib.Core.Bool.{Bool, true, false, _&&_}
+use mathlib.Core.List.{List}
+use lib.Dec.{eqb}
+use lib.ListN.{length}
+use borrow.Author.Needs.{needs}
+use Rattle.parsing.specs.Parse.{Res, ok, no, Parser, mapRes, many}
+use Rattle.parsing.specs.Good.{ok-val, ok-at, no-ok}
+use Rattle.error.specs.Refusals.{refused, numberOf, valuesOf}
+use Rattle.error.specs.declared.Refusal.{Refusal}
+use Rattle.byte_source.proofs.ReadLaws.{taken}
+use Rattle.tag.specs.declared.Kind.{Kind}
+use Rattle.format.specs.Kinds.{tagKinds}
+use Rattle.format.specs.Tile.{Point, Head, point, head, head-post, body, body-good}
+use Rattle.types.specs.Types.{endRes, endRefusal}
+use Rattle.types.specs.declared.End.{End}
+use Rattle.types.specs.declared.End.the-variants as end
+use Rattle.tag_table.specs.Tables.{tableIn}
+use Rattle.poi.specs.Poi.{poiOf, PoiIs}
+use Rattle.poi.specs.declared.PoiRead.{PoiRead}
+use Rattle.way_head.specs.WayHead.{headOf, HeadIs}
+use Rattle.way_head.specs.declared.WayHead.{WayHead}
+use Rattle.way_head.specs.declared.WayHeadRead.{WayHeadRead}
+use Rattle.way.specs.Way.{bodyOf, bodyRes, bodyRefusal}
+use Rattle.way.specs.declared.WayBody.{WayBody}
+use Rattle.way.specs.declared.WayBodyRead.{WayBodyRead}
+use Rattle.way.specs.declared.WayBodyRead.the-variants as body-read
+use Rattle.agreement.specs.Format.{Format}
+use Rattle.agreement.specs.Collected.{way, exact, allExact}
+use Rattle.agreement.proofs.CollectLaws.{count-more, count-no, way-exact, way-no-body, way-no-head, exact-more, exact-no}
+use Rattle.tile_layout.specs.TileLayout.{formatOf}
+use Rattle.tile_layout.specs.declared.TileLayout.{TileLayout}
+use Rattle.tile_walk.specs.TileWalk.{waysRes, waysRefusal, exactWay, exactWays, ForAllRows}
+use Rattle.tile_walk.specs.declared.WaysRead.{WaysRead}
+use Rattle.tile_walk.specs.declared.WaysRead.the-variants as ways
+
+pub ways-refused : (g : WaysRead) (e : Refusal) → g ≡ ways.Refused e → e ≡ waysRefusal g
+ways-refused g e h = taken waysRefusal h refl
+
+pub ruleset refusals = (needs, ways-refused)
+
+-- points
+module _ (m : List ℕ) (debug : Bool) (kinds : List Kind) (i at n : ℕ) (e : mapRes length (many (point debug kinds) i m at) ≡ ok i n) where
+  module _ (g : PoiRead) (b : PoiIs (point debug kinds m n) g) where
+    pub points-more : (k : ℕ) → g .end ≡ end.At k → mapRes length (many (point debug kinds) (i + 1) m at) ≡ ok (i + 1) k
+    points-more k h = count-more (point debug kinds) m poiOf i at e (sym (b .answer) ∙ ap (endRes (g .poi)) h)
+
+    pub points-no : (k : ℕ) (x y : Refusal) → g .end ≡ end.Refused x → y ≡ endRefusal (g .end) → i < k → refused y ≡ mapRes length (many (point debug kinds) k m at)
+    points-no k x y h w l =
+        ap refused (w ∙ ap endRefusal h) ∙ sym (count-no (point debug kinds) m poiOf i k at e (sym (b .answer) ∙ ap (endRes (g .poi)) h) l)
+
+  pub points-done : (k : ℕ) → i ≤ k → k ≤ i → ok k n ≡ mapRes length (many (point debug kinds) k m at)
+  points-done k l l′ = let z : i ≡ k = omega arith in sym (rw z at e)
+
+pub points-start : (m : List ℕ) (debug : Bool) (kinds : List Kind) (at : ℕ) → mapRes length (many (point debug kinds) 0 m at) ≡ ok 0 at
+points-start m debug kinds at = refl
+
+pub ruleset points = (needs, points-start, points-more, points-no, points-done)
+
+-- one way
+module _ (m : List ℕ) (l : TileLayout) (at : ℕ) (g : WayHeadRead) (b : HeadIs (head (l .debug) (tagKinds (tableIn (l .«way_tags»)) m) m at) g) where
+  abbrev read : Res Head
+  read = head (l .debug) (tagKinds (tableIn (l .«way_tags»)) m) m at
+
+  pub way-stops : (x y : Refusal) → g .end ≡ end.Refused x → y ≡ endRefusal (g .end) → ForAllRows (exactWay l m at) (refused y)
+  way-stops x y h w = record { each = λ rows.
+      ap refused (w ∙ ap endRefusal h) ∙ sym (way-no-head (formatOf l rows m) m at (stopped read (sym (b .answer) ∙ ap (endRes (g .head)) h))) }
+    where
+      stopped : (r : Res Head) → mapRes headOf r ≡ refused x → r ≡ refused x
+      stopped (ok a e) d = no-ok (sym d)
+      stopped (no k v) d = cc
+
+  module _ (n : ℕ) (h : g .end ≡ end.At n) where
+    viewed : {B : Type 0} (f : WayHead → B) (r : Res Head) → mapRes headOf r ≡ ok (g .head) n → mapRes (λ a. f (headOf a)) r ≡ ok (f (g .head)) n
+    viewed f (ok a e) d = let u : headOf a ≡ g .head = ok-val d in let v : e ≡ n = ok-at d in rw (u, v)
+    viewed f (no k v) d = no-ok d
+
+    seen : mapRes headOf read ≡ ok (g .head) n
+    seen = sym (b .answer) ∙ ap (endRes (g .head)) h
+
+    starts-before : (r : Res Head) → read ≡ r → mapRes headOf r ≡ ok (g .head) n → g .head .start ≤ n
+    starts-before (ok a e) d q =
+        let p = head-post (l .debug) (tagKinds (tableIn (l .«way_tags»)) m) .holds m at a e d .0 in
+        let u : headOf a ≡ g .head = ok-val q in
+        let v : e ≡ n = ok-at q in
+        let w : a .start ≡ g .head .start = ap (λ (x : WayHead). x .start) u in
+        omega arith
+    starts-before (no k v) d q = no-ok q
+
+    module _ (w : WayBodyRead) (q : bodyRes w ≡ mapRes bodyOf (body m n)) where
+      pub body-stops : (x y : Refusal) → w ≡ body-read.Refused x → y ≡ bodyRefusal w → ForAllRows (exactWay l m at) (refused y)
+      body-stops x y d z = record { each = λ rows.
+          ap refused (z ∙ ap bodyRefusal d)
+          ∙ sym (way-no-body (formatOf l rows m) m bodyOf (g .head .size) n at (viewed (λ (a : WayHead). a .size) read seen) (sym q ∙ ap bodyRes d)) }
+
+      module _ (v : WayBody) (k : ℕ) (d : w ≡ body-read.Value v k) where
+        -- a way ends behind its data start
+        pub length-fits : g .head .start ≤ k
+        length-fits = le-trans (starts-before read refl seen) (ends (body m n) refl (sym q ∙ ap bodyRes d))
+          where
+            ends : (r : Res _) → body m n ≡ r → mapRes bodyOf r ≡ ok v k → n ≤ k
+            ends (ok a e) f c = let u : e ≡ k = ok-at c in let z = body-good .forth m n a e f in omega arith
+            ends (no x y) f c = no-ok c
+
+        pub way-ends : ForAllRows (exactWay l m at) (ok (eqb (g .head .size) (k - g .head .start)) k)
+        way-ends = record { each = λ rows.
+            sym (way-exact (formatOf l rows m) m bodyOf (g .head .size) n at (g .head .start) (viewed (λ (a : WayHead). a .size) read seen) (viewed (λ (a : WayHead). a .start) read seen) (sym q ∙ ap bodyRes d)) }
+
+pub ruleset way-reads = (needs, way-stops, body-stops, length-fits, way-ends)
+
+-- both of two, in the order of the tests
+module _ (a b : Bool) where
+  pub both-yes : a ≡ true → b ≡ (a && b)
+  both-yes h = rw h
+
+  pub both-no : a ≡ false → false ≡ (a && b)
+  both-no h = rw h
+
+pub ruleset ands = (needs, both-yes, both-no)
+
+-- ways
+module _ (m : List ℕ) (l : TileLayout) (i at n : ℕ) (all : Bool) (e : ForAllRows (exactWays l m i at) (ok all n)) where
+  module _ (g : WaysRead) (q : ForAllRows (exactWay l m n) (waysRes g)) where
+    pub ways-more : (b c : Bool) (k : ℕ) → g ≡ ways.Value b k → c ≡ (all && b) → ForAllRows (exactWays l m (i + 1) at) (ok c k)
+    ways-more b c k h w = record { each = λ rows. ap (λ x. ok x k) w ∙ sym (exact-more (formatOf l rows m) m i at (sym (e .each rows)) (sym (q .each rows) ∙ ap waysRes h)) }
+
+    pub ways-no : (k : ℕ) (x y : Refusal) → g ≡ ways.Refused x → y ≡ waysRefusal g → i < k → ForAllRows (exactWays l m k at) (refused y)
+    ways-no k x y h w b = record { each = λ rows.
+        ap refused (w ∙ ap waysRefusal h) ∙ sym (exact-no (formatOf l rows m) m i k at (sym (e .each rows)) (sym (q .each rows) ∙ ap waysRes h) b) }
+
+  pub ways-done : (k : ℕ) → i ≤ k → k ≤ i → ForAllRows (exactWays l m k at) (ok all n)
+  ways-done k b b′ = let z : i ≡ k = omega arith in rw z at e
+
+pub ways-start : (m : List ℕ) (l : TileLayout) (at : ℕ) → ForAllRows (exactWays l m 0 at) (ok true at)
+ways-start m l at = record { each = λ rows. refl }
+
+pub ruleset way-loops = (needs, ways-start, ways-more, ways-no, ways-done)

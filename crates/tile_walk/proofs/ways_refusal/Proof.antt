@@ -1,0 +1,12 @@
+use Rattle.tile_walk.proofs.WalkLaws.{refusals}
+use Rattle.tile_walk.proofs.ways_refusal.Statement.{statement}
+use Rattle.tile_walk.proofs.ways_refusal.Tie as tie
+
+pub ways-refusal-spec : {M : Type 1} → statement M
+ways-refusal-spec =
+    tie.close
+    (tie.spec
+    (search refusals)
+    (search refusals)
+    (λ c. search refusals)
+    (λ c. search refusals))
