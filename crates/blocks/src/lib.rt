@@ -72,7 +72,7 @@ fn read_row(map: &[u8], at: usize) -> RowRead
     RowRead::Value(ZoomRow { points, ways }, at)
 }
 
-fn refused_table(refusal: Refusal) -> ZoomTableRead
+pub fn refused_table(refusal: Refusal) -> ZoomTableRead
     ensures { λ r. ⌜ (shownRows r ≡ noRows) × (r .end ≡ End.Refused refusal) ⌝ }
 {
     let empty = ZoomRow { points: 0, ways: 0 };
