@@ -2,10 +2,8 @@
 use Prim.Native.Nat.{ℕ}
 use mathlib.Core.Path.{_≡_, refl}
 use mathlib.Core.List.{List}
-use lib.Dec.{eqb}
 use borrow.Author.Needs.{needs}
-use borrow.Author.Tests.{eq-eqb, ne-eqb}
-use Rattle.parsing.specs.Parse.{Res, ok, Parser, Part, Maybe, none, some, andThen, optional}
+use Rattle.parsing.specs.Parse.{Res, Maybe, andThen}
 use Rattle.parsing.proofs.Steps.{step}
 use Rattle.error.specs.Refusals.{refused}
 use Rattle.error.specs.declared.Refusal.{Refusal}
@@ -13,10 +11,10 @@ use Rattle.byte_source.proofs.ReadLaws.{stop, taken, byte-ok, byte-no, short-ok
 use Rattle.format.specs.Header as format
 use Rattle.format.specs.Header.{Place}
 use Rattle.types.specs.declared.OptionalByte.{OptionalByte}
-use Rattle.types.specs.declared.OptionalSpan.{OptionalSpan}
+use Rattle.fields.proofs.FieldLaws.{flagged, optional-part-ok, optional-span-no}
 use Rattle.header_fields.proofs.FieldLaws as fields
 use Rattle.header_fields.proofs.FieldLaws.{preamble-ok, preamble-no, box-ok, box-no}
-use Rattle.header_parts.specs.Parts.{frontOf, frontRes, frontRefusal, maybePlace, maybeByte, maybeText, optionalPlaceRes, optionalPlaceRefusal, optionalByteRes, optionalByteRefusal, optionalTextRes, optionalTextRefusal, optionsOf, optionsRes, optionsRefusal}
+use Rattle.header_parts.specs.Parts.{frontOf, frontRes, frontRefusal, maybePlace, maybeByte, optionalPlaceRes, optionalPlaceRefusal, optionalByteRes, optionalByteRefusal, optionsOf, optionsRes, optionsRefusal}
 use Rattle.header_parts.specs.declared.Front.{Front}
 use Rattle.header_parts.specs.declared.FrontRead.{FrontRead}
 use Rattle.header_parts.specs.declared.FrontRead.the-variants as front
@@ -25,8 +23,6 @@ use Rattle.header_parts.specs.declared.OptionalStoredRead.{OptionalStore
 use Rattle.header_parts.specs.declared.OptionalStoredRead.the-variants as place-read
 use Rattle.header_parts.specs.declared.OptionalByteRead.{OptionalByteRead}
 use Rattle.header_parts.specs.declared.OptionalByteRead.the-variants as byte-read
-use Rattle.header_parts.specs.declared.OptionalSpanRead.{OptionalSpanRead}
-use Rattle.header_parts.specs.declared.OptionalSpanRead.the-variants as span-read
 use Rattle.header_parts.specs.declared.Options.{Options}
 use Rattle.header_parts.specs.declared.OptionsRead.{OptionsRead}
 use Rattle.header_parts.specs.declared.OptionsRead.the-variants as options
@@ -40,23 +36,10 @@ place-refused g e h = taken optionalPlaceRefusal h refl
 pub byte-refused : (g : OptionalByteRead) (e : Refusal) → g ≡ byte-read.Refused e → e ≡ optionalByteRefusal g
 byte-refused g e h = taken optionalByteRefusal h refl
 
-pub text-refused : (g : OptionalSpanRead) (e : Refusal) → g ≡ span-read.Refused e → e ≡ optionalTextRefusal g
-text-refused g e h = taken optionalTextRefusal h refl
-
 pub options-refused : (g : OptionsRead) (e : Refusal) → g ≡ options.Refused e → e ≡ optionsRefusal g
 options-refused g e h = taken optionsRefusal h refl
 
-pub ruleset refusals = (fields.refusals, front-refused, place-refused, byte-refused, text-refused, options-refused)
-
--- a field that a flag announces, by the test that the code makes
-module _ {A : Type 0} (p : Parser A) (m : List ℕ) (at a b : ℕ) (x : Res (Maybe A)) where
-  pub optional-yes : a ≡ b → x ≡ andThen (p m at) (λ v e. ok (some v) e) → x ≡ optional (eqb a b) p m at
-  unfolding optional
-  optional-yes h q = rw (eq-eqb a b h) q
-
-  pub optional-no : (a ≡ b → ⊥) → x ≡ ok none at → x ≡ optional (eqb a b) p m at
-  unfolding optional
-  optional-no h q = rw (ne-eqb a b h) q
+pub ruleset refusals = (fields.refusals, front-refused, place-refused, byte-refused, options-refused)
 
 module _ {B : Type 0} where
   pub front-ok : (m : List ℕ) (g : FrontRead) (v : Front) (n : ℕ) (r : Res format.Front) (f : format.Front → ℕ → Res B) (x : Res B) → frontRes m g ≡ r → g ≡ front.Value v n → x ≡ f (frontOf m v) n → x ≡ andThen r f
@@ -77,12 +60,6 @@ module _ {B : Type 0} where
   pub maybe-byte-no : (g : OptionalByteRead) (e′ e : Refusal) (r : Res (Maybe ℕ)) (f : Maybe ℕ → ℕ → Res B) → optionalByteRes g ≡ r → g ≡ byte-read.Refused e → e′ ≡ optionalByteRefusal g → refused e′ ≡ andThen r f
   maybe-byte-no g e′ e r f q h p = stop optionalByteRes optionalByteRefusal r f q h p refl refl
 
-  pub maybe-text-ok : (m : List ℕ) (g : OptionalSpanRead) (v : OptionalSpan) (n : ℕ) (r : Res (Maybe Part)) (f : Maybe Part → ℕ → Res B) (x : Res B) → optionalTextRes m g ≡ r → g ≡ span-read.Value v n → x ≡ f (maybeText m v) n → x ≡ andThen r f
-  maybe-text-ok m g v n r f x e h p = step (optionalTextRes m) r f e h p
-
-  pub maybe-text-no : (m : List ℕ) (g : OptionalSpanRead) (e′ e : Refusal) (r : Res (Maybe Part)) (f : Maybe Part → ℕ → Res B) → optionalTextRes m g ≡ r → g ≡ span-read.Refused e → e′ ≡ optionalTextRefusal g → refused e′ ≡ andThen r f
-  maybe-text-no m g e′ e r f q h p = stop (optionalTextRes m) optionalTextRefusal r f q h p refl refl
-
   pub options-ok : (m : List ℕ) (g : OptionsRead) (v : Options) (n : ℕ) (r : Res format.Options) (f : format.Options → ℕ → Res B) (x : Res B) → optionsRes m g ≡ r → g ≡ options.Value v n → x ≡ f (optionsOf m v) n → x ≡ andThen r f
   options-ok m g v n r f x e h p = step (optionsRes m) r f e h p
 
@@ -91,6 +68,6 @@ module _ {B : Type 0} where
 
 pub ruleset fronts = (needs, preamble-ok, preamble-no, box-ok, box-no, short-ok, short-no, span-ok, span-no, byte-ok, byte-no)
 
-pub ruleset optionals = (fields.reads, optional-yes, optional-no)
+pub ruleset optionals = (fields.reads, flagged)
 
-pub ruleset options-reads = (needs, maybe-place-ok, maybe-place-no, maybe-byte-ok, maybe-byte-no, maybe-text-ok, maybe-text-no)
+pub ruleset options-reads = (needs, maybe-place-ok, maybe-place-no, maybe-byte-ok, maybe-byte-no, optional-part-ok, optional-span-no)

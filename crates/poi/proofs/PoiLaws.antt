@@ -90,10 +90,10 @@ poi-made g p t r n a b d f h k q m z =
 pub ruleset ends = (needs, then-then, tagged-ok, tagged-no, fields-ok, fields-no, beside-done, beside-no, poi-made)
 
 -- a point whose signature and position were read, and then the rest of it
-pub poi-whole : (m : List ℕ) (debug : Bool) (kinds : List Kind) (at n k : ℕ) (g : OptionalSpanRead) (v : OptionalSpan) (q : PositionRead) (p : Position) (r : PoiRead) → optionalSpanRes g ≡ mapRes optionalSpan (debugSignature debug m at) → g ≡ span-read.Value v n → positionRes q ≡ mapRes nodePosition (node m n) → q ≡ position-read.Value p k → ((a : Maybe Part) (b : Node) → v ≡ optionalSpan a → p ≡ nodePosition b → PoiIs (behindPosition kinds a b m k) r) → PoiIs (point debug kinds m at) r
+pub poi-whole : (m : List ℕ) (debug : Bool) (kinds : List Kind) (at n k : ℕ) (g : OptionalSpanRead) (v : OptionalSpan) (q : PositionRead) (p : Position) (r : PoiRead) → optionalSpanRes m g ≡ debugSignature debug m at → g ≡ span-read.Value v n → positionRes q ≡ mapRes nodePosition (node m n) → q ≡ position-read.Value p k → ((a : Maybe Part) (b : Node) → v ≡ optionalSpan a → p ≡ nodePosition b → PoiIs (behindPosition kinds a b m k) r) → PoiIs (point debug kinds m at) r
 unfolding point
 poi-whole m debug kinds at n k g v q p r d h e i w =
-    optional-span-then poiOf emptyPoi (r .poi) (r .end) g v n (debugSignature debug m at) (λ a x. andThen (node m x) (λ b y. behindPosition kinds a b m y)) d h
+    optional-span-then poiOf emptyPoi (r .poi) (r .end) m g v n (debugSignature debug m at) (λ a x. andThen (node m x) (λ b y. behindPosition kinds a b m y)) d h
     (λ a f. position-then poiOf emptyPoi (r .poi) (r .end) q p k (node m n) (λ b y. behindPosition kinds a b m y) e i
     (λ b j. w a b f j))
 
