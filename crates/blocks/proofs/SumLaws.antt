@@ -9,7 +9,7 @@ use lib.Seq.{take-append-seam}
 use borrow.Author.Needs.{needs}
 use Rattle.parsing.specs.Parse.{Res, ok, no, Parser, andThen, mapRes, many}
 use Rattle.parsing.specs.Good.{split, ok-val, ok-at, total}
-use Rattle.parsing.proofs.Loops.{fold-more, many-count}
+use Rattle.parsing.proofs.Loops.{fold-more, counted, many-count}
 use Rattle.parsing.proofs.Steps.{then-then}
 use Rattle.parsing.proofs.Views.{viewed, view-stop}
 use Rattle.error.specs.Refusals.{refused}
@@ -58,10 +58,7 @@ module _ (m : List ℕ) (i at n k p w : ℕ) where
   pub sums-no : (g : RowRead) (e′ e : Refusal) → mapRes sumOf (many row i m at) ≡ ok (record { points = p; ways = w }) n → rowRes g ≡ mapRes zoomRow (row m n) → g ≡ row-read.Refused e → e′ ≡ rowRefusal g → i < k → refused e′ ≡ mapRes sumOf (many row k m at)
   sums-no g e′ e h q d z b = rw (← (row-no sumOf m i at n k (record { points = p; ways = w }) g e′ e h q d z b))
 
-  pub sums-done : mapRes sumOf (many row i m at) ≡ ok (record { points = p; ways = w }) n → i ≤ k → k ≤ i → ok (record { points = p; ways = w }) n ≡ mapRes sumOf (many row k m at)
-  sums-done h b c = let e : i ≡ k = omega arith in sym (rw e at h)
-
-pub ruleset sums = (needs, sums-more, sums-no, sums-done)
+pub ruleset sums = (needs, sums-more, sums-no, counted)
 
 -- k values, then those that `then` gives from the place behind them
 module _ {A : Type 0} (then : ℕ → Res (List A)) where

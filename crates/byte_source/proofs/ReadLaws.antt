@@ -8,7 +8,8 @@ use mir.Facts.{toZ-ofZ}
 use mathlib.Core.List.{List}
 use mathlib.Core.Path.{_≡_, refl, sym, ap, _∙_}
 use borrow.Author.Needs.{needs}
-use Rattle.parsing.specs.Parse.{Res, ok, no, Part, andThen}
+use Rattle.parsing.specs.Parse.{Res, ok, no, Parser, Part, andThen, mapRes, many}
+use Rattle.parsing.proofs.Loops.{view-no}
 use Rattle.parsing.proofs.Steps as steps
 use Rattle.parsing.proofs.Steps.{step}
 use Rattle.error.specs.Refusals.{refused}
@@ -32,6 +33,11 @@ use Rattle.byte_source.specs.declared.SpanRead.the-variants as span
 pub stop : {A B G : Type 0} (res : G → Res A) (refusal : G → Refusal) {g g′ : G} {e e′ : Refusal} (r : Res A) (f : A → ℕ → Res B) → res g ≡ r → g ≡ g′ → e′ ≡ refusal g → res g′ ≡ refused e → refusal g′ ≡ e → refused e′ ≡ andThen r f
 stop res refusal r f q h p d z =
     step res r f q h (ap refused (p ∙ ap refusal h ∙ z) ∙ ap (λ x. andThen x f) (sym d))
+
+-- the same in a loop, of whose values only views are known: f of those that were read, w of the one that is refused
+pub loop-no : {A B C G : Type 0} (res : G → Res C) (refusal : G → Refusal) (p : Parser A) (f : List A → B) (w : A → C) (s : List ℕ) (i k at : ℕ) {n : ℕ} {b : B} {g g′ : G} {e e′ : Refusal} → mapRes f (many p i s at) ≡ ok b n → res g ≡ mapRes w (p s n) → g ≡ g′ → e′ ≡ refusal g → res g′ ≡ refused e → refusal g′ ≡ e → i < k → refused e′ ≡ many p k s at
+loop-no res refusal p f w s i k at a q h y d z b =
+    ap refused (y ∙ ap refusal h ∙ z) ∙ sym (view-no p s f w i k at a (sym q ∙ ap res h ∙ d) b)
 
 -- the refusal taken out of an answer that is one
 pub taken : {G : Type 0} (refusal : G → Refusal) {g g′ : G} {e : Refusal} → g ≡ g′ → refusal g′ ≡ e → e ≡ refusal g

@@ -1,9 +1,9 @@
 -- The header from its parts, and a header that was read, in definitions that go on from it.
-use Prim.Native.Nat.{ℕ, _-_}
+use Prim.Native.Nat.{ℕ}
 use mathlib.Core.Path.{_≡_, refl, sym, ap, _∙_}
 use mathlib.Core.List.{List, [], _∷_}
 use mathlib.Core.List.{map as mapped}
-use lib.ListN.{length, replicate, length-map}
+use lib.ListN.{length, drop, replicate, length-map}
 use lib.Seq.{take-at}
 use borrow.Author.Needs.{needs}
 use borrow.Author.Tests.{eq-eqb, ne-eqb}
@@ -134,7 +134,7 @@ unfolding filled
 intervals-back h =
     let l = h .intervals in
     let n : length (mapped zoomInterval l) ≡ length l = length-map l zoomInterval in
-    ap (mapped intervalOf) (take-at (mapped zoomInterval l) (replicate (255 - length l) emptyInterval) (length l) n) ∙ same l
+    ap (mapped intervalOf) (take-at (mapped zoomInterval l) (drop (length (mapped zoomInterval l)) (replicate 255 emptyInterval)) (length l) n) ∙ same l
   where
     same : (l : List Interval) → mapped intervalOf (mapped zoomInterval l) ≡ l
     same [] = refl

@@ -10,13 +10,13 @@ use mir.Syntax.{w64}
 use mir.Val.{Fits}
 use Rattle.parsing.specs.Parse.{Res, ok, no, Parser, andThen, mapRes, many}
 use Rattle.parsing.specs.Good.{Weight, total, many-weight, strict-weight, bind-weight, pick-weight, fail-weight, more-weight, split, ok-val, ok-at, no-ok}
-use Rattle.parsing.proofs.Loops.{fold-more, fold-no, many-count}
+use Rattle.parsing.proofs.Loops.{fold-more, counted, many-count}
 use Rattle.error.specs.Refusals.{refused}
 use Rattle.error.specs.declared.Refusal.{Refusal}
 use Rattle.byte_source.specs.Answers.{numberRes, numberRefusal}
 use Rattle.byte_source.specs.declared.NumberRead.{NumberRead}
 use Rattle.byte_source.specs.declared.NumberRead.the-variants as number
-use Rattle.byte_source.proofs.ReadLaws.{taken}
+use Rattle.byte_source.proofs.ReadLaws.{taken, loop-no}
 use Rattle.utils.specs.Vbe.{coordinate, unsigned-strict}
 use Rattle.utils.proofs.NumberLaws.{reads}
 use Rattle.coordinates.specs.Skip.{short, skipOf}
@@ -75,11 +75,7 @@ module _ (s : List ℕ) (i at n : ℕ) (g : NodeRead) (e : mapRes length (many n
 
   pub nodes-stop : (k : ℕ) (x y : Refusal) → g ≡ node-read.Refused x → y ≡ nodeRefusal g → i < k → refused y ≡ mapRes length (many node k s at)
   nodes-stop k x y h w b =
-      ap refused (w ∙ ap nodeRefusal h) ∙ sym (fold-no node s length one i k at e (ap (mapRes one) (sym q ∙ ap nodeRes h)) b)
-
--- a loop that counted to its end
-pub counted : {A B : Type 0} (f : List A → B) (p : Parser A) (s : List ℕ) (i k at n : ℕ) (b : B) → mapRes f (many p i s at) ≡ ok b n → i ≤ k → k ≤ i → ok b n ≡ mapRes f (many p k s at)
-counted f p s i k at n b e c d = let h : i ≡ k = omega arith in sym (rw h at e)
+      ap (mapRes length) (loop-no (λ g. mapRes one (nodeRes g)) nodeRefusal node length one s i k at e (ap (mapRes one) q) h w refl refl b)
 
 -- two coordinates to a node
 record Paired (s : List ℕ) (n at e : ℕ) : Type 0 where
@@ -120,8 +116,7 @@ module _ (s : List ℕ) (i at n w : ℕ) (g : NumberRead) (e : mapRes sizesOf (m
   blocks-more c k h = fold-more block s sizesOf length (λ a b. plus a (record { blocks = 1; nodes = b })) sizes-snoc i at e (sym q ∙ ap numberRes h)
 
   pub blocks-stop : (k : ℕ) (x y : Refusal) → g ≡ number.Refused x → y ≡ numberRefusal g → i < k → refused y ≡ mapRes sizesOf (many block k s at)
-  blocks-stop k x y h z b =
-      ap refused (z ∙ ap numberRefusal h) ∙ sym (fold-no block s sizesOf length i k at e (sym q ∙ ap numberRes h) b)
+  blocks-stop k x y h z b = ap (mapRes sizesOf) (loop-no numberRes numberRefusal block sizesOf length s i k at e q h z refl refl b)
 
 -- data blocks
 module _ (s : List ℕ) (i at n y w : ℕ) (g : WayDataRead) (e : mapRes waySizes (many dataBlock i s at) ≡ ok (record { blocks = y; nodes = w }) n) (q : wayDataRes g ≡ mapRes sizesOf (dataBlock s n)) where
@@ -129,8 +124,7 @@ module _ (s : List ℕ) (i at n y w : ℕ) (g : WayDataRead) (e : mapRes waySize
   data-more c k h = fold-more dataBlock s waySizes sizesOf plus way-snoc i at e (sym q ∙ ap wayDataRes h)
 
   pub data-stop : (k : ℕ) (x z : Refusal) → g ≡ way-data.Refused x → z ≡ wayDataRefusal g → i < k → refused z ≡ mapRes waySizes (many dataBlock k s at)
-  data-stop k x z h r b =
-      ap refused (r ∙ ap wayDataRefusal h) ∙ sym (fold-no dataBlock s waySizes sizesOf i k at e (sym q ∙ ap wayDataRes h) b)
+  data-stop k x z h r b = ap (mapRes waySizes) (loop-no wayDataRes wayDataRefusal dataBlock waySizes sizesOf s i k at e q h r refl refl b)
 
 -- each block takes a byte, and each node
 total-one : {A : Type 0} (l : List A) → length l ≤ total (λ a. 1) l
