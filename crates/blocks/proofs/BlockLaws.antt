@@ -12,7 +12,7 @@ use Rattle.parsing.proofs.Steps.{then-then}
 use Rattle.error.specs.Refusals.{refused}
 use Rattle.error.specs.declared.Refusal.{Refusal}
 use Rattle.error.specs.declared.Refusal.the-variants.{ReversedInterval}
-use Rattle.byte_source.proofs.ReadLaws.{taken, loop-no, number-ok, number-no}
+use Rattle.byte_source.proofs.ReadLaws.{Taken, taken, loop-no, number-ok, number-no}
 use Rattle.utils.proofs.NumberLaws as numbers
 use Rattle.format.specs.Tile.{Row, row, zoomTable}
 use Rattle.format.specs.Rows.{intervalTable}
@@ -23,15 +23,14 @@ use Rattle.types.proofs.FillLaws.{front-map-more, fill-more, fill-done}
 use Rattle.blocks.specs.Blocks.{zoomRow, emptyRow, filledRows, ShownRows, rowsOf, noRows, shownRows, TableIs, rowRes, rowRefusal, sumsRefusal}
 use Rattle.blocks.specs.declared.ZoomRow.{ZoomRow}
 use Rattle.blocks.specs.declared.ZoomTableRead.{ZoomTableRead}
-use Rattle.blocks.specs.declared.SumsRead.{SumsRead}
 use Rattle.blocks.specs.declared.SumsRead.the-variants as sums-read
 use Rattle.blocks.specs.declared.RowRead.{RowRead}
 use Rattle.blocks.specs.declared.RowRead.the-variants as row-read
 
-pub row-refused : (g : RowRead) (e : Refusal) → g ≡ row-read.Refused e → e ≡ rowRefusal g
+pub row-refused : Taken rowRefusal row-read.Refused
 row-refused g e h = taken rowRefusal h refl
 
-pub sums-refused : (g : SumsRead) (e : Refusal) → g ≡ sums-read.Refused e → e ≡ sumsRefusal g
+pub sums-refused : Taken sumsRefusal sums-read.Refused
 sums-refused g e h = taken sumsRefusal h refl
 
 pub ruleset refusals = (numbers.refusals, row-refused, sums-refused)

@@ -15,12 +15,12 @@ use Rattle.parsing.proofs.Views.{viewed, view-stop}
 use Rattle.error.specs.Refusals.{refused}
 use Rattle.error.specs.declared.Refusal.{Refusal}
 use Rattle.error.specs.declared.Refusal.the-variants.{ReversedInterval}
+use Rattle.byte_source.proofs.ReadLaws.{ViewPasses, view-passes, ViewStops, view-stops}
 use Rattle.arithmetic.specs.Cut.{cut}
 use Rattle.arithmetic.proofs.CutLaws.{cut-add}
 use Rattle.format.specs.Tile.{Row, row}
 use Rattle.format.specs.Rows.{rowsUpto, pointsOf, waysOf, intervalTable}
 use Rattle.blocks.specs.Blocks.{zoomRow, sumOf, zoomSums, sumsRes, sumsRefusal, rowRes, rowRefusal}
-use Rattle.blocks.specs.declared.SumsRead.{SumsRead}
 use Rattle.blocks.specs.declared.SumsRead.the-variants as sums-read
 use Rattle.blocks.specs.declared.ZoomRow.{ZoomRow}
 use Rattle.blocks.specs.declared.Sums.{Sums}
@@ -135,9 +135,8 @@ module _ (m : List ℕ) (a b at k : ℕ) where
 pub ruleset parted = (needs, sum-reversed, front-no, back-no, both-ok)
 
 -- sums that were read, in a definition that goes on from the table
-module _ {B : Type 0} (a b z : ℕ) (g : SumsRead) (r : Res (List Row)) (f : List Row → ℕ → Res B) where
-  pub sums-ok : (v : Sums) (n : ℕ) (x : Res B) → sumsRes g ≡ mapRes (zoomSums a b z) r → g ≡ sums-read.Value v n → ((l : List Row) → v ≡ zoomSums a b z l → x ≡ f l n) → x ≡ andThen r f
-  sums-ok v n x q h p = viewed (zoomSums a b z) r f (sym q ∙ ap sumsRes h) p
+pub sums-ok : {B : Type 0} (a b z : ℕ) → ViewPasses B sumsRes (zoomSums a b z) sums-read.Value
+sums-ok a b z = view-passes _ sumsRes (zoomSums a b z) sums-read.Value (λ v n. refl)
 
-  pub sums-stop : (e′ e : Refusal) → sumsRes g ≡ mapRes (zoomSums a b z) r → g ≡ sums-read.Refused e → e′ ≡ sumsRefusal g → refused e′ ≡ andThen r f
-  sums-stop e′ e q h p = ap refused (p ∙ ap sumsRefusal h) ∙ view-stop (zoomSums a b z) r f (sym q ∙ ap sumsRes h)
+pub sums-stop : {B : Type 0} (a b z : ℕ) → ViewStops B sumsRes (zoomSums a b z) sumsRefusal sums-read.Refused
+sums-stop a b z = view-stops _ sumsRes (zoomSums a b z) sumsRefusal sums-read.Refused (λ e. refl) (λ e. refl)

@@ -3,15 +3,15 @@ use Prim.Native.Nat.{ℕ}
 use mathlib.Core.Path.{_≡_, refl, sym, ap, _∙_}
 use mathlib.Core.Bool.{Bool, true, false}
 use mathlib.Core.List.{List}
+use borrow.Author.Needs.{needs}
 use borrow.Author.Tests.{not-true, not-false}
 use Rattle.parsing.specs.Parse.{Res, ok, no, Parser, Part, Maybe, none, some, andThen, mapRes, optional}
-use Rattle.parsing.proofs.Steps.{step}
-use Rattle.parsing.proofs.Views.{viewed, view-stop}
+use Rattle.parsing.proofs.Steps.{step, then-then}
 use Rattle.error.specs.Refusals.{refused}
 use Rattle.error.specs.declared.Refusal.{Refusal}
 use Rattle.byte_source.specs.declared.Span.{Span}
 use Rattle.byte_source.specs.Answers.{spanBytes}
-use Rattle.byte_source.proofs.ReadLaws.{stop, taken}
+use Rattle.byte_source.proofs.ReadLaws.{Taken, ViewPasses, view-passes, ViewStops, view-stops, stop, taken, byte-ok, byte-no}
 use Rattle.text.specs.Utf8.{valid}
 use Rattle.format.specs.WayData.{Node}
 use Rattle.types.specs.Types.{optionalSpan, maybePart}
@@ -29,10 +29,10 @@ use Rattle.fields.specs.declared.OptionalSpanRead.the-variants as span
 use Rattle.fields.specs.declared.PositionRead.{PositionRead}
 use Rattle.fields.specs.declared.PositionRead.the-variants as position
 
-pub optional-span-refused : (g : OptionalSpanRead) (e : Refusal) → g ≡ span.Refused e → e ≡ optionalSpanRefusal g
+pub optional-span-refused : Taken optionalSpanRefusal span.Refused
 optional-span-refused g e h = taken optionalSpanRefusal h refl
 
-pub position-refused : (g : PositionRead) (e : Refusal) → g ≡ position.Refused e → e ≡ positionRefusal g
+pub position-refused : Taken positionRefusal position.Refused
 position-refused g e h = taken positionRefusal h refl
 
 pub ruleset refusals = (types.refusals, optional-span-refused, position-refused)
@@ -71,13 +71,11 @@ module _ {B : Type 0} (m : List ℕ) (g : OptionalSpanRead) (r : Res (Maybe Part
   pub optional-span-no : (e′ e : Refusal) → optionalSpanRes m g ≡ r → g ≡ span.Refused e → e′ ≡ optionalSpanRefusal g → refused e′ ≡ andThen r f
   optional-span-no e′ e q h p = stop (optionalSpanRes m) optionalSpanRefusal r f q h p refl refl
 
--- each known by what is handed out of it
-module _ {B : Type 0} where
-  pub position-ok : (g : PositionRead) (v : Position) (n : ℕ) (r : Res Node) (f : Node → ℕ → Res B) (x : Res B) → positionRes g ≡ mapRes nodePosition r → g ≡ position.Value v n → ((a : Node) → v ≡ nodePosition a → x ≡ f a n) → x ≡ andThen r f
-  position-ok g v n r f x q h p = viewed nodePosition r f (sym q ∙ ap positionRes h) p
+pub position-ok : {B : Type 0} → ViewPasses B positionRes nodePosition position.Value
+position-ok = view-passes _ positionRes nodePosition position.Value (λ v n. refl)
 
-  pub position-no : (g : PositionRead) (e′ e : Refusal) (r : Res Node) (f : Node → ℕ → Res B) → positionRes g ≡ mapRes nodePosition r → g ≡ position.Refused e → e′ ≡ positionRefusal g → refused e′ ≡ andThen r f
-  position-no g e′ e r f q h p = ap refused (p ∙ ap positionRefusal h) ∙ view-stop nodePosition r f (sym q ∙ ap positionRes h)
+pub position-no : {B : Type 0} → ViewStops B positionRes nodePosition positionRefusal position.Refused
+position-no = view-stops _ positionRes nodePosition positionRefusal position.Refused (λ e. refl) (λ e. refl)
 
 -- in front of a read whose value stands beside its end
 module _ {A C : Type 0} (view : A → C) (empty w : C) (z : End) where
@@ -89,6 +87,9 @@ module _ {A C : Type 0} (view : A → C) (empty w : C) (z : End) where
   position-then g v n r f q h p = beside-after view empty (andThen r f) nodePosition r f v n w z (sym q ∙ ap positionRes h) p refl
 
 pub ruleset reads = (types.reads, optional-span-ok, optional-span-no, position-ok, position-no)
+
+-- flags, and the fields that they announce: so many reads that only these laws are tried
+pub ruleset announced = (needs, then-then, byte-ok, byte-no, optional-span-ok, optional-span-no)
 
 pub ruleset flagged = (reads, not-true, not-false, optional-yes, optional-no, optional-on, optional-off)
 

@@ -1,32 +1,29 @@
 -- A walk over texts, and a table that was read, in definitions that go on from them.
-use Prim.Native.Nat.{ℕ, _+_, _≤_, _<_}
-use native.Mathlib.Omega.{arith}
+use Prim.Native.Nat.{ℕ, _+_, _<_}
 use mathlib.Core.Path.{_≡_, refl, sym, ap, _∙_}
 use mathlib.Core.List.{List}
 use lib.ListN.{length}
-use Rattle.parsing.specs.Parse.{Res, ok, no, Part, andThen, mapRes, many}
+use Rattle.parsing.specs.Parse.{Res, ok, no, Part, andThen, many}
 use Rattle.parsing.specs.Good.{ok-at, no-ok}
 use Rattle.parsing.proofs.Loops.{fold-more, counted, many-count}
-use Rattle.parsing.proofs.Views.{viewed, view-stop}
+use Rattle.parsing.proofs.Views.{view-stop}
 use Rattle.error.specs.Refusals.{refused}
 use Rattle.error.specs.declared.Refusal.{Refusal}
 use Rattle.byte_source.specs.Answers.{spanRes, spanRefusal}
 use Rattle.byte_source.specs.declared.Span.{Span}
 use Rattle.byte_source.specs.declared.SpanRead.{SpanRead}
 use Rattle.byte_source.specs.declared.SpanRead.the-variants as span
-use Rattle.byte_source.proofs.ReadLaws.{taken, loop-no}
+use Rattle.byte_source.proofs.ReadLaws.{Taken, ViewPasses, view-passes, ViewStops, view-stops, taken, loop-no}
 use Rattle.utils.specs.Vbe.{text}
-use Rattle.format.specs.Header.{Tags}
 use Rattle.types.specs.Types.{endRes, endRefusal}
 use Rattle.types.specs.declared.End.{End}
 use Rattle.types.specs.declared.End.the-variants as end
 use Rattle.types.specs.declared.TagTable.{TagTable}
 use Rattle.types.proofs.TypeLaws as types
 use Rattle.tag_table.specs.Tables.{tagTable, tableRes, tableRefusal, passed}
-use Rattle.tag_table.specs.declared.TagTableRead.{TagTableRead}
 use Rattle.tag_table.specs.declared.TagTableRead.the-variants as table
 
-pub table-refused : (g : TagTableRead) (e : Refusal) → g ≡ table.Refused e → e ≡ tableRefusal g
+pub table-refused : Taken tableRefusal table.Refused
 table-refused g e h = taken tableRefusal h refl
 
 pub ruleset refusals = (types.refusals, table-refused)
@@ -59,11 +56,10 @@ table-made s k e l h = rw h
 pub ruleset walks = (types.reads, walk-more, walk-no, counted, walk-ok, walk-stop, table-made)
 
 -- a table that was read, in a definition that goes on from the names
-module _ {B : Type 0} where
-  pub table-ok : (g : TagTableRead) (t : TagTable) (n : ℕ) (r : Res Tags) (f : Tags → ℕ → Res B) (x : Res B) → tableRes g ≡ mapRes tagTable r → g ≡ table.Value t n → ((a : Tags) → t ≡ tagTable a → x ≡ f a n) → x ≡ andThen r f
-  table-ok g t n r f x q h p = viewed tagTable r f (sym q ∙ ap tableRes h) p
+pub table-ok : {B : Type 0} → ViewPasses B tableRes tagTable table.Value
+table-ok = view-passes _ tableRes tagTable table.Value (λ v n. refl)
 
-  pub table-no : (g : TagTableRead) (e′ e : Refusal) (r : Res Tags) (f : Tags → ℕ → Res B) → tableRes g ≡ mapRes tagTable r → g ≡ table.Refused e → e′ ≡ tableRefusal g → refused e′ ≡ andThen r f
-  table-no g e′ e r f q h p = ap refused (p ∙ ap tableRefusal h) ∙ view-stop tagTable r f (sym q ∙ ap tableRes h)
+pub table-no : {B : Type 0} → ViewStops B tableRes tagTable tableRefusal table.Refused
+table-no = view-stops _ tableRes tagTable tableRefusal table.Refused (λ e. refl) (λ e. refl)
 
 pub ruleset reads = (types.reads, table-ok, table-no)

@@ -8,7 +8,7 @@ use borrow.Author.Needs.{needs}
 use Rattle.parsing.specs.Parse.{Res, ok, mapRes, many}
 use Rattle.error.specs.Refusals.{refused}
 use Rattle.error.specs.declared.Refusal.{Refusal}
-use Rattle.byte_source.proofs.ReadLaws.{taken, loop-no, byte-ok, byte-no, number-ok, number-no}
+use Rattle.byte_source.proofs.ReadLaws.{Taken, taken, loop-no, byte-ok, byte-no, number-ok, number-no}
 use Rattle.format.specs.Header.{Interval, interval}
 use Rattle.types.specs.declared.ZoomInterval.{ZoomInterval}
 use Rattle.types.proofs.TypeLaws as types
@@ -19,7 +19,7 @@ use Rattle.zoom_intervals.specs.declared.ZoomIntervals.{ZoomIntervals}
 use Rattle.zoom_intervals.specs.declared.IntervalRead.{IntervalRead}
 use Rattle.zoom_intervals.specs.declared.IntervalRead.the-variants as interval-read
 
-pub interval-refused : (g : IntervalRead) (e : Refusal) → g ≡ interval-read.Refused e → e ≡ intervalRefusal g
+pub interval-refused : Taken intervalRefusal interval-read.Refused
 interval-refused g e h = taken intervalRefusal h refl
 
 pub ruleset refusals = (types.refusals, interval-refused)
