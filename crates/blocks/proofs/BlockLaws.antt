@@ -7,33 +7,30 @@ use mathlib.Core.List.{List, [], _∷_, _++_}
 use lib.ListN.{length, set, replicate}
 use borrow.Author.Needs.{needs}
 use borrow.Author.Tests.{le-leb, lt-leb}
-use Rattle.parsing.specs.Parse.{Res, ok, no, andThen, mapRes, many}
-use Rattle.parsing.specs.Good.{split, ok-val, ok-at}
+use Rattle.parsing.specs.Parse.{Res, ok, andThen, mapRes, many}
 use Rattle.parsing.proofs.Steps.{then-then}
-use Rattle.parsing.proofs.Loops.{many-no, many-count}
 use Rattle.error.specs.Refusals.{refused}
 use Rattle.error.specs.declared.Refusal.{Refusal}
 use Rattle.error.specs.declared.Refusal.the-variants.{ReversedInterval}
-use Rattle.byte_source.proofs.ReadLaws.{taken, number-ok, number-no}
+use Rattle.byte_source.proofs.ReadLaws.{Taken, taken, loop-no, number-ok, number-no}
 use Rattle.utils.proofs.NumberLaws as numbers
 use Rattle.format.specs.Tile.{Row, row, zoomTable}
 use Rattle.format.specs.Rows.{intervalTable}
 use Rattle.types.specs.Types.{endRefusal}
 use Rattle.types.specs.declared.End.the-variants as end
 use Rattle.types.proofs.BesideLaws.{besides, beside-same, beside-ok, beside-stop}
-use Rattle.types.proofs.FillLaws.{front-map-more, fill-more}
+use Rattle.types.proofs.FillLaws.{front-map-more, fill-more, fill-done}
 use Rattle.blocks.specs.Blocks.{zoomRow, emptyRow, filledRows, ShownRows, rowsOf, noRows, shownRows, TableIs, rowRes, rowRefusal, sumsRefusal}
 use Rattle.blocks.specs.declared.ZoomRow.{ZoomRow}
 use Rattle.blocks.specs.declared.ZoomTableRead.{ZoomTableRead}
-use Rattle.blocks.specs.declared.SumsRead.{SumsRead}
 use Rattle.blocks.specs.declared.SumsRead.the-variants as sums-read
 use Rattle.blocks.specs.declared.RowRead.{RowRead}
 use Rattle.blocks.specs.declared.RowRead.the-variants as row-read
 
-pub row-refused : (g : RowRead) (e : Refusal) → g ≡ row-read.Refused e → e ≡ rowRefusal g
+pub row-refused : Taken rowRefusal row-read.Refused
 row-refused g e h = taken rowRefusal h refl
 
-pub sums-refused : (g : SumsRead) (e : Refusal) → g ≡ sums-read.Refused e → e ≡ sumsRefusal g
+pub sums-refused : Taken sumsRefusal sums-read.Refused
 sums-refused g e h = taken sumsRefusal h refl
 
 pub ruleset refusals = (numbers.refusals, row-refused, sums-refused)
@@ -52,29 +49,14 @@ filled-more xs r h = front-map-more zoomRow xs r (replicate 256 emptyRow) h
 -- one read more, or a refusal, behind i rows of which only a view is known
 module _ {C : Type 0} (view : List Row → C) (m : List ℕ) (i at n k : ℕ) (l : C) where
   pub row-no : (g : RowRead) (e′ e : Refusal) → mapRes view (many row i m at) ≡ ok l n → rowRes g ≡ mapRes zoomRow (row m n) → g ≡ row-read.Refused e → e′ ≡ rowRefusal g → i < k → refused e′ ≡ many row k m at
-  row-no g e′ e h q d p b =
-      let s = split (many row i m at) (λ xs y. ok (view xs) y) l n h in
-      ap refused (p ∙ ap rowRefusal d) ∙ stopped (s .val) (s .mid) (s .first) (ok-at (s .second))
-    where
-      refusal : (x : Res Row) → mapRes zoomRow x ≡ refused e → x ≡ refused e
-      refusal (ok a y) z = absurd (let w : _≡_ {A = ℕ} 0 1 = cc in omega arith)
-      refusal (no a y) z = cc
-
-      stopped : (xs : List Row) (y : ℕ) → many row i m at ≡ ok xs y → y ≡ n → refused e ≡ many row k m at
-      stopped xs y f z = sym (many-no row m i k at f (refusal (row m y) (rw z (sym q ∙ ap rowRes d))) b)
+  row-no g e′ e h q d p b = loop-no rowRes rowRefusal row view zoomRow m i k at h q d p refl refl b
 
 module _ (m : List ℕ) (i at n k : ℕ) (l : List ZoomRow) where
   pub rows-more : (e : ℕ) (g : RowRead) (v : ZoomRow) → mapRes filledRows (many row i m at) ≡ ok l n → rowRes g ≡ mapRes zoomRow (row m n) → g ≡ row-read.Value v e → i < k → k ≤ 256 → mapRes filledRows (many row (i + 1) m at) ≡ ok (set l i v) e
   rows-more e g v h q d b c = fill-more filledRows zoomRow 256 filled-more row m i at n l e v h (sym q ∙ ap rowRes d) (omega arith)
 
   pub rows-done : mapRes filledRows (many row i m at) ≡ ok l n → i ≤ k → k ≤ i → _≡_ {A = Res ShownRows} (ok (record { rows = l; count = k }) n) (mapRes rowsOf (many row k m at))
-  rows-done h b c =
-      let w : i ≡ k = omega arith in
-      let s = split (many row k m at) (λ xs y. ok (filledRows xs) y) l n (rw w at h) in
-      done (s .val) (s .mid) (s .first) (ok-val (s .second)) (ok-at (s .second))
-    where
-      done : (xs : List Row) (y : ℕ) → many row k m at ≡ ok xs y → filledRows xs ≡ l → y ≡ n → ok (record { rows = l; count = k }) n ≡ mapRes rowsOf (many row k m at)
-      done xs y f w z = rw (f, ← w, z, many-count row m k at xs y f)
+  rows-done h b c = fill-done filledRows (λ l k. record { rows = l; count = k }) row m i at n k l h b c
 
 pub ruleset fills = (besides, rows-none, rows-more, row-no, rows-done)
 

@@ -9,18 +9,18 @@ use lib.Seq.{take-append-seam}
 use borrow.Author.Needs.{needs}
 use Rattle.parsing.specs.Parse.{Res, ok, no, Parser, andThen, mapRes, many}
 use Rattle.parsing.specs.Good.{split, ok-val, ok-at, total}
-use Rattle.parsing.proofs.Loops.{fold-more, many-count}
+use Rattle.parsing.proofs.Loops.{fold-more, counted, many-count}
 use Rattle.parsing.proofs.Steps.{then-then}
 use Rattle.parsing.proofs.Views.{viewed, view-stop}
 use Rattle.error.specs.Refusals.{refused}
 use Rattle.error.specs.declared.Refusal.{Refusal}
 use Rattle.error.specs.declared.Refusal.the-variants.{ReversedInterval}
+use Rattle.byte_source.proofs.ReadLaws.{ViewPasses, view-passes, ViewStops, view-stops}
 use Rattle.arithmetic.specs.Cut.{cut}
 use Rattle.arithmetic.proofs.CutLaws.{cut-add}
 use Rattle.format.specs.Tile.{Row, row}
 use Rattle.format.specs.Rows.{rowsUpto, pointsOf, waysOf, intervalTable}
 use Rattle.blocks.specs.Blocks.{zoomRow, sumOf, zoomSums, sumsRes, sumsRefusal, rowRes, rowRefusal}
-use Rattle.blocks.specs.declared.SumsRead.{SumsRead}
 use Rattle.blocks.specs.declared.SumsRead.the-variants as sums-read
 use Rattle.blocks.specs.declared.ZoomRow.{ZoomRow}
 use Rattle.blocks.specs.declared.Sums.{Sums}
@@ -58,10 +58,7 @@ module _ (m : List ℕ) (i at n k p w : ℕ) where
   pub sums-no : (g : RowRead) (e′ e : Refusal) → mapRes sumOf (many row i m at) ≡ ok (record { points = p; ways = w }) n → rowRes g ≡ mapRes zoomRow (row m n) → g ≡ row-read.Refused e → e′ ≡ rowRefusal g → i < k → refused e′ ≡ mapRes sumOf (many row k m at)
   sums-no g e′ e h q d z b = rw (← (row-no sumOf m i at n k (record { points = p; ways = w }) g e′ e h q d z b))
 
-  pub sums-done : mapRes sumOf (many row i m at) ≡ ok (record { points = p; ways = w }) n → i ≤ k → k ≤ i → ok (record { points = p; ways = w }) n ≡ mapRes sumOf (many row k m at)
-  sums-done h b c = let e : i ≡ k = omega arith in sym (rw e at h)
-
-pub ruleset sums = (needs, sums-more, sums-no, sums-done)
+pub ruleset sums = (needs, sums-more, sums-no, counted)
 
 -- k values, then those that `then` gives from the place behind them
 module _ {A : Type 0} (then : ℕ → Res (List A)) where
@@ -138,9 +135,8 @@ module _ (m : List ℕ) (a b at k : ℕ) where
 pub ruleset parted = (needs, sum-reversed, front-no, back-no, both-ok)
 
 -- sums that were read, in a definition that goes on from the table
-module _ {B : Type 0} (a b z : ℕ) (g : SumsRead) (r : Res (List Row)) (f : List Row → ℕ → Res B) where
-  pub sums-ok : (v : Sums) (n : ℕ) (x : Res B) → sumsRes g ≡ mapRes (zoomSums a b z) r → g ≡ sums-read.Value v n → ((l : List Row) → v ≡ zoomSums a b z l → x ≡ f l n) → x ≡ andThen r f
-  sums-ok v n x q h p = viewed (zoomSums a b z) r f (sym q ∙ ap sumsRes h) p
+pub sums-ok : {B : Type 0} (a b z : ℕ) → ViewPasses B sumsRes (zoomSums a b z) sums-read.Value
+sums-ok a b z = view-passes _ sumsRes (zoomSums a b z) sums-read.Value (λ v n. refl)
 
-  pub sums-stop : (e′ e : Refusal) → sumsRes g ≡ mapRes (zoomSums a b z) r → g ≡ sums-read.Refused e → e′ ≡ sumsRefusal g → refused e′ ≡ andThen r f
-  sums-stop e′ e q h p = ap refused (p ∙ ap sumsRefusal h) ∙ view-stop (zoomSums a b z) r f (sym q ∙ ap sumsRes h)
+pub sums-stop : {B : Type 0} (a b z : ℕ) → ViewStops B sumsRes (zoomSums a b z) sumsRefusal sums-read.Refused
+sums-stop a b z = view-stops _ sumsRes (zoomSums a b z) sumsRefusal sums-read.Refused (λ e. refl) (λ e. refl)

@@ -3,39 +3,50 @@ use Prim.Native.Nat.{ℕ}
 use mathlib.Core.Path.{_≡_, refl, sym, ap, _∙_}
 use mathlib.Core.Bool.{Bool, true, false}
 use mathlib.Core.List.{List}
+use borrow.Author.Needs.{needs}
 use borrow.Author.Tests.{not-true, not-false}
 use Rattle.parsing.specs.Parse.{Res, ok, no, Parser, Part, Maybe, none, some, andThen, mapRes, optional}
-use Rattle.parsing.proofs.Views.{viewed, view-stop}
+use Rattle.parsing.proofs.Steps.{step, then-then}
 use Rattle.error.specs.Refusals.{refused}
 use Rattle.error.specs.declared.Refusal.{Refusal}
 use Rattle.byte_source.specs.declared.Span.{Span}
 use Rattle.byte_source.specs.Answers.{spanBytes}
-use Rattle.byte_source.proofs.ReadLaws.{taken}
+use Rattle.byte_source.proofs.ReadLaws.{Taken, ViewPasses, view-passes, ViewStops, view-stops, stop, taken, byte-ok, byte-no}
 use Rattle.text.specs.Utf8.{valid}
 use Rattle.format.specs.WayData.{Node}
-use Rattle.types.specs.Types.{optionalSpan}
+use Rattle.types.specs.Types.{optionalSpan, maybePart}
 use Rattle.types.specs.declared.Position.{Position}
 use Rattle.types.specs.declared.OptionalSpan.{OptionalSpan}
 use Rattle.types.specs.declared.OptionalSpan.the-variants.{Absent, At}
 use Rattle.types.specs.Beside.{Beside}
 use Rattle.types.specs.declared.End.{End}
 use Rattle.types.proofs.TypeLaws as types
-use Rattle.types.proofs.BesideLaws.{beside-after}
+use Rattle.types.proofs.TypeLaws.{part-back}
+use Rattle.types.proofs.BesideLaws.{beside-same, beside-after}
 use Rattle.fields.specs.Fields.{optionalSpanRes, optionalSpanRefusal, positionRes, positionRefusal, nodePosition, streamedSpan}
 use Rattle.fields.specs.declared.OptionalSpanRead.{OptionalSpanRead}
 use Rattle.fields.specs.declared.OptionalSpanRead.the-variants as span
 use Rattle.fields.specs.declared.PositionRead.{PositionRead}
 use Rattle.fields.specs.declared.PositionRead.the-variants as position
 
-pub optional-span-refused : (g : OptionalSpanRead) (e : Refusal) → g ≡ span.Refused e → e ≡ optionalSpanRefusal g
+pub optional-span-refused : Taken optionalSpanRefusal span.Refused
 optional-span-refused g e h = taken optionalSpanRefusal h refl
 
-pub position-refused : (g : PositionRead) (e : Refusal) → g ≡ position.Refused e → e ≡ positionRefusal g
+pub position-refused : Taken positionRefusal position.Refused
 position-refused g e h = taken positionRefusal h refl
 
 pub ruleset refusals = (types.refusals, optional-span-refused, position-refused)
 
--- a field that a flag announces, by the flag
+-- a field that a flag announces, by the flag: as it is, and in a definition that goes on from it
+module _ {A : Type 0} (p : Parser A) (m : List ℕ) (at : ℕ) (c : Bool) (x : Res (Maybe A)) where
+  pub optional-yes : c ≡ true → x ≡ andThen (p m at) (λ a e. ok (some a) e) → x ≡ optional c p m at
+  unfolding optional
+  optional-yes h q = rw h q
+
+  pub optional-no : c ≡ false → x ≡ ok none at → x ≡ optional c p m at
+  unfolding optional
+  optional-no h q = rw h q
+
 module _ {A B : Type 0} (p : Parser A) (m : List ℕ) (at : ℕ) (c : Bool) (f : Maybe A → ℕ → Res B) (x : Res B) where
   pub optional-on : c ≡ true → x ≡ andThen (p m at) (λ a e. f (some a) e) → x ≡ andThen (optional c p m at) f
   unfolding optional
@@ -49,31 +60,38 @@ module _ {A B : Type 0} (p : Parser A) (m : List ℕ) (at : ℕ) (c : Bool) (f :
   unfolding optional
   optional-off h q = rw h q
 
--- each known by what is handed out of it
-module _ {B : Type 0} where
-  pub optional-span-ok : (g : OptionalSpanRead) (v : OptionalSpan) (n : ℕ) (r : Res (Maybe Part)) (f : Maybe Part → ℕ → Res B) (x : Res B) → optionalSpanRes g ≡ mapRes optionalSpan r → g ≡ span.Value v n → ((a : Maybe Part) → v ≡ optionalSpan a → x ≡ f a n) → x ≡ andThen r f
-  optional-span-ok g v n r f x q h p = viewed optionalSpan r f (sym q ∙ ap optionalSpanRes h) p
+module _ {B : Type 0} (m : List ℕ) (g : OptionalSpanRead) (r : Res (Maybe Part)) (f : Maybe Part → ℕ → Res B) where
+  pub optional-part-ok : (v : OptionalSpan) (n : ℕ) (x : Res B) → optionalSpanRes m g ≡ r → g ≡ span.Value v n → x ≡ f (maybePart m v) n → x ≡ andThen r f
+  optional-part-ok v n x q h p = step (optionalSpanRes m) r f q h p
 
-  pub optional-span-no : (g : OptionalSpanRead) (e′ e : Refusal) (r : Res (Maybe Part)) (f : Maybe Part → ℕ → Res B) → optionalSpanRes g ≡ mapRes optionalSpan r → g ≡ span.Refused e → e′ ≡ optionalSpanRefusal g → refused e′ ≡ andThen r f
-  optional-span-no g e′ e r f q h p = ap refused (p ∙ ap optionalSpanRefusal h) ∙ view-stop optionalSpan r f (sym q ∙ ap optionalSpanRes h)
+  -- known by what is handed out of it
+  pub optional-span-ok : (v : OptionalSpan) (n : ℕ) (x : Res B) → optionalSpanRes m g ≡ r → g ≡ span.Value v n → ((a : Maybe Part) → v ≡ optionalSpan a → x ≡ f a n) → x ≡ andThen r f
+  optional-span-ok v n x q h p = optional-part-ok v n x q h (p (maybePart m v) (sym (part-back m v)))
 
-  pub position-ok : (g : PositionRead) (v : Position) (n : ℕ) (r : Res Node) (f : Node → ℕ → Res B) (x : Res B) → positionRes g ≡ mapRes nodePosition r → g ≡ position.Value v n → ((a : Node) → v ≡ nodePosition a → x ≡ f a n) → x ≡ andThen r f
-  position-ok g v n r f x q h p = viewed nodePosition r f (sym q ∙ ap positionRes h) p
+  pub optional-span-no : (e′ e : Refusal) → optionalSpanRes m g ≡ r → g ≡ span.Refused e → e′ ≡ optionalSpanRefusal g → refused e′ ≡ andThen r f
+  optional-span-no e′ e q h p = stop (optionalSpanRes m) optionalSpanRefusal r f q h p refl refl
 
-  pub position-no : (g : PositionRead) (e′ e : Refusal) (r : Res Node) (f : Node → ℕ → Res B) → positionRes g ≡ mapRes nodePosition r → g ≡ position.Refused e → e′ ≡ positionRefusal g → refused e′ ≡ andThen r f
-  position-no g e′ e r f q h p = ap refused (p ∙ ap positionRefusal h) ∙ view-stop nodePosition r f (sym q ∙ ap positionRes h)
+pub position-ok : {B : Type 0} → ViewPasses B positionRes nodePosition position.Value
+position-ok = view-passes _ positionRes nodePosition position.Value (λ v n. refl)
+
+pub position-no : {B : Type 0} → ViewStops B positionRes nodePosition positionRefusal position.Refused
+position-no = view-stops _ positionRes nodePosition positionRefusal position.Refused (λ e. refl) (λ e. refl)
 
 -- in front of a read whose value stands beside its end
 module _ {A C : Type 0} (view : A → C) (empty w : C) (z : End) where
-  pub optional-span-then : (g : OptionalSpanRead) (v : OptionalSpan) (n : ℕ) (r : Res (Maybe Part)) (f : Maybe Part → ℕ → Res A) → optionalSpanRes g ≡ mapRes optionalSpan r → g ≡ span.Value v n → ((a : Maybe Part) → v ≡ optionalSpan a → Beside view empty (f a n) w z) → Beside view empty (andThen r f) w z
-  optional-span-then g v n r f q h p = beside-after view empty (andThen r f) optionalSpan r f v n w z (sym q ∙ ap optionalSpanRes h) p refl
+  pub optional-span-then : (m : List ℕ) (g : OptionalSpanRead) (v : OptionalSpan) (n : ℕ) (r : Res (Maybe Part)) (f : Maybe Part → ℕ → Res A) → optionalSpanRes m g ≡ r → g ≡ span.Value v n → ((a : Maybe Part) → v ≡ optionalSpan a → Beside view empty (f a n) w z) → Beside view empty (andThen r f) w z
+  optional-span-then m g v n r f q h p =
+      beside-same view empty (andThen r f) (f (maybePart m v) n) w z (p (maybePart m v) (sym (part-back m v))) (step (optionalSpanRes m) r f q h refl)
 
   pub position-then : (g : PositionRead) (v : Position) (n : ℕ) (r : Res Node) (f : Node → ℕ → Res A) → positionRes g ≡ mapRes nodePosition r → g ≡ position.Value v n → ((a : Node) → v ≡ nodePosition a → Beside view empty (f a n) w z) → Beside view empty (andThen r f) w z
   position-then g v n r f q h p = beside-after view empty (andThen r f) nodePosition r f v n w z (sym q ∙ ap positionRes h) p refl
 
 pub ruleset reads = (types.reads, optional-span-ok, optional-span-no, position-ok, position-no)
 
-pub ruleset flagged = (reads, not-true, not-false, optional-on, optional-off)
+-- flags, and the fields that they announce: so many reads that only these laws are tried
+pub ruleset announced = (needs, then-then, byte-ok, byte-no, optional-span-ok, optional-span-no)
+
+pub ruleset flagged = (reads, not-true, not-false, optional-yes, optional-no, optional-on, optional-off)
 
 -- a text as it is streamed
 module _ (m : List ℕ) (o : OptionalSpan) where

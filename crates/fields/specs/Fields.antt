@@ -1,8 +1,8 @@
--- What points and ways have alike, as it is handed out (document 01, poi.rs and way.rs), and the answers that give it.
+-- What points, ways and the header have alike (document 01, poi.rs, way.rs and header.rs), and the answers that give it.
 use Prim.Native.Nat.{ℕ}
 use mathlib.Core.Bool.{cond}
 use mathlib.Core.List.{List}
-use Rattle.parsing.specs.Parse.{Res, ok}
+use Rattle.parsing.specs.Parse.{Res, ok, Part, Maybe}
 use Rattle.error.specs.Refusals.{refused}
 use Rattle.error.specs.declared.Refusal.{Refusal}
 use Rattle.error.specs.declared.Refusal.the-variants.{Source}
@@ -10,7 +10,7 @@ use Rattle.byte_source.specs.declared.Span.{Span}
 use Rattle.byte_source.specs.Answers.{spanBytes}
 use Rattle.text.specs.Utf8.{valid}
 use Rattle.format.specs.WayData.{Node}
-use Rattle.types.specs.Types.{positionOf}
+use Rattle.types.specs.Types.{positionOf, maybePart}
 use Rattle.types.specs.declared.Position.{Position}
 use Rattle.types.specs.declared.OptionalSpan.{OptionalSpan}
 use Rattle.types.specs.declared.OptionalSpan.the-variants.{Absent, At}
@@ -19,9 +19,9 @@ use Rattle.fields.specs.declared.OptionalSpanRead.the-variants as span
 use Rattle.fields.specs.declared.PositionRead.{PositionRead}
 use Rattle.fields.specs.declared.PositionRead.the-variants as position
 
-abbrev pub optionalSpanRes : OptionalSpanRead → Res OptionalSpan
-optionalSpanRes (span.Value s n) = ok s n
-optionalSpanRes (span.Refused r) = refused r
+abbrev pub optionalSpanRes : List ℕ → OptionalSpanRead → Res (Maybe Part)
+optionalSpanRes m (span.Value s n) = ok (maybePart m s) n
+optionalSpanRes m (span.Refused r) = refused r
 
 abbrev pub optionalSpanRefusal : OptionalSpanRead → Refusal
 optionalSpanRefusal (span.Value s n) = Source

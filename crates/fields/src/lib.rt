@@ -1,4 +1,4 @@
-// poi.rs and way.rs: the fields that points and ways have alike, but for their tags.
+// poi.rs, way.rs and header.rs: the fields that points, ways and the header have alike, but for tags.
 use byte_source::Span;
 use byte_source::SpanRead;
 use error::Refusal;
@@ -10,7 +10,6 @@ ghost use Rattle.parsing.specs.Parse.{mapRes, optional};
 ghost use Rattle.utils.specs.Vbe.{text};
 ghost use Rattle.format.specs.WayData.{node};
 ghost use Rattle.format.specs.Tile.{debugSignature};
-ghost use Rattle.types.specs.Types.{optionalSpan};
 ghost use Rattle.fields.specs.Fields.{optionalSpanRes, optionalSpanRefusal, positionRes, positionRefusal, nodePosition, streamedSpan};
 
 pub enum OptionalSpanRead {
@@ -43,7 +42,7 @@ pub fn position_refusal(got: PositionRead) -> Refusal
 
 // In debug maps, the 32 bytes in front of a tile or a feature.
 pub fn read_signature(map: &[u8], at: usize, debug: bool) -> OptionalSpanRead
-    ensures { λ r. ⌜ optionalSpanRes r ≡ mapRes optionalSpan (debugSignature debug (now (map .entry)) at) ⌝ }
+    ensures { λ r. ⌜ optionalSpanRes (now (map .entry)) r ≡ debugSignature debug (now (map .entry)) at ⌝ }
 {
     if !debug {
         return OptionalSpanRead::Value(OptionalSpan::Absent, at);
@@ -57,7 +56,7 @@ pub fn read_signature(map: &[u8], at: usize, debug: bool) -> OptionalSpanRead
 
 // A text that a flag announces.
 pub fn read_optional_text(map: &[u8], at: usize, flag: bool) -> OptionalSpanRead
-    ensures { λ r. ⌜ optionalSpanRes r ≡ mapRes optionalSpan (optional flag text (now (map .entry)) at) ⌝ }
+    ensures { λ r. ⌜ optionalSpanRes (now (map .entry)) r ≡ optional flag text (now (map .entry)) at ⌝ }
 {
     if !flag {
         return OptionalSpanRead::Value(OptionalSpan::Absent, at);

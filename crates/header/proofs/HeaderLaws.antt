@@ -1,9 +1,9 @@
 -- The header from its parts, and a header that was read, in definitions that go on from it.
-use Prim.Native.Nat.{ℕ, _-_}
+use Prim.Native.Nat.{ℕ}
 use mathlib.Core.Path.{_≡_, refl, sym, ap, _∙_}
 use mathlib.Core.List.{List, [], _∷_}
 use mathlib.Core.List.{map as mapped}
-use lib.ListN.{length, replicate, length-map}
+use lib.ListN.{length, drop, replicate, length-map}
 use lib.Seq.{take-at}
 use borrow.Author.Needs.{needs}
 use borrow.Author.Tests.{eq-eqb, ne-eqb}
@@ -14,23 +14,22 @@ use Rattle.error.specs.declared.Refusal.the-variants.{InvalidHeaderSize}
 use Rattle.format.specs.Header.{Header, Interval, tags, intervals, tables, header}
 use Rattle.format.specs.TagTable.{tagText, named}
 use Rattle.format.proofs.TagLaws.{header-tags}
-use Rattle.types.specs.Types.{intervalOf, intervalsOf, optionalSpan, optionalByte, endRefusal}
+use Rattle.types.specs.Types.{intervalOf, intervalsOf, optionalByte, endRefusal}
 use Rattle.types.specs.declared.Position.{Position}
 use Rattle.types.specs.declared.BoundingBox.{BoundingBox}
 use Rattle.types.specs.declared.MapHeader.{MapHeader}
 use Rattle.types.specs.declared.TagTable.{TagTable}
 use Rattle.types.specs.declared.OptionalPosition.{OptionalPosition}
 use Rattle.types.specs.declared.OptionalPosition.the-variants as position
-use Rattle.types.specs.declared.OptionalSpan.{OptionalSpan}
-use Rattle.types.specs.declared.OptionalSpan.the-variants as span
 use Rattle.types.specs.declared.OptionalByte.{OptionalByte}
 use Rattle.types.specs.declared.OptionalByte.the-variants as byte
 use Rattle.types.specs.declared.End.the-variants as end
 use Rattle.types.proofs.TypeLaws as types
+use Rattle.types.proofs.TypeLaws.{part-back}
 use Rattle.types.proofs.BesideLaws.{beside-done, beside-no, beside-same, beside-after, beside-ok, beside-stop}
 use Rattle.header_fields.specs.Fields.{placeOf, boxOf}
 use Rattle.header_fields.specs.declared.StoredPosition.{StoredPosition}
-use Rattle.header_parts.specs.Parts.{frontOf, optionsOf, maybePlace, maybeByte, maybeText}
+use Rattle.header_parts.specs.Parts.{frontOf, optionsOf, maybePlace, maybeByte}
 use Rattle.header_parts.specs.declared.Front.{Front}
 use Rattle.header_parts.specs.declared.Options.{Options}
 use Rattle.header_parts.specs.declared.OptionalStored.{OptionalStored}
@@ -57,10 +56,6 @@ position-absent p h = rw h
 pub ruleset positions = (types.reads, position-at, position-absent)
 
 -- what the code holds of an optional field is what is stored
-text-back : (m : List ℕ) (s : OptionalSpan) → optionalSpan (maybeText m s) ≡ s
-text-back m span.Absent = refl
-text-back m (span.At s) = refl
-
 byte-back : (b : OptionalByte) → optionalByte (maybeByte b) ≡ b
 byte-back byte.Absent = refl
 byte-back (byte.At b) = refl
@@ -89,7 +84,7 @@ pub header-made : (f : Front) (o : Options) (p w : TagTable) (z : ZoomIntervals)
     })
 header-made f o p w z b s h k = record {
   made = λ m a a′ l q q′ e.
-      rw (h, k, q, q′, e, byte-back (o .«start_zoom_level»), text-back m (o .«language_preference»), text-back m (o .comment), text-back m (o .«created_by»));
+      rw (h, k, q, q′, e, byte-back (o .«start_zoom_level»), part-back m (o .«language_preference»), part-back m (o .comment), part-back m (o .«created_by»));
 }
 
 -- the three ways that the last step ends
@@ -139,7 +134,7 @@ unfolding filled
 intervals-back h =
     let l = h .intervals in
     let n : length (mapped zoomInterval l) ≡ length l = length-map l zoomInterval in
-    ap (mapped intervalOf) (take-at (mapped zoomInterval l) (replicate (255 - length l) emptyInterval) (length l) n) ∙ same l
+    ap (mapped intervalOf) (take-at (mapped zoomInterval l) (drop (length (mapped zoomInterval l)) (replicate 255 emptyInterval)) (length l) n) ∙ same l
   where
     same : (l : List Interval) → mapped intervalOf (mapped zoomInterval l) ≡ l
     same [] = refl

@@ -24,28 +24,21 @@ use Rattle.byte_source.specs.Answers.{spanRes, spanRefusal, spanBytes}
 use Rattle.byte_source.specs.declared.Span.{Span}
 use Rattle.byte_source.specs.declared.SpanRead.{SpanRead}
 use Rattle.byte_source.specs.declared.SpanRead.the-variants as span
-use Rattle.byte_source.proofs.ReadLaws.{stop, taken}
-use Rattle.format.specs.Header as format
-use Rattle.format.specs.Header.{same, Place, Box}
+use Rattle.byte_source.proofs.ReadLaws.{Taken, Passes, Stops, stop, taken}
+use Rattle.format.specs.Header.{same, Place}
 use Rattle.types.proofs.TypeLaws as types
 use Rattle.header_fields.specs.Fields.{placeOf, placeRes, placeRefusal, boxOf, boxRes, boxRefusal, preambleOf, preambleRes, preambleRefusal}
-use Rattle.header_fields.specs.declared.StoredPosition.{StoredPosition}
-use Rattle.header_fields.specs.declared.StoredPositionRead.{StoredPositionRead}
 use Rattle.header_fields.specs.declared.StoredPositionRead.the-variants as position
-use Rattle.header_fields.specs.declared.StoredBox.{StoredBox}
-use Rattle.header_fields.specs.declared.StoredBoxRead.{StoredBoxRead}
 use Rattle.header_fields.specs.declared.StoredBoxRead.the-variants as box
-use Rattle.header_fields.specs.declared.Preamble.{Preamble}
-use Rattle.header_fields.specs.declared.PreambleRead.{PreambleRead}
 use Rattle.header_fields.specs.declared.PreambleRead.the-variants as preamble
 
-pub place-refused : (g : StoredPositionRead) (e : Refusal) → g ≡ position.Refused e → e ≡ placeRefusal g
+pub place-refused : Taken placeRefusal position.Refused
 place-refused g e h = taken placeRefusal h refl
 
-pub box-refused : (g : StoredBoxRead) (e : Refusal) → g ≡ box.Refused e → e ≡ boxRefusal g
+pub box-refused : Taken boxRefusal box.Refused
 box-refused g e h = taken boxRefusal h refl
 
-pub preamble-refused : (g : PreambleRead) (e : Refusal) → g ≡ preamble.Refused e → e ≡ preambleRefusal g
+pub preamble-refused : Taken preambleRefusal preamble.Refused
 preamble-refused g e h = taken preambleRefusal h refl
 
 pub ruleset refusals = (types.refusals, place-refused, box-refused, preamble-refused)
@@ -117,22 +110,22 @@ module _ {B : Type 0} (m : List ℕ) (n at : ℕ) where
   chunk-no g e′ e f q h p = ap refused (p ∙ ap spanRefusal h) ∙ view-stop (partAt at n) (chunk n m at) f (sym q ∙ ap (spanRes m) h)
 
 module _ {B : Type 0} where
-  pub place-ok : (g : StoredPositionRead) (v : StoredPosition) (n : ℕ) (r : Res Place) (f : Place → ℕ → Res B) (x : Res B) → placeRes g ≡ r → g ≡ position.Value v n → x ≡ f (placeOf v) n → x ≡ andThen r f
+  pub place-ok : Passes B placeRes placeOf position.Value
   place-ok g v n r f x e h p = step placeRes r f e h p
 
-  pub place-no : (g : StoredPositionRead) (e′ e : Refusal) (r : Res Place) (f : Place → ℕ → Res B) → placeRes g ≡ r → g ≡ position.Refused e → e′ ≡ placeRefusal g → refused e′ ≡ andThen r f
+  pub place-no : Stops B placeRes placeRefusal position.Refused
   place-no g e′ e r f q h p = stop placeRes placeRefusal r f q h p refl refl
 
-  pub box-ok : (g : StoredBoxRead) (v : StoredBox) (n : ℕ) (r : Res Box) (f : Box → ℕ → Res B) (x : Res B) → boxRes g ≡ r → g ≡ box.Value v n → x ≡ f (boxOf v) n → x ≡ andThen r f
+  pub box-ok : Passes B boxRes boxOf box.Value
   box-ok g v n r f x e h p = step boxRes r f e h p
 
-  pub box-no : (g : StoredBoxRead) (e′ e : Refusal) (r : Res Box) (f : Box → ℕ → Res B) → boxRes g ≡ r → g ≡ box.Refused e → e′ ≡ boxRefusal g → refused e′ ≡ andThen r f
+  pub box-no : Stops B boxRes boxRefusal box.Refused
   box-no g e′ e r f q h p = stop boxRes boxRefusal r f q h p refl refl
 
-  pub preamble-ok : (g : PreambleRead) (v : Preamble) (n : ℕ) (r : Res format.Preamble) (f : format.Preamble → ℕ → Res B) (x : Res B) → preambleRes g ≡ r → g ≡ preamble.Value v n → x ≡ f (preambleOf v) n → x ≡ andThen r f
+  pub preamble-ok : Passes B preambleRes preambleOf preamble.Value
   preamble-ok g v n r f x e h p = step preambleRes r f e h p
 
-  pub preamble-no : (g : PreambleRead) (e′ e : Refusal) (r : Res format.Preamble) (f : format.Preamble → ℕ → Res B) → preambleRes g ≡ r → g ≡ preamble.Refused e → e′ ≡ preambleRefusal g → refused e′ ≡ andThen r f
+  pub preamble-no : Stops B preambleRes preambleRefusal preamble.Refused
   preamble-no g e′ e r f q h p = stop preambleRes preambleRefusal r f q h p refl refl
 
 pub ruleset reads = (types.reads, flags, same-yes, same-no, place-made, chunk-ok, chunk-no, place-ok, place-no, box-ok, box-no, preamble-ok, preamble-no)

@@ -2,17 +2,16 @@
 -- the map m is a part of it.
 use Prim.Native.Nat.{ℕ}
 use mathlib.Core.List.{List}
-use Rattle.parsing.specs.Parse.{Res, ok, Part, Maybe, none, some}
+use Rattle.parsing.specs.Parse.{Res, ok, Maybe, none, some}
 use Rattle.error.specs.Refusals.{refused}
 use Rattle.error.specs.declared.Refusal.{Refusal}
 use Rattle.error.specs.declared.Refusal.the-variants.{Source}
 use Rattle.byte_source.specs.Answers.{partIn}
 use Rattle.format.specs.Header as format
 use Rattle.format.specs.Header.{Place}
+use Rattle.types.specs.Types.{maybePart}
 use Rattle.types.specs.declared.OptionalByte.{OptionalByte}
 use Rattle.types.specs.declared.OptionalByte.the-variants as byte
-use Rattle.types.specs.declared.OptionalSpan.{OptionalSpan}
-use Rattle.types.specs.declared.OptionalSpan.the-variants as span
 use Rattle.header_fields.specs.Fields.{placeOf, boxOf, preambleOf}
 use Rattle.header_parts.specs.declared.Front.{Front}
 use Rattle.header_parts.specs.declared.FrontRead.{FrontRead}
@@ -23,8 +22,6 @@ use Rattle.header_parts.specs.declared.OptionalStoredRead.{OptionalStore
 use Rattle.header_parts.specs.declared.OptionalStoredRead.the-variants as place-read
 use Rattle.header_parts.specs.declared.OptionalByteRead.{OptionalByteRead}
 use Rattle.header_parts.specs.declared.OptionalByteRead.the-variants as byte-read
-use Rattle.header_parts.specs.declared.OptionalSpanRead.{OptionalSpanRead}
-use Rattle.header_parts.specs.declared.OptionalSpanRead.the-variants as span-read
 use Rattle.header_parts.specs.declared.Options.{Options}
 use Rattle.header_parts.specs.declared.OptionsRead.{OptionsRead}
 use Rattle.header_parts.specs.declared.OptionsRead.the-variants as options
@@ -54,10 +51,6 @@ abbrev pub maybeByte : OptionalByte → Maybe ℕ
 maybeByte byte.Absent = none
 maybeByte (byte.At b) = some b
 
-abbrev pub maybeText : List ℕ → OptionalSpan → Maybe Part
-maybeText m span.Absent = none
-maybeText m (span.At s) = some (partIn m s)
-
 abbrev pub optionalPlaceRes : OptionalStoredRead → Res (Maybe Place)
 optionalPlaceRes (place-read.Value p n) = ok (maybePlace p) n
 optionalPlaceRes (place-read.Refused r) = refused r
@@ -74,21 +67,13 @@ abbrev pub optionalByteRefusal : OptionalByteRead → Refusal
 optionalByteRefusal (byte-read.Value b n) = Source
 optionalByteRefusal (byte-read.Refused r) = r
 
-abbrev pub optionalTextRes : List ℕ → OptionalSpanRead → Res (Maybe Part)
-optionalTextRes m (span-read.Value s n) = ok (maybeText m s) n
-optionalTextRes m (span-read.Refused r) = refused r
-
-abbrev pub optionalTextRefusal : OptionalSpanRead → Refusal
-optionalTextRefusal (span-read.Value s n) = Source
-optionalTextRefusal (span-read.Refused r) = r
-
 abbrev pub optionsOf : List ℕ → Options → format.Options
 optionsOf m o = record {
   startPosition = maybePlace (o .«start_position»);
   startZoom = maybeByte (o .«start_zoom_level»);
-  language = maybeText m (o .«language_preference»);
-  comment = maybeText m (o .comment);
-  createdBy = maybeText m (o .«created_by»);
+  language = maybePart m (o .«language_preference»);
+  comment = maybePart m (o .comment);
+  createdBy = maybePart m (o .«created_by»);
 }
 
 abbrev pub optionsRes : List ℕ → OptionsRead → Res format.Options

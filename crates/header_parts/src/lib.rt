@@ -4,6 +4,7 @@ use byte_source::ShortRead;
 use byte_source::Span;
 use byte_source::SpanRead;
 use error::Refusal;
+use fields::OptionalSpanRead;
 use header_fields::Preamble;
 use header_fields::PreambleRead;
 use header_fields::StoredBox;
@@ -13,11 +14,9 @@ use header_fields::StoredPositionRead;
 use types::OptionalByte;
 use types::OptionalSpan;
 ghost use mathlib.Core.Path.{_≡_};
-ghost use lib.Dec.{eqb};
 ghost use Rattle.parsing.specs.Parse.{byte, optional};
-ghost use Rattle.utils.specs.Vbe.{text};
 ghost use Rattle.format.specs.Header.{place, front, options};
-ghost use Rattle.header_parts.specs.Parts.{frontRes, frontRefusal, optionalPlaceRes, optionalPlaceRefusal, optionalByteRes, optionalByteRefusal, optionalTextRes, optionalTextRefusal, optionsRes, optionsRefusal};
+ghost use Rattle.header_parts.specs.Parts.{frontRes, frontRefusal, optionalPlaceRes, optionalPlaceRefusal, optionalByteRes, optionalByteRefusal, optionsRes, optionsRefusal};
 
 pub struct Front {
     pub preamble: Preamble,
@@ -44,11 +43,6 @@ pub enum OptionalStoredRead {
 
 pub enum OptionalByteRead {
     Value(OptionalByte, usize),
-    Refused(Refusal),
-}
-
-pub enum OptionalSpanRead {
-    Value(OptionalSpan, usize),
     Refused(Refusal),
 }
 
@@ -89,15 +83,6 @@ pub fn optional_byte_refusal(got: OptionalByteRead) -> Refusal
     match got {
         OptionalByteRead::Refused(r) => r,
         OptionalByteRead::Value(_, _) => Refusal::Source,
-    }
-}
-
-pub fn optional_text_refusal(got: OptionalSpanRead) -> Refusal
-    ensures { λ r. ⌜ r ≡ optionalTextRefusal got ⌝ }
-{
-    match got {
-        OptionalSpanRead::Refused(r) => r,
-        OptionalSpanRead::Value(_, _) => Refusal::Source,
     }
 }
 
@@ -146,11 +131,11 @@ pub fn read_front(map: &[u8], at: usize) -> FrontRead
     )
 }
 
-// A field that is there if `flag` is 1.
-pub fn read_optional_position(map: &[u8], flag: u8, at: usize) -> OptionalStoredRead
-    ensures { λ r. ⌜ optionalPlaceRes r ≡ optional (eqb flag 1) place (now (map .entry)) at ⌝ }
+// A field that a flag announces.
+pub fn read_optional_position(map: &[u8], at: usize, flag: bool) -> OptionalStoredRead
+    ensures { λ r. ⌜ optionalPlaceRes r ≡ optional flag place (now (map .entry)) at ⌝ }
 {
-    if flag != 1 {
+    if !flag {
         return OptionalStoredRead::Value(OptionalStored::Absent, at);
     }
     let got = header_fields::read_position(map, at);
@@ -160,10 +145,10 @@ pub fn read_optional_position(map: &[u8], flag: u8, at: usize) -> OptionalStored
     OptionalStoredRead::Value(OptionalStored::At(v), next)
 }
 
-pub fn read_optional_byte(map: &[u8], flag: u8, at: usize) -> OptionalByteRead
-    ensures { λ r. ⌜ optionalByteRes r ≡ optional (eqb flag 1) byte (now (map .entry)) at ⌝ }
+pub fn read_optional_byte(map: &[u8], at: usize, flag: bool) -> OptionalByteRead
+    ensures { λ r. ⌜ optionalByteRes r ≡ optional flag byte (now (map .entry)) at ⌝ }
 {
-    if flag != 1 {
+    if !flag {
         return OptionalByteRead::Value(OptionalByte::Absent, at);
     }
     let got = byte_source::read_u8(map, at);
@@ -173,42 +158,29 @@ pub fn read_optional_byte(map: &[u8], flag: u8, at: usize) -> OptionalByteRead
     OptionalByteRead::Value(OptionalByte::At(v), next)
 }
 
-pub fn read_optional_text(map: &[u8], flag: u8, at: usize) -> OptionalSpanRead
-    ensures { λ r. ⌜ optionalTextRes (now (map .entry)) r ≡ optional (eqb flag 1) text (now (map .entry)) at ⌝ }
-{
-    if flag != 1 {
-        return OptionalSpanRead::Value(OptionalSpan::Absent, at);
-    }
-    let got = utils::read_vbe_u(map, at);
-    let SpanRead::Value(v, next) = got else {
-        return OptionalSpanRead::Refused(byte_source::span_refusal(got));
-    };
-    OptionalSpanRead::Value(OptionalSpan::At(v), next)
-}
-
 // The fields that the flags announce: 40 start position, 20 start zoom level, 10 language, 08 comment, 04 created by.
 pub fn read_options(map: &[u8], flags: u8, at: usize) -> OptionsRead
     ensures { λ r. ⌜ optionsRes (now (map .entry)) r ≡ options flags (now (map .entry)) at ⌝ }
 {
-    let got = read_optional_position(map, flags / 64 % 2, at);
+    let got = read_optional_position(map, at, flags / 64 % 2 == 1);
     let OptionalStoredRead::Value(start_position, at) = got else {
         return OptionsRead::Refused(optional_position_refusal(got));
     };
-    let got = read_optional_byte(map, flags / 32 % 2, at);
+    let got = read_optional_byte(map, at, flags / 32 % 2 == 1);
     let OptionalByteRead::Value(start_zoom_level, at) = got else {
         return OptionsRead::Refused(optional_byte_refusal(got));
     };
-    let got = read_optional_text(map, flags / 16 % 2, at);
+    let got = fields::read_optional_text(map, at, flags / 16 % 2 == 1);
     let OptionalSpanRead::Value(language_preference, at) = got else {
-        return OptionsRead::Refused(optional_text_refusal(got));
+        return OptionsRead::Refused(fields::optional_span_refusal(got));
     };
-    let got = read_optional_text(map, flags / 8 % 2, at);
+    let got = fields::read_optional_text(map, at, flags / 8 % 2 == 1);
     let OptionalSpanRead::Value(comment, at) = got else {
-        return OptionsRead::Refused(optional_text_refusal(got));
+        return OptionsRead::Refused(fields::optional_span_refusal(got));
     };
-    let got = read_optional_text(map, flags / 4 % 2, at);
+    let got = fields::read_optional_text(map, at, flags / 4 % 2 == 1);
     let OptionalSpanRead::Value(created_by, at) = got else {
-        return OptionsRead::Refused(optional_text_refusal(got));
+        return OptionsRead::Refused(fields::optional_span_refusal(got));
     };
     OptionsRead::Value(
         Options {

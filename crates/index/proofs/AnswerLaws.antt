@@ -6,12 +6,10 @@ use mir.Val.{Fits}
 use lib.IntN.{ℤ}
 use mathlib.Core.Bool.{Bool, false, not}
 use mathlib.Core.Path.{_≡_, refl, sym, ap, _∙_}
-use Rattle.parsing.specs.Parse.{Res, ok, no, andThen, Maybe, none, some}
+use Rattle.parsing.specs.Parse.{Res, andThen, Maybe, none, some}
 use Rattle.parsing.proofs.Steps.{step}
-use Rattle.error.specs.Refusals.{refused}
-use Rattle.error.specs.declared.Refusal.{Refusal}
 use Rattle.byte_source.proofs.ReadLaws as reading
-use Rattle.byte_source.proofs.ReadLaws.{stop, taken}
+use Rattle.byte_source.proofs.ReadLaws.{Taken, Stops, stop, taken}
 use Rattle.format.specs.Header.{Interval}
 use Rattle.format.specs.Index.{Grid as TileGrid, inSubFile, gridTiles, inGrid}
 use Rattle.types.specs.Types.{intervalOf}
@@ -22,15 +20,14 @@ use Rattle.index.specs.declared.IntervalRead.{IntervalRead}
 use Rattle.index.specs.declared.IntervalRead.the-variants as interval
 use Rattle.index.specs.declared.GridRead.{GridRead}
 use Rattle.index.specs.declared.GridRead.the-variants as grid
-use Rattle.index.specs.declared.EntryRead.{EntryRead}
 use Rattle.index.specs.declared.EntryRead.the-variants as entry
 use Rattle.index.proofs.SignLaws.{passed}
 use Rattle.index.proofs.GridLaws.{Counted, counted-grid, good-size, indices}
 
-pub grid-refused : (g : GridRead) (e : Refusal) → g ≡ grid.Refused e → e ≡ gridRefusal g
+pub grid-refused : Taken gridRefusal grid.Refused
 grid-refused g e h = taken gridRefusal h refl
 
-pub entry-refused : (g : EntryRead) (e : Refusal) → g ≡ entry.Refused e → e ≡ entryRefusal g
+pub entry-refused : Taken entryRefusal entry.Refused
 entry-refused g e h = taken entryRefusal h refl
 
 pub ruleset refusals = (reading.refusals, grid-refused, entry-refused)
@@ -50,7 +47,7 @@ module _ {B : Type 0} where
   pub grid-ok : (g : GridRead) (n : ℕ) (r : Res ℕ) (f : ℕ → ℕ → Res B) (x : Res B) → gridRes g ≡ r → g ≡ grid.Tiles n → x ≡ f n 0 → x ≡ andThen r f
   grid-ok g n r f x e h p = step gridRes r f e h p
 
-  pub grid-no : (g : GridRead) (e′ e : Refusal) (r : Res ℕ) (f : ℕ → ℕ → Res B) → gridRes g ≡ r → g ≡ grid.Refused e → e′ ≡ gridRefusal g → refused e′ ≡ andThen r f
+  pub grid-no : Stops B gridRes gridRefusal grid.Refused
   grid-no g e′ e r f q h p = stop gridRes gridRefusal r f q h p refl refl
 
 -- a grid whose tiles were counted has fewer than 2 ^ 32

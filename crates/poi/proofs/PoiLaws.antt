@@ -1,6 +1,6 @@
 -- A point's fields, and the whole point, in definitions that go on from them.
 use Prim.Native.Nat.{ℕ, _<_, _^_}
-use mathlib.Core.Path.{_≡_, refl, sym, ap, _∙_}
+use mathlib.Core.Path.{_≡_, refl, ap}
 use mathlib.Core.Bool.{Bool}
 use mathlib.Core.List.{List}
 use lib.IntN.{ℤ}
@@ -11,10 +11,9 @@ use mir.Facts.{toZ-ofZ}
 use borrow.Author.Needs.{needs}
 use Rattle.parsing.specs.Parse.{Res, ok, Part, Maybe, some, andThen, mapRes}
 use Rattle.parsing.proofs.Steps.{then-then}
-use Rattle.parsing.proofs.Views.{viewed, view-stop}
 use Rattle.error.specs.Refusals.{refused}
 use Rattle.error.specs.declared.Refusal.{Refusal}
-use Rattle.byte_source.proofs.ReadLaws.{taken, byte-ok, byte-no}
+use Rattle.byte_source.proofs.ReadLaws.{Taken, ViewPasses, view-passes, ViewStops, view-stops, taken}
 use Rattle.format.specs.Elevation.{low32}
 use Rattle.tag.specs.declared.Kind.{Kind}
 use Rattle.format.specs.WayData.{Node, node}
@@ -41,16 +40,14 @@ use Rattle.poi.specs.declared.PoiRead.{PoiRead}
 use Rattle.poi.specs.declared.Poi.{Poi}
 use Rattle.poi.specs.declared.OptionalElevation.{OptionalElevation}
 use Rattle.poi.specs.declared.OptionalElevation.the-variants.{At}
-use Rattle.poi.specs.declared.ElevationRead.{ElevationRead}
 use Rattle.poi.specs.declared.ElevationRead.the-variants as elevation
 use Rattle.poi.specs.declared.PoiFields.{PoiFields}
-use Rattle.poi.specs.declared.PoiFieldsRead.{PoiFieldsRead}
 use Rattle.poi.specs.declared.PoiFieldsRead.the-variants as fields-read
 
-pub elevation-refused : (g : ElevationRead) (e : Refusal) → g ≡ elevation.Refused e → e ≡ elevationRefusal g
+pub elevation-refused : Taken elevationRefusal elevation.Refused
 elevation-refused g e h = taken elevationRefusal h refl
 
-pub poi-fields-refused : (g : PoiFieldsRead) (e : Refusal) → g ≡ fields-read.Refused e → e ≡ poiFieldsRefusal g
+pub poi-fields-refused : Taken poiFieldsRefusal fields-read.Refused
 poi-fields-refused g e h = taken poiFieldsRefusal h refl
 
 pub ruleset refusals = (fields.refusals, elevation-refused, poi-fields-refused)
@@ -59,27 +56,24 @@ pub ruleset refusals = (fields.refusals, elevation-refused, poi-fields-refused)
 pub elevation-made : (r z : ℤ) (n : ℕ) → r ≡ low32 z → mag r < 2 ^ 31 → _≡_ {A = Res OptionalElevation} (ok (At (toZ w32 (ofZ w32 r))) n) (ok (optionalElevation (some z)) n)
 elevation-made r z n h m = rw (toZ-ofZ {w = w32} {z = r} (record { sfits = m }), h)
 
-module _ {B : Type 0} where
-  pub elevation-ok : (g : ElevationRead) (v : OptionalElevation) (n : ℕ) (r : Res (Maybe ℤ)) (f : Maybe ℤ → ℕ → Res B) (x : Res B) → elevationRes g ≡ mapRes optionalElevation r → g ≡ elevation.Value v n → ((a : Maybe ℤ) → v ≡ optionalElevation a → x ≡ f a n) → x ≡ andThen r f
-  elevation-ok g v n r f x q h p = viewed optionalElevation r f (sym q ∙ ap elevationRes h) p
+pub elevation-ok : {B : Type 0} → ViewPasses B elevationRes optionalElevation elevation.Value
+elevation-ok = view-passes _ elevationRes optionalElevation elevation.Value (λ v n. refl)
 
-  pub elevation-no : (g : ElevationRead) (e′ e : Refusal) (r : Res (Maybe ℤ)) (f : Maybe ℤ → ℕ → Res B) → elevationRes g ≡ mapRes optionalElevation r → g ≡ elevation.Refused e → e′ ≡ elevationRefusal g → refused e′ ≡ andThen r f
-  elevation-no g e′ e r f q h p = ap refused (p ∙ ap elevationRefusal h) ∙ view-stop optionalElevation r f (sym q ∙ ap elevationRes h)
+pub elevation-no : {B : Type 0} → ViewStops B elevationRes optionalElevation elevationRefusal elevation.Refused
+elevation-no = view-stops _ elevationRes optionalElevation elevationRefusal elevation.Refused (λ e. refl) (λ e. refl)
 
 pub fields-made : (s t : OptionalSpan) (y : OptionalElevation) (a b : Maybe Part) (z : Maybe ℤ) (n : ℕ) → s ≡ optionalSpan a → t ≡ optionalSpan b → y ≡ optionalElevation z → _≡_ {A = Res PoiFields} (ok (record { name = s; «house_number» = t; elevation = y }) n) (ok (poiFieldsOf (record { name = a; houseNumber = b; elevation = z })) n)
 fields-made s t y a b z n h k d = rw (h, k, d)
 
 pub ruleset elevations = (fields.flagged, elevation-made)
 
--- a point's fields are so many reads that only these laws are tried
-pub ruleset reads = (needs, then-then, byte-ok, byte-no, optional-span-ok, optional-span-no, elevation-ok, elevation-no, fields-made)
+pub ruleset reads = (fields.announced, elevation-ok, elevation-no, fields-made)
 
-module _ {B : Type 0} where
-  pub fields-ok : (g : PoiFieldsRead) (v : PoiFields) (n : ℕ) (r : Res PointFields) (f : PointFields → ℕ → Res B) (x : Res B) → poiFieldsRes g ≡ mapRes poiFieldsOf r → g ≡ fields-read.Value v n → ((a : PointFields) → v ≡ poiFieldsOf a → x ≡ f a n) → x ≡ andThen r f
-  fields-ok g v n r f x q h p = viewed poiFieldsOf r f (sym q ∙ ap poiFieldsRes h) p
+pub fields-ok : {B : Type 0} → ViewPasses B poiFieldsRes poiFieldsOf fields-read.Value
+fields-ok = view-passes _ poiFieldsRes poiFieldsOf fields-read.Value (λ v n. refl)
 
-  pub fields-no : (g : PoiFieldsRead) (e′ e : Refusal) (r : Res PointFields) (f : PointFields → ℕ → Res B) → poiFieldsRes g ≡ mapRes poiFieldsOf r → g ≡ fields-read.Refused e → e′ ≡ poiFieldsRefusal g → refused e′ ≡ andThen r f
-  fields-no g e′ e r f q h p = ap refused (p ∙ ap poiFieldsRefusal h) ∙ view-stop poiFieldsOf r f (sym q ∙ ap poiFieldsRes h)
+pub fields-no : {B : Type 0} → ViewStops B poiFieldsRes poiFieldsOf poiFieldsRefusal fields-read.Refused
+fields-no = view-stops _ poiFieldsRes poiFieldsOf poiFieldsRefusal fields-read.Refused (λ e. refl) (λ e. refl)
 
 pub poi-made : (g : OptionalSpan) (p : Position) (t : TaggedRead) (r : PoiFields) (n : ℕ) (a : Maybe Part) (b : Node) (d : Tagged) (f : PointFields) → g ≡ optionalSpan a → p ≡ nodePosition b → shownTags t ≡ tagsOf d → mag (t .layer) < 2 ^ 7 → r ≡ poiFieldsOf f → _≡_ {A = Res Poi} (ok (record { signature = g; position = p; layer = toZ w8 (ofZ w8 (t .layer)); «tag_ids» = t .«tag_ids»; name = r .name; «house_number» = r .«house_number»; elevation = r .elevation }) n) (ok (poiOf (record { signature = a; position = b; tagged = d; name = f .name; houseNumber = f .houseNumber; elevation = f .elevation })) n)
 poi-made g p t r n a b d f h k q m z =
@@ -90,10 +84,10 @@ poi-made g p t r n a b d f h k q m z =
 pub ruleset ends = (needs, then-then, tagged-ok, tagged-no, fields-ok, fields-no, beside-done, beside-no, poi-made)
 
 -- a point whose signature and position were read, and then the rest of it
-pub poi-whole : (m : List ℕ) (debug : Bool) (kinds : List Kind) (at n k : ℕ) (g : OptionalSpanRead) (v : OptionalSpan) (q : PositionRead) (p : Position) (r : PoiRead) → optionalSpanRes g ≡ mapRes optionalSpan (debugSignature debug m at) → g ≡ span-read.Value v n → positionRes q ≡ mapRes nodePosition (node m n) → q ≡ position-read.Value p k → ((a : Maybe Part) (b : Node) → v ≡ optionalSpan a → p ≡ nodePosition b → PoiIs (behindPosition kinds a b m k) r) → PoiIs (point debug kinds m at) r
+pub poi-whole : (m : List ℕ) (debug : Bool) (kinds : List Kind) (at n k : ℕ) (g : OptionalSpanRead) (v : OptionalSpan) (q : PositionRead) (p : Position) (r : PoiRead) → optionalSpanRes m g ≡ debugSignature debug m at → g ≡ span-read.Value v n → positionRes q ≡ mapRes nodePosition (node m n) → q ≡ position-read.Value p k → ((a : Maybe Part) (b : Node) → v ≡ optionalSpan a → p ≡ nodePosition b → PoiIs (behindPosition kinds a b m k) r) → PoiIs (point debug kinds m at) r
 unfolding point
 poi-whole m debug kinds at n k g v q p r d h e i w =
-    optional-span-then poiOf emptyPoi (r .poi) (r .end) g v n (debugSignature debug m at) (λ a x. andThen (node m x) (λ b y. behindPosition kinds a b m y)) d h
+    optional-span-then poiOf emptyPoi (r .poi) (r .end) m g v n (debugSignature debug m at) (λ a x. andThen (node m x) (λ b y. behindPosition kinds a b m y)) d h
     (λ a f. position-then poiOf emptyPoi (r .poi) (r .end) q p k (node m n) (λ b y. behindPosition kinds a b m y) e i
     (λ b j. w a b f j))
 

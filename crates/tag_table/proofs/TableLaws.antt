@@ -1,32 +1,29 @@
 -- A walk over texts, and a table that was read, in definitions that go on from them.
-use Prim.Native.Nat.{ℕ, _+_, _≤_, _<_}
-use native.Mathlib.Omega.{arith}
+use Prim.Native.Nat.{ℕ, _+_, _<_}
 use mathlib.Core.Path.{_≡_, refl, sym, ap, _∙_}
 use mathlib.Core.List.{List}
 use lib.ListN.{length}
-use Rattle.parsing.specs.Parse.{Res, ok, no, Part, andThen, mapRes, many}
+use Rattle.parsing.specs.Parse.{Res, ok, no, Part, andThen, many}
 use Rattle.parsing.specs.Good.{ok-at, no-ok}
-use Rattle.parsing.proofs.Loops.{fold-more, fold-no, many-count}
-use Rattle.parsing.proofs.Views.{viewed, view-stop}
+use Rattle.parsing.proofs.Loops.{fold-more, counted, many-count}
+use Rattle.parsing.proofs.Views.{view-stop}
 use Rattle.error.specs.Refusals.{refused}
 use Rattle.error.specs.declared.Refusal.{Refusal}
 use Rattle.byte_source.specs.Answers.{spanRes, spanRefusal}
 use Rattle.byte_source.specs.declared.Span.{Span}
 use Rattle.byte_source.specs.declared.SpanRead.{SpanRead}
 use Rattle.byte_source.specs.declared.SpanRead.the-variants as span
-use Rattle.byte_source.proofs.ReadLaws.{taken}
+use Rattle.byte_source.proofs.ReadLaws.{Taken, ViewPasses, view-passes, ViewStops, view-stops, taken, loop-no}
 use Rattle.utils.specs.Vbe.{text}
-use Rattle.format.specs.Header.{Tags}
 use Rattle.types.specs.Types.{endRes, endRefusal}
 use Rattle.types.specs.declared.End.{End}
 use Rattle.types.specs.declared.End.the-variants as end
 use Rattle.types.specs.declared.TagTable.{TagTable}
 use Rattle.types.proofs.TypeLaws as types
 use Rattle.tag_table.specs.Tables.{tagTable, tableRes, tableRefusal, passed}
-use Rattle.tag_table.specs.declared.TagTableRead.{TagTableRead}
 use Rattle.tag_table.specs.declared.TagTableRead.the-variants as table
 
-pub table-refused : (g : TagTableRead) (e : Refusal) → g ≡ table.Refused e → e ≡ tableRefusal g
+pub table-refused : Taken tableRefusal table.Refused
 table-refused g e h = taken tableRefusal h refl
 
 pub ruleset refusals = (types.refusals, table-refused)
@@ -37,10 +34,8 @@ module _ (m : List ℕ) (i at n : ℕ) where
   walk-more e g s h q d = fold-more text m (λ _. tt) (λ _. tt) (λ _ _. tt) (λ _ _. refl) i at h (ap passed (sym q ∙ ap (spanRes m) d))
 
   pub walk-no : (k : ℕ) (g : SpanRead) (e′ e : Refusal) → passed (many text i m at) ≡ ok tt n → spanRes m g ≡ text m n → g ≡ span.Refused e → e′ ≡ spanRefusal g → i < k → refused e′ ≡ passed (many text k m at)
-  walk-no k g e′ e h q d p l = ap refused (p ∙ ap spanRefusal d) ∙ sym (fold-no text m (λ _. tt) (λ _. tt) i k at h (ap passed (sym q ∙ ap (spanRes m) d)) l)
-
-  pub walk-done : (k : ℕ) → passed (many text i m at) ≡ ok tt n → i ≤ k → k ≤ i → ok tt n ≡ passed (many text k m at)
-  walk-done k h l l′ = let e : i ≡ k = omega arith in sym (rw e at h)
+  walk-no k g e′ e h q d p l =
+      ap passed (loop-no (λ g. passed (spanRes m g)) spanRefusal text (λ _. tt) (λ _. tt) m i k at h (ap passed q) d p refl refl l)
 
 -- a walk over k texts, in a definition that goes on from it
 module _ {B : Type 0} (m : List ℕ) (k at : ℕ) where
@@ -58,14 +53,13 @@ module _ {B : Type 0} (m : List ℕ) (k at : ℕ) where
 pub table-made : (s k e : ℕ) (l : List Part) → k ≡ length l → _≡_ {A = Res TagTable} (ok (record { start = s; count = k }) e) (ok (tagTable (record { start = s; texts = l })) e)
 table-made s k e l h = rw h
 
-pub ruleset walks = (types.reads, walk-more, walk-no, walk-done, walk-ok, walk-stop, table-made)
+pub ruleset walks = (types.reads, walk-more, walk-no, counted, walk-ok, walk-stop, table-made)
 
 -- a table that was read, in a definition that goes on from the names
-module _ {B : Type 0} where
-  pub table-ok : (g : TagTableRead) (t : TagTable) (n : ℕ) (r : Res Tags) (f : Tags → ℕ → Res B) (x : Res B) → tableRes g ≡ mapRes tagTable r → g ≡ table.Value t n → ((a : Tags) → t ≡ tagTable a → x ≡ f a n) → x ≡ andThen r f
-  table-ok g t n r f x q h p = viewed tagTable r f (sym q ∙ ap tableRes h) p
+pub table-ok : {B : Type 0} → ViewPasses B tableRes tagTable table.Value
+table-ok = view-passes _ tableRes tagTable table.Value (λ v n. refl)
 
-  pub table-no : (g : TagTableRead) (e′ e : Refusal) (r : Res Tags) (f : Tags → ℕ → Res B) → tableRes g ≡ mapRes tagTable r → g ≡ table.Refused e → e′ ≡ tableRefusal g → refused e′ ≡ andThen r f
-  table-no g e′ e r f q h p = ap refused (p ∙ ap tableRefusal h) ∙ view-stop tagTable r f (sym q ∙ ap tableRes h)
+pub table-no : {B : Type 0} → ViewStops B tableRes tagTable tableRefusal table.Refused
+table-no = view-stops _ tableRes tagTable tableRefusal table.Refused (λ e. refl) (λ e. refl)
 
 pub ruleset reads = (types.reads, table-ok, table-no)

@@ -12,7 +12,7 @@ use mir.Syntax.{w8}
 use mir.Val.{toZ, ofZ}
 use Rattle.parsing.specs.Parse.{Res, ok, no, Part, andThen, mapRes, many}
 use Rattle.parsing.specs.Good.{split, ok-val, ok-at, no-ok}
-use Rattle.parsing.proofs.Loops.{fold-no, many-count}
+use Rattle.parsing.proofs.Loops.{counted, many-count}
 use Rattle.parsing.proofs.Views.{viewed, view-stop}
 use Rattle.error.specs.Refusals.{refused}
 use Rattle.error.specs.declared.Refusal.{Refusal}
@@ -20,6 +20,7 @@ use Rattle.byte_source.specs.Answers.{numberRes, numberRefusal, partIn, spanRes
 use Rattle.byte_source.specs.declared.Span.{Span}
 use Rattle.byte_source.specs.declared.SpanRead.{SpanRead}
 use Rattle.byte_source.specs.declared.SpanRead.the-variants as span
+use Rattle.byte_source.proofs.ReadLaws.{loop-no}
 use Rattle.tag.specs.Value.{value}
 use Rattle.tag.specs.declared.Kind.{Kind}
 use Rattle.byte_source.specs.declared.NumberRead.{NumberRead}
@@ -54,12 +55,9 @@ module _ (t : ℕ) (m : List ℕ) (i at n k : ℕ) (l : List ℕ) where
 
   pub ids-no : (g : NumberRead) (e′ e : Refusal) → mapRes filledIds (many (tagId t) i m at) ≡ ok l n → numberRes g ≡ tagId t m n → g ≡ number.Refused e → e′ ≡ numberRefusal g → i < k → refused e′ ≡ mapRes filledIds (many (tagId t) k m at)
   ids-no g e′ e h q d p b =
-      ap refused (p ∙ ap numberRefusal d) ∙ sym (fold-no (tagId t) m filledIds (λ v. v) i k at h (ap (mapRes (λ v. v)) (sym q ∙ ap numberRes d)) b)
+      ap (mapRes filledIds) (loop-no (λ g. passed (numberRes g)) numberRefusal (tagId t) filledIds (λ _. tt) m i k at h (ap passed q) d p refl refl b)
 
-  pub ids-done : mapRes filledIds (many (tagId t) i m at) ≡ ok l n → i ≤ k → k ≤ i → ok l n ≡ mapRes filledIds (many (tagId t) k m at)
-  ids-done h b c = let e : i ≡ k = omega arith in sym (rw e at h)
-
-pub ruleset ids = (types.besides, ids-none, ids-more, ids-no, ids-done)
+pub ruleset ids = (types.besides, ids-none, ids-more, ids-no, counted)
 
 -- values behind the ids, by what is left of the ids
 module _ (t : Table) (m : List ℕ) (ids : List ℕ) (i n : ℕ) (T : Res Unit) where

@@ -1,5 +1,5 @@
 -- An array that a loop fills from the front with what it reads: the values read so far, and behind them what was there.
-use Prim.Native.Nat.{ℕ, suc, _+_, _<_}
+use Prim.Native.Nat.{ℕ, suc, _+_, _≤_, _<_}
 use native.Mathlib.Numerals.{add-one}
 use native.Mathlib.Omega.{arith}
 use mathlib.Core.Path.{_≡_, refl, ap, _∙_}
@@ -42,3 +42,14 @@ module _ {A C : Type 0} (fill : List A → List C) (g : A → C) (N : ℕ) (grow
             let one : p m y ≡ ok a x = rw o f′ in
             let stored : fill (xs ++ (a ∷ [])) ≡ set l i v = grows xs a (omega arith) ∙ rw (w, w′, c) in
             rw (many-more p m i at f one, stored, o′)
+
+-- a loop that filled it to its end, beside the number of values
+module _ {A C D : Type 0} (fill : List A → List C) (made : List C → ℕ → D) (p : Parser A) (m : List ℕ) (i at n k : ℕ) (l : List C) where
+  pub fill-done : mapRes fill (many p i m at) ≡ ok l n → i ≤ k → k ≤ i → ok (made l k) n ≡ mapRes (λ xs. made (fill xs) (length xs)) (many p k m at)
+  fill-done h b c =
+      let w : i ≡ k = omega arith in
+      let s = split (many p k m at) (λ xs y. ok (fill xs) y) l n (rw w at h) in
+      done (s .val) (s .mid) (s .first) (ok-val (s .second)) (ok-at (s .second))
+    where
+      done : (xs : List A) (y : ℕ) → many p k m at ≡ ok xs y → fill xs ≡ l → y ≡ n → ok (made l k) n ≡ mapRes (λ xs. made (fill xs) (length xs)) (many p k m at)
+      done xs y f w z = rw (f, ← w, z, many-count p m k at xs y f)

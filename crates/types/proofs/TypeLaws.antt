@@ -1,17 +1,24 @@
 -- A read whose value stands beside its end, in a definition that goes on from it.
 use Prim.Native.Nat.{ℕ}
 use mathlib.Core.Path.{_≡_, refl}
-use Rattle.parsing.specs.Parse.{Res, ok, no, andThen}
+use mathlib.Core.List.{List}
+use Rattle.parsing.specs.Parse.{Res, andThen}
 use Rattle.parsing.proofs.Steps.{step}
 use Rattle.error.specs.Refusals.{refused}
 use Rattle.error.specs.declared.Refusal.{Refusal}
-use Rattle.byte_source.proofs.ReadLaws.{stop, taken}
+use Rattle.byte_source.proofs.ReadLaws.{Taken, stop, taken}
 use Rattle.utils.proofs.NumberLaws as numbers
-use Rattle.types.specs.Types.{endRes, endRefusal}
+use Rattle.types.specs.Types.{optionalSpan, maybePart, endRes, endRefusal}
+use Rattle.types.specs.declared.OptionalSpan.{OptionalSpan}
+use Rattle.types.specs.declared.OptionalSpan.the-variants as span
 use Rattle.types.specs.declared.End.{End}
 use Rattle.types.specs.declared.End.the-variants as end
 
-pub end-refused : (g : End) (e : Refusal) → g ≡ end.Refused e → e ≡ endRefusal g
+pub part-back : (m : List ℕ) (s : OptionalSpan) → optionalSpan (maybePart m s) ≡ s
+part-back m span.Absent = refl
+part-back m (span.At s) = refl
+
+pub end-refused : Taken endRefusal end.Refused
 end-refused g e h = taken endRefusal h refl
 
 module _ {A B : Type 0} where

@@ -58,6 +58,11 @@ abbrev pub optionalSpan : Maybe Part → OptionalSpan
 optionalSpan none = span.Absent
 optionalSpan (some p) = span.At (spanOf p)
 
+-- and back: the part of the map m that it is
+abbrev pub maybePart : List ℕ → OptionalSpan → Maybe Part
+maybePart m span.Absent = none
+maybePart m (span.At s) = some (partIn m s)
+
 abbrev pub optionalByte : Maybe ℕ → OptionalByte
 optionalByte none = byte.Absent
 optionalByte (some b) = byte.At b

@@ -7,7 +7,7 @@ use lib.Signed.{mag}
 use mir.Syntax.{w8}
 use mir.Val.{toZ, ofZ}
 use borrow.Author.Needs.{needs}
-use Rattle.parsing.specs.Parse.{Res, ok, Part, Maybe, andThen, mapRes}
+use Rattle.parsing.specs.Parse.{Res, ok, Part, Maybe, andThen}
 use Rattle.parsing.proofs.Steps.{then-then}
 use Rattle.error.specs.Refusals.{refused}
 use Rattle.error.specs.declared.Refusal.{Refusal}
@@ -43,10 +43,10 @@ head-made g z s b n t a d h q m =
 pub ruleset rests = (needs, then-then, short-ok, short-no, tagged-ok, tagged-no, beside-done, beside-no, head-made)
 
 -- a head whose signature and size were read, and then the rest of it
-pub head-whole : (m : List ℕ) (debug : Bool) (kinds : List Kind) (at n k : ℕ) (g : OptionalSpanRead) (v : OptionalSpan) (q : NumberRead) (z : ℕ) (r : WayHeadRead) → optionalSpanRes g ≡ mapRes optionalSpan (debugSignature debug m at) → g ≡ span-read.Value v n → numberRes q ≡ unsigned m n → q ≡ number.Value z k → ((a : Maybe Part) → v ≡ optionalSpan a → HeadIs (headRest kinds a z k m k) r) → HeadIs (head debug kinds m at) r
+pub head-whole : (m : List ℕ) (debug : Bool) (kinds : List Kind) (at n k : ℕ) (g : OptionalSpanRead) (v : OptionalSpan) (q : NumberRead) (z : ℕ) (r : WayHeadRead) → optionalSpanRes m g ≡ debugSignature debug m at → g ≡ span-read.Value v n → numberRes q ≡ unsigned m n → q ≡ number.Value z k → ((a : Maybe Part) → v ≡ optionalSpan a → HeadIs (headRest kinds a z k m k) r) → HeadIs (head debug kinds m at) r
 unfolding head
 head-whole m debug kinds at n k g v q z r d h e i w =
-    optional-span-then headOf emptyHead (r .head) (r .end) g v n (debugSignature debug m at) (λ a x. andThen (unsigned m x) (λ z y. headRest kinds a z y m y)) d h
+    optional-span-then headOf emptyHead (r .head) (r .end) m g v n (debugSignature debug m at) (λ a x. andThen (unsigned m x) (λ z y. headRest kinds a z y m y)) d h
     (λ a f. beside-same headOf emptyHead (andThen (unsigned m n) (λ z y. headRest kinds a z y m y)) (headRest kinds a z k m k) (r .head) (r .end) (w a f)
     (number-ok q z k (unsigned m n) (λ z y. headRest kinds a z y m y) (headRest kinds a z k m k) e i refl))
 

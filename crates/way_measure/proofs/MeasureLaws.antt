@@ -8,15 +8,16 @@ use lib.IntN.{ℤ}
 use lib.ListN.{length, length-append}
 use mir.Syntax.{w64}
 use mir.Val.{Fits}
+use borrow.Author.Needs.{needs}
 use Rattle.parsing.specs.Parse.{Res, ok, no, Parser, andThen, mapRes, many}
 use Rattle.parsing.specs.Good.{Weight, total, many-weight, strict-weight, bind-weight, pick-weight, fail-weight, more-weight, split, ok-val, ok-at, no-ok}
-use Rattle.parsing.proofs.Loops.{fold-more, fold-no, many-count}
+use Rattle.parsing.proofs.Loops.{fold-more, counted, many-count}
 use Rattle.error.specs.Refusals.{refused}
 use Rattle.error.specs.declared.Refusal.{Refusal}
 use Rattle.byte_source.specs.Answers.{numberRes, numberRefusal}
 use Rattle.byte_source.specs.declared.NumberRead.{NumberRead}
 use Rattle.byte_source.specs.declared.NumberRead.the-variants as number
-use Rattle.byte_source.proofs.ReadLaws.{taken}
+use Rattle.byte_source.proofs.ReadLaws.{Taken, taken, loop-no}
 use Rattle.utils.specs.Vbe.{coordinate, unsigned-strict}
 use Rattle.utils.proofs.NumberLaws.{reads}
 use Rattle.coordinates.specs.Skip.{short, skipOf}
@@ -32,10 +33,10 @@ use Rattle.way_measure.specs.declared.Sizes.{Sizes}
 use Rattle.way_measure.specs.declared.WayDataRead.{WayDataRead}
 use Rattle.way_measure.specs.declared.WayDataRead.the-variants as way-data
 
-pub node-refused : (g : NodeRead) (e : Refusal) → g ≡ node-read.Refused e → e ≡ nodeRefusal g
+pub node-refused : Taken nodeRefusal node-read.Refused
 node-refused g e h = taken nodeRefusal h refl
 
-pub way-data-refused : (g : WayDataRead) (e : Refusal) → g ≡ way-data.Refused e → e ≡ wayDataRefusal g
+pub way-data-refused : Taken wayDataRefusal way-data.Refused
 way-data-refused g e h = taken wayDataRefusal h refl
 
 -- sizes of lists that grow
@@ -56,10 +57,10 @@ plus a b = record { blocks = a .blocks + b .blocks; nodes = a .nodes + b .nodes 
 sizes-append : (xs ys : List (List Node)) → sizesOf (xs ++ ys) ≡ plus (sizesOf xs) (sizesOf ys)
 sizes-append xs ys = rw (length-append xs ys, count-append xs ys)
 
-abbrev ofBlock : List Node → Sizes
-ofBlock b = record { blocks = 1; nodes = length b }
+abbrev oneBlock : ℕ → Sizes
+oneBlock n = record { blocks = 1; nodes = n }
 
-sizes-snoc : (xs : List (List Node)) (b : List Node) → sizesOf (xs ++ (b ∷ [])) ≡ plus (sizesOf xs) (ofBlock b)
+sizes-snoc : (xs : List (List Node)) (b : List Node) → sizesOf (xs ++ (b ∷ [])) ≡ plus (sizesOf xs) (oneBlock (length b))
 sizes-snoc xs b = let h : length b + 0 ≡ length b = omega arith in sizes-append xs (b ∷ []) ∙ rw h
 
 way-snoc : (xs : List (List (List Node))) (b : List (List Node)) → waySizes (xs ++ (b ∷ [])) ≡ plus (waySizes xs) (sizesOf b)
@@ -75,11 +76,7 @@ module _ (s : List ℕ) (i at n : ℕ) (g : NodeRead) (e : mapRes length (many n
 
   pub nodes-stop : (k : ℕ) (x y : Refusal) → g ≡ node-read.Refused x → y ≡ nodeRefusal g → i < k → refused y ≡ mapRes length (many node k s at)
   nodes-stop k x y h w b =
-      ap refused (w ∙ ap nodeRefusal h) ∙ sym (fold-no node s length one i k at e (ap (mapRes one) (sym q ∙ ap nodeRes h)) b)
-
--- a loop that counted to its end
-pub counted : {A B : Type 0} (f : List A → B) (p : Parser A) (s : List ℕ) (i k at n : ℕ) (b : B) → mapRes f (many p i s at) ≡ ok b n → i ≤ k → k ≤ i → ok b n ≡ mapRes f (many p k s at)
-counted f p s i k at n b e c d = let h : i ≡ k = omega arith in sym (rw h at e)
+      ap (mapRes length) (loop-no (λ g. mapRes one (nodeRes g)) nodeRefusal node length one s i k at e (ap (mapRes one) q) h w refl refl b)
 
 -- two coordinates to a node
 record Paired (s : List ℕ) (n at e : ℕ) : Type 0 where
@@ -113,24 +110,6 @@ skip-nodes s at n e g q h =
   where
     twice : (l : List ℤ) → many coordinate (2 * n) s at ≡ ok l e → Paired s n at e
     twice l d = let k : 2 * n ≡ n + n = omega arith in paired s n at l e (rw k at d)
-
--- blocks
-module _ (s : List ℕ) (i at n w : ℕ) (g : NumberRead) (e : mapRes sizesOf (many block i s at) ≡ ok (record { blocks = i; nodes = w }) n) (q : numberRes g ≡ mapRes length (block s n)) where
-  pub blocks-more : (c k : ℕ) → g ≡ number.Value c k → mapRes sizesOf (many block (i + 1) s at) ≡ ok (record { blocks = i + 1; nodes = w + c }) k
-  blocks-more c k h = fold-more block s sizesOf length (λ a b. plus a (record { blocks = 1; nodes = b })) sizes-snoc i at e (sym q ∙ ap numberRes h)
-
-  pub blocks-stop : (k : ℕ) (x y : Refusal) → g ≡ number.Refused x → y ≡ numberRefusal g → i < k → refused y ≡ mapRes sizesOf (many block k s at)
-  blocks-stop k x y h z b =
-      ap refused (z ∙ ap numberRefusal h) ∙ sym (fold-no block s sizesOf length i k at e (sym q ∙ ap numberRes h) b)
-
--- data blocks
-module _ (s : List ℕ) (i at n y w : ℕ) (g : WayDataRead) (e : mapRes waySizes (many dataBlock i s at) ≡ ok (record { blocks = y; nodes = w }) n) (q : wayDataRes g ≡ mapRes sizesOf (dataBlock s n)) where
-  pub data-more : (c : Sizes) (k : ℕ) → g ≡ way-data.Value c k → mapRes waySizes (many dataBlock (i + 1) s at) ≡ ok (record { blocks = y + c .blocks; nodes = w + c .nodes }) k
-  data-more c k h = fold-more dataBlock s waySizes sizesOf plus way-snoc i at e (sym q ∙ ap wayDataRes h)
-
-  pub data-stop : (k : ℕ) (x z : Refusal) → g ≡ way-data.Refused x → z ≡ wayDataRefusal g → i < k → refused z ≡ mapRes waySizes (many dataBlock k s at)
-  data-stop k x z h r b =
-      ap refused (r ∙ ap wayDataRefusal h) ∙ sym (fold-no dataBlock s waySizes sizesOf i k at e (sym q ∙ ap wayDataRes h) b)
 
 -- each block takes a byte, and each node
 total-one : {A : Type 0} (l : List A) → length l ≤ total (λ a. 1) l
@@ -178,23 +157,61 @@ weighed {A = A} {B = B} f g p w s at b e h = go (p s at) refl h
 abbrev weightOf : Sizes → ℕ
 weightOf z = z .blocks + z .nodes
 
-pub blocks-fit : (s : List ℕ) (i at n k w c : ℕ) (g : NumberRead) → mapRes sizesOf (many block i s at) ≡ ok (record { blocks = i; nodes = w }) n → numberRes g ≡ mapRes length (block s n) → g ≡ number.Value c k → k < 2 ^ 64 → Fits w64 (w + c)
-blocks-fit s i at n k w c g e q h b =
-    let u = weighed sizesOf weightOf (many block i) (blocks-weight i) s at (record { blocks = i; nodes = w }) n e in
-    let v = weighed length suc block block-weight s n c k (sym q ∙ ap numberRes h) in
-    omega arith
+-- a loop that adds sizes up, stated once: f of the values of p that were read, and `size` of what an answer says of the next one
+module _ {A C G : Type 0} (p : Parser A) (f : List A → Sizes) (w : A → C) (size : C → Sizes) (res : G → Res C) (value : C → ℕ → G) where
+  abbrev pub Adds : Type 0
+  Adds = (s : List ℕ) (i at n y z k : ℕ) (c : C) (g : G) → mapRes f (many p i s at) ≡ ok (record { blocks = y; nodes = z }) n → res g ≡ mapRes w (p s n) → g ≡ value c k → mapRes f (many p (i + 1) s at) ≡ ok (record { blocks = y + size c .blocks; nodes = z + size c .nodes }) k
 
-module _ (s : List ℕ) (i at n y w k : ℕ) (c : Sizes) (g : WayDataRead) (e : mapRes waySizes (many dataBlock i s at) ≡ ok (record { blocks = y; nodes = w }) n) (q : wayDataRes g ≡ mapRes sizesOf (dataBlock s n)) (h : g ≡ way-data.Value c k) (b : k < 2 ^ 64) where
-  data-sum : y + w + (c .blocks + c .nodes) ≤ k
-  data-sum =
-      let u = weighed waySizes weightOf (many dataBlock i) (data-weight i) s at (record { blocks = y; nodes = w }) n e in
-      let v = weighed sizesOf (λ x. suc (weightOf x)) dataBlock dataBlock-weight s n c k (sym q ∙ ap wayDataRes h) in
-      omega arith
+  abbrev pub Fit : (Sizes → ℕ) → Type 0
+  Fit part = (s : List ℕ) (i at n y z k : ℕ) (c : C) (g : G) → mapRes f (many p i s at) ≡ ok (record { blocks = y; nodes = z }) n → res g ≡ mapRes w (p s n) → g ≡ value c k → k < 2 ^ 64 → Fits w64 (part (record { blocks = y; nodes = z }) + part (size c))
 
-  pub data-fits-blocks : Fits w64 (y + c .blocks)
-  data-fits-blocks = let d = data-sum in omega arith
+  module _ (is : (c : C) (k : ℕ) → res (value c k) ≡ ok c k) where
+    adds : ((xs : List A) (v : A) → f (xs ++ (v ∷ [])) ≡ plus (f xs) (size (w v))) → Adds
+    adds law s i at n y z k c g e q h = fold-more p s f w (λ a b. plus a (size b)) law i at e (sym q ∙ ap res h ∙ is c k)
 
-  pub data-fits-nodes : Fits w64 (w + c .nodes)
-  data-fits-nodes = let d = data-sum in omega arith
+    fit : ((n : ℕ) → Weight (many p n) (λ l. weightOf (f l))) → Weight p (λ a. weightOf (size (w a))) → (part : Sizes → ℕ) → ((z : Sizes) → part z ≤ weightOf z) → Fit part
+    fit all one part low s i at n y z k c g e q h b =
+        let u = weighed f weightOf (many p i) (all i) s at (record { blocks = y; nodes = z }) n e in
+        let v = weighed w (λ x. weightOf (size x)) p one s n c k (sym q ∙ ap res h ∙ is c k) in
+        let d : part (record { blocks = y; nodes = z }) ≤ y + z = low (record { blocks = y; nodes = z }) in
+        let t : part (size c) ≤ size c .blocks + size c .nodes = low (size c) in
+        omega arith
 
-pub ruleset measures = (reads, node-refused, way-data-refused, counted, nodes-more, nodes-stop, skip-nodes, blocks-more, blocks-stop, blocks-fit, data-more, data-stop, data-fits-blocks, data-fits-nodes)
+-- blocks
+pub blocks-more : Adds block sizesOf length oneBlock numberRes number.Value
+blocks-more = adds block sizesOf length oneBlock numberRes number.Value (λ c k. refl) sizes-snoc
+
+pub blocks-fit : Fit block sizesOf length oneBlock numberRes number.Value (λ z. z .nodes)
+blocks-fit =
+    fit block sizesOf length oneBlock numberRes number.Value (λ c k. refl) blocks-weight (more-weight block-weight (λ b. omega arith)) (λ z. z .nodes) (λ z. omega arith)
+
+pub blocks-stop : (s : List ℕ) (i at n w k : ℕ) (g : NumberRead) (x y : Refusal) → mapRes sizesOf (many block i s at) ≡ ok (record { blocks = i; nodes = w }) n → numberRes g ≡ mapRes length (block s n) → g ≡ number.Refused x → y ≡ numberRefusal g → i < k → refused y ≡ mapRes sizesOf (many block k s at)
+blocks-stop s i at n w k g x y e q h z b = ap (mapRes sizesOf) (loop-no numberRes numberRefusal block sizesOf length s i k at e q h z refl refl b)
+
+-- data blocks
+data-fits : (part : Sizes → ℕ) → ((z : Sizes) → part z ≤ weightOf z) → Fit dataBlock waySizes sizesOf (λ z. z) wayDataRes way-data.Value part
+data-fits =
+    fit dataBlock waySizes sizesOf (λ z. z) wayDataRes way-data.Value (λ c k. refl) data-weight (more-weight dataBlock-weight (λ b. omega arith))
+
+pub data-more : Adds dataBlock waySizes sizesOf (λ z. z) wayDataRes way-data.Value
+data-more = adds dataBlock waySizes sizesOf (λ z. z) wayDataRes way-data.Value (λ c k. refl) way-snoc
+
+pub data-fits-blocks : Fit dataBlock waySizes sizesOf (λ z. z) wayDataRes way-data.Value (λ z. z .blocks)
+data-fits-blocks = data-fits (λ z. z .blocks) (λ z. omega arith)
+
+pub data-fits-nodes : Fit dataBlock waySizes sizesOf (λ z. z) wayDataRes way-data.Value (λ z. z .nodes)
+data-fits-nodes = data-fits (λ z. z .nodes) (λ z. omega arith)
+
+pub data-stop : (s : List ℕ) (i at n y w k : ℕ) (g : WayDataRead) (x z : Refusal) → mapRes waySizes (many dataBlock i s at) ≡ ok (record { blocks = y; nodes = w }) n → wayDataRes g ≡ mapRes sizesOf (dataBlock s n) → g ≡ way-data.Refused x → z ≡ wayDataRefusal g → i < k → refused z ≡ mapRes waySizes (many dataBlock k s at)
+data-stop s i at n y w k g x z e q h r b = ap (mapRes waySizes) (loop-no wayDataRes wayDataRefusal dataBlock waySizes sizesOf s i k at e q h r refl refl b)
+
+pub ruleset refusals = (needs, node-refused, way-data-refused)
+
+pub ruleset measures = (reads, skip-nodes)
+
+-- each loop by its own laws alone
+pub ruleset over-nodes = (needs, counted, nodes-more, nodes-stop)
+
+pub ruleset over-blocks = (needs, counted, blocks-more, blocks-stop, blocks-fit)
+
+pub ruleset over-data = (needs, counted, data-more, data-stop, data-fits-blocks, data-fits-nodes)

@@ -1,12 +1,12 @@
 -- The zoom intervals as the code holds them (document 01, types.rs: up to 255, in an array that is filled from the front).
-use Prim.Native.Nat.{_-_}
-use mathlib.Core.List.{List, [], _++_}
+use mathlib.Core.List.{List, []}
 use mathlib.Core.List.{map as mapped}
 use lib.ListN.{length, replicate}
 use Rattle.parsing.specs.Parse.{Res, ok}
 use Rattle.error.specs.Refusals.{refused}
 use Rattle.error.specs.declared.Refusal.{Refusal}
 use Rattle.error.specs.declared.Refusal.the-variants.{Source}
+use Rattle.format.specs.Lent.{front}
 use Rattle.format.specs.Header.{Interval}
 use Rattle.types.specs.Types.{intervalOf}
 use Rattle.types.specs.declared.ZoomInterval.{ZoomInterval}
@@ -36,7 +36,7 @@ emptyInterval = record {
 
 -- the intervals in front, empty ones behind them
 unfoldable pub filled : List Interval → List ZoomInterval
-filled l = mapped zoomInterval l ++ replicate (255 - length l) emptyInterval
+filled l = front (mapped zoomInterval l) (replicate 255 emptyInterval)
 
 abbrev pub zoomIntervals : List Interval → ZoomIntervals
 zoomIntervals l = record { count = length l; intervals = filled l }

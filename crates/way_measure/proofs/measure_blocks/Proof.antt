@@ -3,7 +3,7 @@ use mathlib.Core.Path.{_≡_}
 use Rattle.parsing.specs.Parse.{ok, mapRes, many}
 use Rattle.format.specs.WayData.{block}
 use Rattle.way_measure.specs.Answers.{sizesOf}
-use Rattle.way_measure.proofs.MeasureLaws.{measures}
+use Rattle.way_measure.proofs.MeasureLaws.{over-blocks}
 use Rattle.way_measure.proofs.measure_blocks.Statement.{statement}
 use Rattle.way_measure.proofs.measure_blocks.Tie as tie
 
@@ -20,14 +20,14 @@ measure-blocks-spec =
     (tie.spec
     Inv-loop
     μ-loop
-    (λ c. search measures)
-    (search measures)
-    (search measures)
-    (search measures)
-    (search measures)
-    (λ c. search measures)
-    (λ c. search measures)
-    (λ c. search measures)
-    (λ c. search measures)
-    (λ c. search measures)
-    (λ c. search measures))
+    (λ c. search over-blocks)
+    (search over-blocks)
+    (search over-blocks)
+    (search over-blocks)
+    (search over-blocks)
+    (λ c. search over-blocks)
+    (λ c. search over-blocks)
+    (λ c. search over-blocks)
+    (λ c. search over-blocks)
+    (λ c. search over-blocks)
+    (λ c. search over-blocks))

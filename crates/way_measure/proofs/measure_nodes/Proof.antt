@@ -3,7 +3,7 @@ use mathlib.Core.Path.{_≡_}
 use lib.ListN.{length}
 use Rattle.parsing.specs.Parse.{ok, mapRes, many}
 use Rattle.format.specs.WayData.{node}
-use Rattle.way_measure.proofs.MeasureLaws.{measures}
+use Rattle.way_measure.proofs.MeasureLaws.{over-nodes}
 use Rattle.way_measure.proofs.measure_nodes.Statement.{statement}
 use Rattle.way_measure.proofs.measure_nodes.Tie as tie
 
@@ -19,13 +19,13 @@ measure-nodes-spec =
     (tie.spec
     Inv-loop
     μ-loop
-    (λ c. search measures)
-    (search measures)
-    (search measures)
-    (search measures)
-    (search measures)
-    (λ c. search measures)
-    (λ c. search measures)
-    (λ c. search measures)
-    (λ c. search measures)
-    (λ c. search measures))
+    (λ c. search over-nodes)
+    (search over-nodes)
+    (search over-nodes)
+    (search over-nodes)
+    (search over-nodes)
+    (λ c. search over-nodes)
+    (λ c. search over-nodes)
+    (λ c. search over-nodes)
+    (λ c. search over-nodes)
+    (λ c. search over-nodes))

@@ -3,7 +3,7 @@ use mathlib.Core.Path.{_≡_}
 use Rattle.parsing.specs.Parse.{ok, mapRes, many}
 use Rattle.format.specs.WayData.{dataBlock, wayData}
 use Rattle.way_measure.specs.Answers.{waySizes}
-use Rattle.way_measure.proofs.MeasureLaws.{measures}
+use Rattle.way_measure.proofs.MeasureLaws.{over-data}
 use Rattle.way_measure.proofs.measure_way_data.Statement.{statement}
 use Rattle.way_measure.proofs.measure_way_data.Tie as tie
 
@@ -21,15 +21,15 @@ measure-way-data-spec =
     (tie.spec
     Inv-loop
     μ-loop
-    (λ c. search measures)
-    (search measures)
-    (search measures)
-    (search measures)
-    (search measures)
-    (λ c. search measures)
-    (λ c. search measures)
-    (λ c. search measures)
-    (λ c. search measures)
-    (λ c. search measures)
-    (λ c. search measures)
-    (λ c. search measures))
+    (λ c. search over-data)
+    (search over-data)
+    (search over-data)
+    (search over-data)
+    (search over-data)
+    (λ c. search over-data)
+    (λ c. search over-data)
+    (λ c. search over-data)
+    (λ c. search over-data)
+    (λ c. search over-data)
+    (λ c. search over-data)
+    (λ c. search over-data))
