@@ -57,14 +57,14 @@ use Rattle.tile.specs.declared.TileAnswer.the-variants as tile-answer
 use Rattle.tile.specs.declared.TileRead.{TileRead}
 
 -- the zoom table, behind the signature
-module _ (debug : Bool) (low high : ℕ) (m : List ℕ) (at : ℕ) (g : OptionalSpanRead) (q : optionalSpanRes g ≡ mapRes optionalSpan (debugSignature debug m at)) (r : ZoomTableRead) where
+module _ (debug : Bool) (low high : ℕ) (m : List ℕ) (at : ℕ) (g : OptionalSpanRead) (q : optionalSpanRes m g ≡ debugSignature debug m at) (r : ZoomTableRead) where
   pub rows-no : (x y : Refusal) → g ≡ span-read.Refused x → y ≡ optionalSpanRefusal g → shownRows r ≡ noRows → r .end ≡ end.Refused y → TableIs (rowsRead debug low high m at) r
   unfolding rowsRead
-  rows-no x y h w v e = beside-no rowsOf noRows (andThen (debugSignature debug m at) (λ _ n. intervalTable low high m n)) (shownRows r) (r .end) y v e (optional-span-no g y x (debugSignature debug m at) (λ _ n. intervalTable low high m n) q h w)
+  rows-no x y h w v e = beside-no rowsOf noRows (andThen (debugSignature debug m at) (λ _ n. intervalTable low high m n)) (shownRows r) (r .end) y v e (optional-span-no m g (debugSignature debug m at) (λ _ n. intervalTable low high m n) y x q h w)
 
   pub rows-then : (v : OptionalSpan) (n : ℕ) → g ≡ span-read.Value v n → TableIs (intervalTable low high m n) r → TableIs (rowsRead debug low high m at) r
   unfolding rowsRead
-  rows-then v n h t = optional-span-then rowsOf noRows (shownRows r) (r .end) g v n (debugSignature debug m at) (λ _ n. intervalTable low high m n) q h (λ a k. t)
+  rows-then v n h t = optional-span-then rowsOf noRows (shownRows r) (r .end) m g v n (debugSignature debug m at) (λ _ n. intervalTable low high m n) q h (λ a k. t)
 
 pub ruleset tables = (needs, rows-no, rows-then)
 
