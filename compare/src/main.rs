@@ -15,6 +15,8 @@ use std::io::{self, ErrorKind};
 use std::path::Path;
 use std::process::ExitCode;
 
+use tiles::Form;
+
 const HELP: &str = "\
 compare/run [--rust FOLDER] COMMAND ARGS...
 
@@ -26,6 +28,9 @@ compare/run [--rust FOLDER] COMMAND ARGS...
   tiles-sample DIR [collected]
                       the same two files for crafted tiles and the maps of maps/, collected and streamed, or collected alone
   tiles-records FILE DIR [collected]
+                      the same two files for all tiles of one map
+  streams-sample DIR  the same two files for crafted tiles and the maps of maps/: their streams in lines, and what collecting counts
+  streams-records FILE DIR
                       the same two files for all tiles of one map
   figures             checks document 01's worked figures; fails on a difference
   help                this text
@@ -53,13 +58,19 @@ fn run(arguments: &[&str]) -> io::Result<ExitCode> {
         ["leaves-sample", folder] => leaves::sample::write(Path::new(folder))?,
         ["maps-sample", folder] => maps::sample::write(Path::new(folder))?,
         ["maps-records", file, folder] => maps::file::write(Path::new(file), Path::new(folder))?,
-        ["tiles-sample", folder] => tiles::sample::write(Path::new(folder), false)?,
-        ["tiles-sample", folder, "collected"] => tiles::sample::write(Path::new(folder), true)?,
+        ["tiles-sample", folder] => tiles::sample::write(Path::new(folder), Form::Features)?,
+        ["tiles-sample", folder, "collected"] => {
+            tiles::sample::write(Path::new(folder), Form::Collected)?;
+        }
+        ["streams-sample", folder] => tiles::sample::write(Path::new(folder), Form::Streams)?,
         ["tiles-records", file, folder] => {
-            tiles::file::write(Path::new(file), Path::new(folder), false)?;
+            tiles::file::write(Path::new(file), Path::new(folder), Form::Features)?;
         }
         ["tiles-records", file, folder, "collected"] => {
-            tiles::file::write(Path::new(file), Path::new(folder), true)?;
+            tiles::file::write(Path::new(file), Path::new(folder), Form::Collected)?;
+        }
+        ["streams-records", file, folder] => {
+            tiles::file::write(Path::new(file), Path::new(folder), Form::Streams)?;
         }
         ["figures"] => return Ok(checked(figures::check())),
         ["help"] => print!("{HELP}"),

@@ -4,9 +4,12 @@
 mod calls;
 pub mod feature;
 pub mod file;
+mod lines;
 mod rust;
 pub mod sample;
+mod streams;
 pub mod tally;
+mod turns;
 
 use std::collections::BTreeMap;
 use std::panic::{self, AssertUnwindSafe};
@@ -19,6 +22,7 @@ use mapsforge_rs::types::{MapFile, MapHeader};
 use crate::answer::{Answer, Fold};
 use crate::differences::tile::{Cause, Opened, Parting, Port};
 use crate::maps::{given, open, place, DAMAGES, NOT_OPEN};
+use crate::records;
 use crate::source::Source;
 use tally::{Policy, Tally, POLICIES};
 
@@ -39,6 +43,17 @@ impl Address {
         grid::lend(grid);
         Address { sub_file, grid, tile: given(input.read_u64_be()) }
     }
+}
+
+/// Which program a run's two files are for.
+#[derive(Clone, Copy)]
+pub enum Form {
+    /// All of collecting, fetching and streaming, in words.
+    Features,
+    /// Collecting alone, in words: `tiles`.
+    Collected,
+    /// Streaming and what collecting counts, in lines: `streams`.
+    Streams,
 }
 
 /// What is asked of a tile.
@@ -69,10 +84,14 @@ struct Sources {
 }
 
 impl Run {
-    /// A panic that the model did not foresee, or a disagreement with it, ends the run by its input.
-    fn caught_answer(&mut self, operation: u8, input: &[u8]) -> Answer {
-        let answer = panic::catch_unwind(AssertUnwindSafe(|| self.answer(operation, input)));
-        answer.unwrap_or_else(|_| {
+    /// The lines of an operation's answer. A panic that the model did not foresee, or a disagreement
+    /// with it, ends the run by its input.
+    fn caught_lines(&mut self, form: Form, operation: u8, input: &[u8]) -> String {
+        let lines = panic::catch_unwind(AssertUnwindSafe(|| match form {
+            Form::Streams => self.lines(operation, input),
+            _ => records::line(operation, &self.answer(operation, input)),
+        }));
+        lines.unwrap_or_else(|_| {
             eprintln!("at operation {} on {input:02x?}", char::from(operation));
             eprintln!("the map, cut or damaged, is {:02x?}", &self.map[..self.shown]);
             process::exit(1)
@@ -95,6 +114,7 @@ impl Run {
                 let (zoom, policy) = (given(parts.read_u8()), given(parts.read_u8()));
                 self.ask(&address, Question::Stream(zoom, POLICIES[usize::from(policy)]))
             }
+            b'Z' => self.zoomed(&address, &mut parts),
             b'E' => self.cuts(&address, &mut parts),
             b'B' => self.damages(&address, &mut parts),
             _ => panic!("no such operation"),
@@ -121,13 +141,33 @@ impl Run {
 
     /// Asks of the map's first bytes, under the header of the whole map.
     fn ask_cut(&mut self, length: usize, address: &Address, question: Question) -> Answer {
+        self.of_cut(length, |file| question.answer(file, address))
+    }
+
+    fn of_cut<T>(
+        &mut self,
+        length: usize,
+        answer: impl FnOnce(&mut MapFile<Source>) -> (T, Option<Parting>),
+    ) -> T {
         self.shown = length;
         let header = self.header.take().expect("the map is open");
         let mut file = MapFile { header, reader: Source::new(&self.map[..length]) };
-        let (answer, parting) = question.answer(&mut file, address);
+        let (answer, parting) = answer(&mut file);
         self.header = Some(file.header);
         self.sources.count(parting);
         answer
+    }
+
+    /// Streams under every policy, at each zoom from one to before another.
+    fn zoomed(&mut self, address: &Address, input: &mut Source) -> Answer {
+        let (from, to) = (given(input.read_u8()), given(input.read_u8()));
+        let mut fold = Fold::new();
+        for zoom in from..to {
+            for policy in POLICIES {
+                fold.answer(&self.ask(address, Question::Stream(zoom, policy)));
+            }
+        }
+        vec![0, fold.value()]
     }
 
     /// All lengths of the map from one to before another.
@@ -177,16 +217,32 @@ impl Question {
                 agreed(port, || rust::fetch(file, address, k))
             }
             Question::Stream(zoom, policy) => {
-                let mut tally = Tally::new(policy);
-                let Port { answer, parting } = opened.stream(address, zoom, &mut tally);
-                let port = Port { answer: tally.answer(&answer), parting };
-                if let Some(parting) = &parting {
-                    check_before(file, address, (zoom, policy), parting, &tally);
-                }
-                agreed(port, || rust::stream(file, address, zoom, policy))
+                let (tally, parting) = streamed(file, address, zoom, policy);
+                (tally.answer(), parting)
             }
         }
     }
+}
+
+/// The Rust's stream, whose lines must be the model's; where the Rust parts, the model's.
+fn streamed(
+    file: &mut MapFile<Source>,
+    address: &Address,
+    zoom: u8,
+    policy: Policy,
+) -> (Tally, Option<Parting>) {
+    let mut tally = Tally::new(policy);
+    let Port { answer, parting } = Opened::of(file).stream(address, zoom, &mut tally);
+    if let Some(parting) = &parting {
+        check_before(file, address, (zoom, policy), parting, &tally);
+    }
+    let port = tally.end(answer);
+    if parting.is_some() {
+        return (port, parting);
+    }
+    let rust = rust::stream(file, address, zoom, policy);
+    assert_eq!(rust.lines(), port.lines(), "the Rust (left) and document 01 part");
+    (rust, None)
 }
 
 fn agreed(port: Port, rust: impl FnOnce() -> Answer) -> (Answer, Option<Parting>) {
@@ -213,7 +269,8 @@ fn check_before(
     let whole = file.reader.map();
     file.reader = Source::new(&whole[..parting.place as usize]);
     let rust = rust::stream(file, address, zoom, policy);
-    assert_eq!(rust, tally.answer(&[1]), "the Rust (left) delivers other features");
+    let port = format!("{}{}", tally.lines(), lines::refused(&[1]));
+    assert_eq!(rust.lines(), port, "the Rust (left) delivers other features");
     file.reader = Source::new(whole);
 }
 

@@ -15,7 +15,7 @@ pub use reader::{Cause, Parting};
 
 use crate::answer::Answer;
 use crate::source::Source;
-use crate::tiles::feature::Tile;
+use crate::tiles::feature::{Text, Tile};
 use crate::tiles::tally::Tally;
 use crate::tiles::Address;
 use reader::{Read, Reader, View};
@@ -82,7 +82,8 @@ impl<'a> Opened<'a> {
         Some(usize::try_from(start).ok()?..usize::try_from(reader.at()).ok()?)
     }
 
-    fn tile(self, address: &Address) -> (Read<Tile>, Option<Parting>) {
+    /// The collected tile, or the refusal.
+    pub fn tile(self, address: &Address) -> (Result<Tile, Answer>, Option<Parting>) {
         let mut reader = Reader::new(self, View::Collected);
         (reader.tile(address), reader.parting)
     }
@@ -96,6 +97,7 @@ impl<'a> Opened<'a> {
 struct Head {
     water: bool,
     start: u128,
+    signature: Option<Text>,
     /// The zoom of the table's first row.
     lowest: u8,
     table: Vec<[u64; 2]>,
@@ -107,12 +109,20 @@ struct Head {
 impl Reader<'_> {
     /// "Collecting decodes every row".
     fn tile(&mut self, address: &Address) -> Read<Tile> {
-        let Head { table, first_way, ways: place, .. } = self.head(address)?;
+        let Head { signature, table, first_way, ways: place, .. } = self.head(address)?;
         let [points, ways] = self.counts(&table);
         let points = (0..points).map(|_| self.point()).collect::<Read<_>>()?;
         self.seek(place);
-        let ways = (0..ways).map(|_| self.way()).collect::<Read<_>>()?;
-        Ok(Tile { table, first_way, points, ways })
+        let mut exact = true;
+        let way = |_| {
+            let head = self.way_head()?;
+            let stored_end = head.stored_end;
+            let way = self.way_body(head)?;
+            exact &= self.at() == stored_end;
+            Ok(way)
+        };
+        let ways = (0..ways).map(way).collect::<Read<_>>()?;
+        Ok(Tile { signature, table, first_way, points, ways, exact })
     }
 
     /// "Zoom is clamped into the interval; rows up to it count." Answers the water mark.
@@ -147,12 +157,12 @@ impl Reader<'_> {
         }
         let start = u128::from(interval.sub_file_start) + u128::from(offset);
         self.seek(start);
-        self.signature()?;
+        let signature = self.stored_signature()?;
         let row = |_| Ok([self.unsigned()?, self.unsigned()?]);
         let table = (lowest..=highest).map(row).collect::<Read<_>>()?;
         let first_way = self.unsigned()?;
         let ways = self.at() + u128::from(first_way);
-        Ok(Head { water, start, lowest, table, first_way, ways })
+        Ok(Head { water, start, signature, lowest, table, first_way, ways })
     }
 
     /// "An index entry is 5 bytes: top bit water, 39 bits offset".
@@ -182,10 +192,15 @@ impl Reader<'_> {
         sums
     }
 
+    /// The bytes of a signature, if there is one.
+    fn stored_signature(&mut self) -> Read<Option<Text>> {
+        let debug = self.opened.debug();
+        let bytes = self.bytes(if debug { SIGNATURE } else { 0 })?;
+        Ok(debug.then(|| bytes.to_vec()))
+    }
+
     /// Whether there is a signature, which is passed.
     fn signature(&mut self) -> Read<bool> {
-        let debug = self.opened.debug();
-        self.bytes(if debug { SIGNATURE } else { 0 })?;
-        Ok(debug)
+        Ok(self.stored_signature()?.is_some())
     }
 }

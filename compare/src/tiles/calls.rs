@@ -4,7 +4,7 @@ use std::io;
 use std::ops::Range;
 use std::path::Path;
 
-use super::{Address, Run};
+use super::{Address, Form, Run};
 use crate::maps::calls::on_grid;
 use crate::records::{self, Record};
 
@@ -41,24 +41,41 @@ impl Records {
         self.add(b'B', address, &range(places, what));
     }
 
-    /// Keeps only what is collected: the maps, the whole tiles, and their cuts and damages.
-    pub fn collected(&mut self) {
-        self.0.retain(|(operation, input)| match operation {
-            b'M' | b'A' => true,
-            b'E' | b'B' => input.last() == Some(&0),
+    /// A stream whose lines are shown.
+    pub fn lines(&mut self, address: Address, zoom: u8, policy: u8) {
+        self.add(b'L', address, &[zoom, policy]);
+    }
+
+    /// Calls out of turn, and accepts with lists that are too short.
+    pub fn turns(&mut self, address: Address) {
+        self.add(b'T', address, &[]);
+    }
+
+    /// Streams under every policy, at each zoom from one to before another.
+    pub fn zooms(&mut self, address: Address, zooms: Range<u8>) {
+        self.add(b'Z', address, &[zooms.start, zooms.end]);
+    }
+
+    /// Keeps what is asked of the program.
+    fn of_form(self, form: Form) -> Vec<Record> {
+        let kept = |(operation, input): &Record| match (form, operation) {
+            (_, b'M' | b'A') => true,
+            (Form::Features, b'F' | b'S' | b'Z' | b'E' | b'B') => true,
+            (Form::Collected, b'E' | b'B') => input.last() == Some(&0),
+            (Form::Streams, b'S' | b'Z' | b'E' | b'B' | b'L' | b'T') => true,
             _ => false,
-        });
+        };
+        self.0.into_iter().filter(kept).collect()
     }
 
     /// Writes the two files, and prints whose answers they are.
-    pub fn write(&self, folder: &Path) -> io::Result<()> {
+    pub fn write(self, folder: &Path, form: Form) -> io::Result<()> {
+        let records = self.of_form(form);
         let mut run = Run::default();
-        let line = |(operation, input): &Record| {
-            records::line(*operation, &run.caught_answer(*operation, input))
-        };
-        let lines: String = self.0.iter().map(line).collect();
+        let line = |(operation, input): &Record| run.caught_lines(form, *operation, input);
+        let lines: String = records.iter().map(line).collect();
         run.sources.print();
-        records::write(folder, &self.0, lines.as_bytes())
+        records::write(folder, &records, lines.as_bytes())
     }
 
     fn add(&mut self, operation: u8, address: Address, rest: &[u8]) {

@@ -22,7 +22,7 @@ pub struct Point {
 }
 
 impl Point {
-    pub fn streamed(&self) -> Answer {
+    pub fn collected(&self) -> Answer {
         [
             &[1][..],
             &bits(&self.position),
@@ -31,12 +31,9 @@ impl Point {
             &optional(&self.name, text),
             &optional(&self.house_number, text),
             &optional(&self.elevation, |&metres| signed(i64::from(metres)).to_vec()),
+            &[u64::from(self.signature)],
         ]
         .concat()
-    }
-
-    pub fn collected(&self) -> Answer {
-        [self.streamed(), vec![u64::from(self.signature)]].concat()
     }
 }
 
@@ -63,15 +60,6 @@ pub struct Block {
 }
 
 impl Way {
-    pub fn streamed(&self) -> Answer {
-        let mut words = [&[4], self.fields().as_slice(), &[self.blocks.len() as u64]].concat();
-        for block in &self.blocks {
-            words.push(block.nodes.len() as u64);
-            words.extend(block.nodes.iter().flat_map(bits));
-        }
-        words
-    }
-
     pub fn collected(&self) -> Answer {
         self.with_blocks(&self.block_words())
     }
@@ -110,18 +98,17 @@ impl Way {
     }
 }
 
-/// What is told of a way before it is accepted or declined.
-pub fn head(bitmap: u16, ids: &[u64]) -> Answer {
-    [&[3, u64::from(bitmap)], counted(ids).as_slice()].concat()
-}
-
 /// A collected tile.
 pub struct Tile {
+    /// As it is stored, or as the Rust gives it: replaced and trimmed.
+    pub signature: Option<Text>,
     /// Of each row the points and the ways.
     pub table: Vec<[u64; 2]>,
     pub first_way: u64,
     pub points: Vec<Point>,
     pub ways: Vec<Way>,
+    /// Whether every stored size is the decoded length, which the Rust does not say.
+    pub exact: bool,
 }
 
 /// A feature of a collected tile.

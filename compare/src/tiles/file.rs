@@ -7,11 +7,10 @@ use std::path::Path;
 
 use mapsforge_rs::grid::Grid;
 use mapsforge_rs::header::DEBUG_INFO_MASK;
-use mapsforge_rs::types::{MapFile, ZoomInterval};
+use mapsforge_rs::types::MapFile;
 
 use super::calls::Records;
-use super::tally::POLICIES;
-use super::Address;
+use super::{Address, Form};
 use crate::differences::tile::Opened;
 use crate::maps::file::{grids, UNKNOWN};
 use crate::maps::open;
@@ -25,14 +24,11 @@ pub const WHATS: Range<u8> = 0..4;
 const ENTRY: usize = 5;
 
 /// Writes the records to `stdin` and a line for each of them to `stdout`.
-pub fn write(file: &Path, folder: &Path, only_collected: bool) -> io::Result<()> {
+pub fn write(file: &Path, folder: &Path, form: Form) -> io::Result<()> {
     let map = fs::read(file)?;
     let mut records = Records::default();
     add(&mut records, &map, grids(file));
-    if only_collected {
-        records.collected();
-    }
-    records.write(folder)
+    records.write(folder, form)
 }
 
 /// All tiles of a map, and the cuts and damages of one of them.
@@ -46,14 +42,22 @@ pub fn add(records: &mut Records, map: &[u8], grids: &[Grid]) {
     opened.unwrap_or_default();
 }
 
+/// Each tile collected, and streamed at every zoom of its interval, one below and one above it.
 fn tiles(records: &mut Records, file: &MapFile<Source>, grids: &[Grid]) {
     for at in all(file, grids) {
         let interval = &file.header.zoom_interval_configuration[at.sub_file as usize];
+        let (lowest, highest) = (interval.min_zoom_level, interval.max_zoom_level);
         records.collect(at);
-        for zoom in zooms(interval) {
-            (0..POLICIES.len()).for_each(|policy| records.stream(at, zoom, policy as u8));
-        }
+        records.zooms(at, lowest.saturating_sub(1)..highest.saturating_add(2));
     }
+}
+
+/// The lines of each tile's stream at the highest zoom, under a policy.
+pub fn add_lines(records: &mut Records, map: &[u8], grids: &[Grid], policy: u8) {
+    let opened = open::with_map(map, |file| {
+        all(&file, grids).into_iter().for_each(|at| records.lines(at, u8::MAX, policy));
+    });
+    opened.unwrap_or_default();
 }
 
 /// All tiles of all sub files.
@@ -65,14 +69,6 @@ fn all(file: &MapFile<Source>, grids: &[Grid]) -> Vec<Address> {
         (0..tiles).map(move |tile| Address { sub_file: sub_file as u64, grid, tile })
     };
     (0..count).flat_map(of_sub_file).collect()
-}
-
-/// The lowest, the middle and the highest zoom.
-fn zooms(interval: &ZoomInterval) -> Vec<u8> {
-    let (lowest, highest) = (interval.min_zoom_level, interval.max_zoom_level);
-    let mut zooms = vec![lowest, lowest.midpoint(highest), highest];
-    zooms.dedup();
-    zooms
 }
 
 /// The cuts and damages of the shortest tile with a point and three ways, so that each policy tells,

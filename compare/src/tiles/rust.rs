@@ -12,7 +12,12 @@ use crate::differences::tile::Opened;
 use crate::source::Source;
 
 pub fn collect(file: &mut MapFile<Source>, address: &Address) -> Answer {
-    read(file, address).map_or_else(|refusal| refusal, |tile| collected(&tile).answer())
+    tile(file, address).map_or_else(|refusal| refusal, |tile| tile.answer())
+}
+
+/// The collected tile, or the refusal.
+pub fn tile(file: &mut MapFile<Source>, address: &Address) -> Result<Tile, Answer> {
+    read(file, address).map(|tile| collected(&tile))
 }
 
 pub fn fetch(file: &mut MapFile<Source>, address: &Address, k: usize) -> Answer {
@@ -23,14 +28,14 @@ pub fn fetch(file: &mut MapFile<Source>, address: &Address, k: usize) -> Answer 
     read(file, address).map_or_else(|refusal| refusal, fetched)
 }
 
-pub fn stream(file: &mut MapFile<Source>, address: &Address, zoom: u8, policy: Policy) -> Answer {
+pub fn stream(file: &mut MapFile<Source>, address: &Address, zoom: u8, policy: Policy) -> Tally {
     let mut tally = Tally::new(policy);
     let (sub_file, tile) = (address.sub_file as usize, address.tile as usize);
     let end = match file.visit_tile(sub_file, tile, zoom, &mut tally) {
         Ok(end) => vec![0, end.sub_file as u64, u64::from(end.is_water)],
         Err(error) => refused(&error),
     };
-    tally.answer(&end)
+    tally.end(end)
 }
 
 /// `read_tile`. Counts that it may not be able to reserve it does not see: they lead to a refusal,
@@ -48,10 +53,12 @@ fn read(file: &mut MapFile<Source>, address: &Address) -> Result<types::Tile, An
 
 fn collected(tile: &types::Tile) -> Tile {
     Tile {
+        signature: text(tile.debug_signature.as_deref()),
         table: tile.zoom_table.iter().map(|&(points, ways)| [points, ways].map(word)).collect(),
         first_way: word(tile.first_way_offset),
         points: tile.pois.iter().map(collected_point).collect(),
         ways: tile.ways.iter().map(collected_way).collect(),
+        exact: false,
     }
 }
 

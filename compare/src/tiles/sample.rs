@@ -20,12 +20,12 @@ use std::path::Path;
 use mapsforge_rs::grid::Grid;
 
 use super::calls::Records;
-use super::Address;
+use super::{Address, Form};
 use crate::maps::writer::tile::{sub_file, Point, Tile, Value, Way};
 use crate::maps::writer::{tags as tag_list, Header, DEBUG};
 
 /// Writes the records to `stdin` and a line for each of them to `stdout`.
-pub fn write(folder: &Path, only_collected: bool) -> io::Result<()> {
+pub fn write(folder: &Path, form: Form) -> io::Result<()> {
     let mut records = Records::default();
     points::add(&mut records);
     ways::add(&mut records);
@@ -40,10 +40,7 @@ pub fn write(folder: &Path, only_collected: bool) -> io::Result<()> {
     rich::add(&mut records);
     random::add(&mut records);
     shipped::add(&mut records)?;
-    if only_collected {
-        records.collected();
-    }
-    records.write(folder)
+    records.write(folder, form)
 }
 
 /// The highest zoom that can be asked for; it is clamped to every interval's last row.
@@ -139,6 +136,11 @@ fn ask_alone(records: &mut Records, tile: Vec<u8>) {
 fn ask(records: &mut Records, at: Address) {
     records.collect(at);
     (0..3).for_each(|policy| records.stream(at, HIGHEST, policy));
+}
+
+/// The lines of the streams of some tiles in one map, with all ways.
+fn show_all(records: &mut Records, tiles: usize) {
+    (0..tiles).for_each(|tile| records.lines(at(0, tile, tiles), HIGHEST, 0));
 }
 
 /// A point behind the one in question, so that it shows where that ends.

@@ -1,8 +1,9 @@
 //! What a stream delivers, with the decision on each way. The Rust's visitor and document 01's model
 //! deliver to the same tally.
 
-use super::feature::{head, Point, Way};
-use crate::answer::{Answer, Fold};
+use super::feature::{Point, Way};
+use super::lines;
+use crate::answer::{digest, Answer};
 
 /// Which ways are accepted.
 #[derive(Clone, Copy)]
@@ -29,41 +30,58 @@ impl Policy {
     }
 }
 
-/// The features that were delivered, and the digest of their words.
+/// The features that were delivered, and a line for each answer.
 pub struct Tally {
     policy: Policy,
     points: u64,
     heads: u64,
     accepted: u64,
-    fold: Fold,
+    ended: Answer,
+    lines: String,
 }
 
 impl Tally {
     pub fn new(policy: Policy) -> Self {
-        Tally { policy, points: 0, heads: 0, accepted: 0, fold: Fold::new() }
+        let (ended, lines) = (Answer::new(), String::new());
+        Tally { policy, points: 0, heads: 0, accepted: 0, ended, lines }
     }
 
     pub fn point(&mut self, point: &Point) {
         self.points += 1;
-        self.fold.words(&point.streamed());
+        self.lines += &lines::point(point);
     }
 
     /// A way's head; answers whether the way is accepted.
     pub fn head(&mut self, bitmap: u16, ids: &[u64]) -> bool {
         let accepted = self.policy.accepts(self.heads, bitmap);
         self.heads += 1;
-        self.fold.words(&head(bitmap, ids));
+        self.lines += &lines::head(bitmap, ids);
+        if !accepted {
+            self.lines += lines::DECLINED;
+        }
         accepted
     }
 
     /// An accepted way.
     pub fn way(&mut self, way: &Way) {
         self.accepted += 1;
-        self.fold.words(&way.streamed());
+        self.lines += &lines::body(way);
     }
 
-    /// The answer of a stream that ended in this way: with 0 and its values, or with a refusal.
-    pub fn answer(&self, ended: &[u64]) -> Answer {
-        [ended, &[self.points, self.heads, self.accepted, self.fold.value()]].concat()
+    /// The stream ended in this way: with 0 and its values, or with a refusal.
+    pub fn end(mut self, ended: Answer) -> Self {
+        self.lines += &lines::end(&ended);
+        self.ended = ended;
+        self
+    }
+
+    /// The lines so far, or of the whole stream.
+    pub fn lines(&self) -> &str {
+        &self.lines
+    }
+
+    pub fn answer(&self) -> Answer {
+        let counts = [self.points, self.heads, self.accepted, digest(self.lines.as_bytes())];
+        [self.ended.as_slice(), &counts].concat()
     }
 }

@@ -29,11 +29,6 @@ impl Reader<'_> {
         Ok(Point { position, layer, ids, name, house_number, elevation, signature })
     }
 
-    pub fn way(&mut self) -> Read<Way> {
-        let head = self.way_head()?;
-        self.way_body(head)
-    }
-
     pub fn way_head(&mut self) -> Read<WayHead> {
         let signature = self.signature()?;
         let size = self.unsigned()?;

@@ -1,6 +1,6 @@
 //! The blocks of ways: their counts and nodes, in both delta forms.
 
-use super::{ask_all, at, with_ways, Records};
+use super::{ask_all, at, show_all, with_ways, Records};
 use crate::maps::writer::tile::{Block, Way};
 use crate::random::Random;
 
@@ -14,7 +14,11 @@ pub fn add(records: &mut Records) {
     for ways in [single, double] {
         ask_all(records, &with_ways(&ways));
         let tiles = ways.len();
-        (0..tiles).for_each(|tile| records.feature(at(0, tile, tiles), FIRST_WAY));
+        for tile in 0..tiles {
+            records.feature(at(0, tile, tiles), FIRST_WAY);
+            records.turns(at(0, tile, tiles));
+        }
+        show_all(records, tiles);
     }
 }
 

@@ -1,6 +1,6 @@
 //! Points, with each field at its limits.
 
-use super::{ask_all, at, values, with_points, Records, POI_TAGS, TEXTS};
+use super::{ask_all, at, show_all, values, with_points, Records, POI_TAGS, TEXTS};
 use crate::maps::writer::tile::{Point, Value};
 
 pub fn add(records: &mut Records) {
@@ -10,6 +10,7 @@ pub fn add(records: &mut Records) {
     for tile in 0..points.len() {
         records.feature(at(0, tile, points.len()), 0);
     }
+    show_all(records, points.len());
     // the features behind the first, and one past the last
     (1..=4).for_each(|k| records.feature(at(0, 0, points.len()), k));
 }

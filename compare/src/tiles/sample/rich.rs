@@ -34,6 +34,8 @@ fn whole(records: &mut Records) {
         (0..POLICIES.len()).for_each(|policy| records.stream(at, zoom, policy as u8));
     }
     (0..=11).for_each(|k| records.feature(at, k));
+    (0..3).for_each(|policy| records.lines(at, 12, policy));
+    records.turns(at);
 }
 
 /// Four points and seven ways in about 300 bytes without signatures.

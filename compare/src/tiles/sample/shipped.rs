@@ -15,10 +15,13 @@ const FETCHED: [(usize, u64, Range<u32>); 4] =
     [(0, 1, 0..12), (1, 3, 0..19), (2, 4, 0..4), (2, 10, 42..47)];
 
 pub fn add(records: &mut Records) -> io::Result<()> {
-    for name in ["islands.map", "islands-debug.map", "short-size.map"] {
+    // all ways, none, two of three
+    for (policy, name) in ["islands.map", "short-size.map", "islands-debug.map"].iter().enumerate() {
         let path = folder().join(name);
         let grids = grids(&path);
-        file::add(records, &fs::read(&path)?, grids);
+        let map = fs::read(&path)?;
+        file::add(records, &map, grids);
+        file::add_lines(records, &map, grids, policy as u8);
         for (sub_file, tile, features) in FETCHED {
             let at = Address { sub_file: sub_file as u64, grid: grids[sub_file], tile };
             features.for_each(|k| records.feature(at, k));

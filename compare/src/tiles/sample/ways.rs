@@ -1,6 +1,6 @@
 //! Ways, with each field before their data blocks at its limits.
 
-use super::{ask_all, at, values, with_ways, Records, TEXTS, WAY_TAGS};
+use super::{ask_all, at, show_all, values, with_ways, Records, TEXTS, WAY_TAGS};
 use crate::maps::writer::tile::{Value, Way};
 
 /// The way in question is behind a point.
@@ -10,6 +10,7 @@ pub fn add(records: &mut Records) {
     let ways = flags(0);
     ask_all(records, &with_ways(&ways));
     features(records, ways.len());
+    show_all(records, ways.len());
     ask_all(records, &with_ways(&flags(3)));
     let ways = [tag_counts(), letters(), texts()].concat();
     ask_all(records, &with_ways(&ways));

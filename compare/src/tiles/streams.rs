@@ -1,0 +1,152 @@
+//! The answers that the program `streams` gives: lines, and digests of them.
+
+use mapsforge_rs::io::ByteRead;
+use mapsforge_rs::types::MapFile;
+
+use super::feature::{Text, Tile};
+use super::tally::{Policy, POLICIES};
+use super::{lines, rust, streamed, turns, Address, Run};
+use crate::answer::{digest, Answer, Fold};
+use crate::differences::tile::{Opened, Parting};
+use crate::maps::{given, place, DAMAGES};
+use crate::source::Source;
+
+/// What is asked of a tile.
+#[derive(Clone, Copy)]
+enum Question {
+    Count,
+    Stream(u8, Policy),
+}
+
+impl Run {
+    /// The lines of an answer. `A` is what collecting counts, `L` a stream with its lines, `T` calls
+    /// out of turn, `Z` all zooms; the other letters are those of the words.
+    pub fn lines(&mut self, operation: u8, input: &[u8]) -> String {
+        if operation == b'M' {
+            let opened = self.open(input);
+            let line = if opened == [0] { "open\n".into() } else { lines::refused(&opened) };
+            return format!("M {line}");
+        }
+        if self.header.is_none() {
+            return "not open\n".into();
+        }
+        let mut parts = Source::new(input);
+        let address = Address::from(&mut parts);
+        match operation {
+            b'A' => format!("A {}", self.text(self.map.len(), &address, Question::Count)),
+            b'S' => format!("S{}", lines::summary(&self.stream(&address, &mut parts))),
+            b'L' => {
+                let lines = self.stream(&address, &mut parts);
+                format!("{lines}L{}", lines::summary(&lines))
+            }
+            b'T' => format!("{}T\n", self.turns(&address)),
+            b'E' => format!("E {:016x}\n", self.cut_streams(&address, &mut parts)),
+            b'B' => format!("B {:016x}\n", self.damaged_streams(&address, &mut parts)),
+            b'Z' => format!("Z {:016x}\n", self.zooms(&address, &mut parts)),
+            _ => panic!("no such operation"),
+        }
+    }
+
+    fn text(&mut self, length: usize, address: &Address, question: Question) -> String {
+        self.of_cut(length, |file| question.text(file, address))
+    }
+
+    fn stream(&mut self, address: &Address, input: &mut Source) -> String {
+        let (zoom, policy) = (given(input.read_u8()), given(input.read_u8()));
+        let question = Question::Stream(zoom, POLICIES[usize::from(policy)]);
+        self.text(self.map.len(), address, question)
+    }
+
+    /// From the model alone: the Rust has no such calls.
+    fn turns(&mut self, address: &Address) -> String {
+        self.of_cut(self.map.len(), |file| {
+            let opened = Opened::of(file);
+            let mut heads = super::Tally::new(Policy::None);
+            let ended = opened.stream(address, u8::MAX, &mut heads).answer;
+            let (tile, parting) = opened.tile(address);
+            (turns::lines(&tile.expect("a tile that collects"), &ended), parting)
+        })
+    }
+
+    fn cut_streams(&mut self, address: &Address, input: &mut Source) -> u64 {
+        let (from, to, question) = (place(input), place(input), Question::what(input));
+        let mut fold = Fold::new();
+        for length in from..to {
+            fold.word(digest(self.text(length, address, question).as_bytes()));
+        }
+        fold.value()
+    }
+
+    fn damaged_streams(&mut self, address: &Address, input: &mut Source) -> u64 {
+        let (from, to, question) = (place(input), place(input), Question::what(input));
+        let mut fold = Fold::new();
+        for place in from..to {
+            for damage in DAMAGES {
+                self.map[place] ^= damage;
+                let text = self.text(self.map.len(), address, question);
+                fold.word(digest(text.as_bytes()));
+                self.map[place] ^= damage;
+            }
+        }
+        fold.value()
+    }
+
+    fn zooms(&mut self, address: &Address, input: &mut Source) -> u64 {
+        let (from, to) = (given(input.read_u8()), given(input.read_u8()));
+        let mut fold = Fold::new();
+        for zoom in from..to {
+            for policy in POLICIES {
+                let question = Question::Stream(zoom, policy);
+                let text = self.text(self.map.len(), address, question);
+                fold.word(digest(text.as_bytes()));
+            }
+        }
+        fold.value()
+    }
+}
+
+impl Question {
+    /// A question by its number: to collect, or to stream at the highest zoom under a policy.
+    fn what(input: &mut Source) -> Self {
+        match given(input.read_u8()) {
+            0 => Question::Count,
+            policy => Question::Stream(u8::MAX, POLICIES[usize::from(policy) - 1]),
+        }
+    }
+
+    fn text(self, file: &mut MapFile<Source>, address: &Address) -> (String, Option<Parting>) {
+        match self {
+            Question::Count => counted(file, address),
+            Question::Stream(zoom, policy) => {
+                let (tally, parting) = streamed(file, address, zoom, policy);
+                (tally.lines().to_owned(), parting)
+            }
+        }
+    }
+}
+
+/// What collecting counts. The Rust's tile must be the model's, all features and the signature; what
+/// is printed is the model's, since the Rust does not compare sizes and trims the signature.
+fn counted(file: &mut MapFile<Source>, address: &Address) -> (String, Option<Parting>) {
+    let (port, parting) = Opened::of(file).tile(address);
+    if parting.is_none() {
+        let rust = rust::tile(file, address);
+        let signature = |tile: &Tile| tile.signature.clone();
+        assert_eq!(words(&rust), words(&port), "the Rust (left) and document 01 part");
+        assert_eq!(
+            rust.as_ref().ok().and_then(signature),
+            port.as_ref().ok().and_then(signature).map(trimmed),
+            "the Rust (left) has another signature"
+        );
+    }
+    (lines::collected(&port), parting)
+}
+
+fn words(tile: &Result<Tile, Answer>) -> Answer {
+    tile.as_ref().map_or_else(Clone::clone, Tile::answer)
+}
+
+/// A signature as the Rust gives it.
+fn trimmed(signature: Text) -> Text {
+    String::from_utf8_lossy(&signature).trim().as_bytes().to_vec()
+}

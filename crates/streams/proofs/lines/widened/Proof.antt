@@ -1,0 +1,11 @@
+use Rattle.report.proofs.WordLaws.{byte-fits}
+use borrow.Author.Needs.{needs}
+use Rattle.streams.proofs.lines.widened.Statement.{statement}
+use Rattle.streams.proofs.lines.widened.Tie as tie
+
+pub widened-spec : {M : Type 1} → statement M
+widened-spec =
+    tie.close
+    (tie.spec
+    (λ c. byte-fits (c .args .layer) (c .fits .layer .sfits))
+    (λ c. search needs))
