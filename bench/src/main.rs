@@ -1,6 +1,7 @@
 //! Way data read by the Rust and by the port, on the same bytes in one process.
 //!
 //! `bench` prints a table; `bench rust N` and `bench port N` only run one side N times over the third shape, for callgrind.
+//! `bench tiles MAP...` prints a table of whole maps; `bench tiles-sample MAP DIR` writes the two files of the program `bench_tiles`.
 
 mod check;
 mod data;
@@ -9,6 +10,7 @@ mod rust;
 #[path = "../../compare/src/source.rs"]
 #[allow(dead_code)]
 mod source;
+mod tiles;
 
 use std::env;
 use std::hint::black_box;
@@ -27,8 +29,10 @@ fn main() {
     let words: Vec<String> = env::args().skip(1).collect();
     match words.iter().map(String::as_str).collect::<Vec<_>>()[..] {
         [] => table(),
+        ["tiles", ref files @ ..] => tiles::table(files),
+        ["tiles-sample", file, folder] => tiles::sample(file, folder),
         [side, runs] => alone(side, runs.parse().expect("a number of runs")),
-        _ => panic!("bench, or bench rust N, or bench port N"),
+        _ => panic!("bench, or bench rust N, or bench port N, or bench tiles MAP..."),
     }
 }
 

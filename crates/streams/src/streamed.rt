@@ -129,6 +129,54 @@ fn with_refusal(told: Told, refusal: Refusal) -> Told {
     }
 }
 
+fn refused(told: Told, stream: Stream, refusal: Refusal) -> Step {
+    Step {
+        told: with_refusal(told, refusal),
+        stream,
+    }
+}
+
+// An accept with the long lists.
+fn accept_long(
+    told: Told,
+    map: &[u8],
+    layer: i8,
+    stream: Stream,
+    counts: &mut [u64],
+    latitudes: &mut [f64],
+    longitudes: &mut [f64],
+) -> Step {
+    let got = visit::accept(map, stream, counts, latitudes, longitudes);
+    let answer = got.answer;
+    let stream = got.stream;
+    match answer {
+        AcceptAnswer::Body(body) => Step {
+            told: with_body(told, map, layer, body, counts, latitudes, longitudes),
+            stream,
+        },
+        AcceptAnswer::Refused(r) => refused(told, stream, r),
+    }
+}
+
+// Behind a refused accept: once more if the lists were too short.
+fn accept_again(told: Told, map: &[u8], layer: i8, stream: Stream, refusal: Refusal) -> Step {
+    let Refusal::TooShort(_) = refusal else {
+        return refused(told, stream, refusal);
+    };
+    let mut counts = lists::long_counts();
+    let mut latitudes = lists::long_coordinates();
+    let mut longitudes = lists::long_coordinates();
+    accept_long(
+        told,
+        map,
+        layer,
+        stream,
+        &mut counts,
+        &mut latitudes,
+        &mut longitudes,
+    )
+}
+
 fn accept(
     told: Told,
     map: &[u8],
@@ -146,10 +194,7 @@ fn accept(
             told: with_body(told, map, layer, body, counts, latitudes, longitudes),
             stream,
         },
-        AcceptAnswer::Refused(r) => Step {
-            told: with_refusal(told, r),
-            stream,
-        },
+        AcceptAnswer::Refused(r) => accept_again(told, map, layer, stream, r),
     }
 }
 
@@ -162,10 +207,7 @@ fn decline(told: Told, stream: Stream) -> Step {
             told: with_declined(told),
             stream,
         },
-        DeclineAnswer::Refused(r) => Step {
-            told: with_refusal(told, r),
-            stream,
-        },
+        DeclineAnswer::Refused(r) => refused(told, stream, r),
     }
 }
 
@@ -203,10 +245,7 @@ fn answered(
             told: with_end(told, end),
             stream,
         },
-        NextAnswer::Refused(r) => Step {
-            told: with_refusal(told, r),
-            stream,
-        },
+        NextAnswer::Refused(r) => refused(told, stream, r),
     }
 }
 
