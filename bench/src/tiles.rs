@@ -81,7 +81,10 @@ fn print_line(name: &str, map: &[u8], work: usize, what: &str) {
         least = [least[0].min(rust), least[1].min(port)];
     }
     let [rust, port] = least.map(|seconds| seconds * 1e3 / f64::from(times));
-    println!("| {name} | {tiles} | {what} | {times} | {rust:.3} | {port:.3} | {:.2} |", port / rust);
+    println!(
+        "| {name} | {tiles} | {what} | {times} | {rust:.3} | {port:.3} | {:.2} |",
+        port / rust
+    );
 }
 
 /// What the port prints of them.

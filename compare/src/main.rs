@@ -30,6 +30,7 @@ compare/run [--rust FOLDER] COMMAND ARGS...
   tiles-records FILE DIR [collected]
                       the same two files for all tiles of one map
   streams-sample DIR  the same two files for crafted tiles and the maps of maps/: their streams in lines, and what collecting counts
+  turns-sample DIR    the same two files for calls out of turn and lists that are too short, which the Rust does not have
   streams-records FILE DIR
                       the same two files for all tiles of one map
   figures             checks document 01's worked figures; fails on a difference
@@ -63,6 +64,7 @@ fn run(arguments: &[&str]) -> io::Result<ExitCode> {
             tiles::sample::write(Path::new(folder), Form::Collected)?;
         }
         ["streams-sample", folder] => tiles::sample::write(Path::new(folder), Form::Streams)?,
+        ["turns-sample", folder] => tiles::sample::write(Path::new(folder), Form::Turns)?,
         ["tiles-records", file, folder] => {
             tiles::file::write(Path::new(file), Path::new(folder), Form::Features)?;
         }

@@ -54,6 +54,8 @@ pub enum Form {
     Collected,
     /// Streaming and what collecting counts, in lines: `streams`.
     Streams,
+    /// Calls out of turn: `turns`.
+    Turns,
 }
 
 /// What is asked of a tile.
@@ -89,6 +91,7 @@ impl Run {
     fn caught_lines(&mut self, form: Form, operation: u8, input: &[u8]) -> String {
         let lines = panic::catch_unwind(AssertUnwindSafe(|| match form {
             Form::Streams => self.lines(operation, input),
+            Form::Turns => self.turns(operation, input),
             _ => records::line(operation, &self.answer(operation, input)),
         }));
         lines.unwrap_or_else(|_| {

@@ -21,6 +21,7 @@ pub fn check(tally: &mut Tally) {
     counts(tally);
     limits(tally);
     overlap(tally);
+    turns(tally);
 }
 
 /// A map of one tile, with three tags of each table.
@@ -127,4 +128,32 @@ fn limits(tally: &mut Tally) {
 fn overlap(tally: &mut Tally) {
     let answer = collected(&[0x01, 0x01, 0x00, 0x05, 0x00, 0x50, 0x80, 0x01, 0x00]);
     tally.equal("a way over a point", answer[..5].to_vec(), vec![0, 1, 0, 1, 1]);
+}
+
+/// The table's rows 15 and 16: "2 nodes, list of 1" and "accept with no way waiting". The lists have
+/// 128 entries, of which a front is lent.
+fn turns(tally: &mut Tally) {
+    let tile = Tile::of(&[], &[Way::of(vec![[0, 0], [1, 1]])]).plain();
+    let mut run = Run::default();
+    run.turns(b'M', &map([0; 3], &tile));
+    let lines = run.turns(b'T', &FIRST);
+    let wanted = "T
+a 128 128 128 16 128 128 128
+d 16
+n 2
+n 16
+a 0 0 0 15 1 2 2 128 128 128
+a 0 2 2 15 1 2 2 128 128 128
+a 1 1 2 15 1 2 2 128 128 128
+a 1 2 1 15 1 2 2 128 128 128
+a 1 2 2 0 1 2 127 126 126
+d 16
+a 128 128 128 16 128 128 128
+d 16
+n 0 0 0
+a 128 128 128 16 128 128 128
+d 16
+n 0 0 0
+";
+    tally.equal("calls on a way of 2 nodes", lines, wanted.to_string());
 }

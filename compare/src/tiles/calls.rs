@@ -59,13 +59,23 @@ impl Records {
     /// Keeps what is asked of the program.
     fn of_form(self, form: Form) -> Vec<Record> {
         let kept = |(operation, input): &Record| match (form, operation) {
-            (_, b'M' | b'A') => true,
+            (_, b'M') => true,
+            (Form::Turns, operation) => *operation == b'T',
+            (_, b'A') => true,
             (Form::Features, b'F' | b'S' | b'Z' | b'E' | b'B') => true,
             (Form::Collected, b'E' | b'B') => input.last() == Some(&0),
-            (Form::Streams, b'S' | b'Z' | b'E' | b'B' | b'L' | b'T') => true,
+            (Form::Streams, b'S' | b'Z' | b'E' | b'B' | b'L') => true,
             _ => false,
         };
-        self.0.into_iter().filter(kept).collect()
+        let mut records = Vec::<Record>::new();
+        for record in self.0.into_iter().filter(kept) {
+            // a map that nothing is asked about is not needed
+            let unused = |last: &mut Record| last.0 == b'M' && record.0 == b'M';
+            records.pop_if(unused);
+            records.push(record);
+        }
+        records.pop_if(|last| last.0 == b'M');
+        records
     }
 
     /// Writes the two files, and prints whose answers they are.
@@ -74,7 +84,9 @@ impl Records {
         let mut run = Run::default();
         let line = |(operation, input): &Record| run.caught_lines(form, *operation, input);
         let lines: String = records.iter().map(line).collect();
-        run.sources.print();
+        if !matches!(form, Form::Turns) {
+            run.sources.print();
+        }
         records::write(folder, &records, lines.as_bytes())
     }
 

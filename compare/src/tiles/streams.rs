@@ -4,7 +4,7 @@ use mapsforge_rs::io::ByteRead;
 use mapsforge_rs::types::MapFile;
 
 use super::feature::{Text, Tile};
-use super::tally::{Policy, POLICIES};
+use super::tally::{Policy, Tally, POLICIES};
 use super::{lines, rust, streamed, turns, Address, Run};
 use crate::answer::{digest, Answer, Fold};
 use crate::differences::tile::{Opened, Parting};
@@ -19,8 +19,8 @@ enum Question {
 }
 
 impl Run {
-    /// The lines of an answer. `A` is what collecting counts, `L` a stream with its lines, `T` calls
-    /// out of turn, `Z` all zooms; the other letters are those of the words.
+    /// The lines of an answer. `A` is what collecting counts, `L` a stream with its lines; the other
+    /// letters are those of the words.
     pub fn lines(&mut self, operation: u8, input: &[u8]) -> String {
         if operation == b'M' {
             let opened = self.open(input);
@@ -39,7 +39,6 @@ impl Run {
                 let lines = self.stream(&address, &mut parts);
                 format!("{lines}L{}", lines::summary(&lines))
             }
-            b'T' => format!("{}T\n", self.turns(&address)),
             b'E' => format!("E {:016x}\n", self.cut_streams(&address, &mut parts)),
             b'B' => format!("B {:016x}\n", self.damaged_streams(&address, &mut parts)),
             b'Z' => format!("Z {:016x}\n", self.zooms(&address, &mut parts)),
@@ -57,15 +56,21 @@ impl Run {
         self.text(self.map.len(), address, question)
     }
 
-    /// From the model alone: the Rust has no such calls.
-    fn turns(&mut self, address: &Address) -> String {
-        self.of_cut(self.map.len(), |file| {
+    /// The calls of a stream out of turn, or with lists that are too short, from the model alone: the
+    /// Rust has no such calls.
+    pub fn turns(&mut self, operation: u8, input: &[u8]) -> String {
+        if operation == b'M' {
+            assert_eq!(self.open(input), [0], "the map opens");
+            return "M\n".into();
+        }
+        let address = Address::from(&mut Source::new(input));
+        let lines = self.of_cut(self.map.len(), |file| {
             let opened = Opened::of(file);
-            let mut heads = super::Tally::new(Policy::None);
-            let ended = opened.stream(address, u8::MAX, &mut heads).answer;
-            let (tile, parting) = opened.tile(address);
+            let ended = opened.stream(&address, u8::MAX, &mut Tally::new(Policy::All)).answer;
+            let (tile, parting) = opened.tile(&address);
             (turns::lines(&tile.expect("a tile that collects"), &ended), parting)
-        })
+        });
+        format!("T\n{lines}")
     }
 
     fn cut_streams(&mut self, address: &Address, input: &mut Source) -> u64 {

@@ -1,55 +1,52 @@
-//! What document 01 says of calls out of turn and of lists that are too short, for each way of a
-//! collected tile.
+//! Document 01 on calls out of turn and on lists that are too short, for each way of a collected tile.
+//! A line for each call, as the program `turns` prints them: accept with the lengths that are lent, the
+//! answer, and how many entries of each list are as they were; decline; next.
 
 use super::feature::{Tile, Way};
-use super::lines::{end, numbers};
+use super::lines::numbers;
 
 /// The entries of each list of which a front is lent.
 const ENTRIES: u64 = 128;
 
-/// A line for each call, of a stream that ends in this way.
+/// The calls of a stream at the highest zoom, which ends in this way.
 pub fn lines(tile: &Tile, ended: &[u64]) -> String {
     let mut lines = String::new();
     for _ in &tile.points {
-        lines += &(out_of_turn() + "next point\n");
+        lines += &(out_of_turn() + "n 1\n");
     }
     for way in &tile.ways {
-        lines += &(out_of_turn() + "next way\n" + &waiting(way));
+        lines += &(out_of_turn() + "n 2\n" + &waiting(way));
     }
-    let next = format!("next {}", end(ended));
-    lines + &out_of_turn() + &next + &out_of_turn() + &next
+    let end = format!("n{}\n", numbers(ended));
+    lines + &out_of_turn() + &end + &out_of_turn() + &end
 }
 
 /// "with no way waiting accept and decline are 16"
 fn out_of_turn() -> String {
-    format!("{}decline refused 16\n", refused([ENTRIES; 3], &[16]))
+    accept([ENTRIES; 3], &[16], [ENTRIES; 3]) + "d 16\n"
 }
 
-/// "until then "next" is 16"; a list one entry short is 15 with the lengths needed, "A refused accept
-/// leaves the way waiting", and lists that are long enough are written from the front.
+/// "until then "next" is 16"; a list one entry short is 15 with the lengths needed; "A refused accept
+/// leaves the way waiting"; "entries behind them keep their values".
 fn waiting(way: &Way) -> String {
     let blocks = way.blocks.len() as u64;
     let nodes = way.blocks.iter().map(|block| block.nodes.len() as u64).sum();
     assert!(blocks <= ENTRIES && nodes <= ENTRIES, "the lists are long enough");
     let needed = [blocks, nodes, nodes];
-    let mut lines = String::from("next refused 16\n");
+    let refused = |lent| accept(lent, &[15, blocks, nodes, nodes], [ENTRIES; 3]);
+    let mut lines = String::from("n 16\n");
     if needed != [0; 3] {
-        let refusal = [15, blocks, nodes, nodes];
-        lines += &refused([0; 3], &refusal);
+        lines += &refused([0; 3]);
         for list in (0..3).filter(|&list| needed[list] > 0) {
             let mut lent = needed;
             lent[list] -= 1;
-            lines += &refused(lent, &refusal);
+            lines += &refused(lent);
         }
     }
     let kept = needed.map(|length| ENTRIES - length);
-    let accepted = numbers(&[blocks, nodes]);
-    let lent = numbers(&needed);
-    lines + &format!("accept{lent} accepted{accepted} kept{}\ndecline refused 16\n", numbers(&kept))
+    lines + &accept(needed, &[0, blocks, nodes], kept) + "d 16\n"
 }
 
-/// A refused accept, which leaves all entries as they were.
-fn refused(lent: [u64; 3], refusal: &[u64]) -> String {
-    let kept = numbers(&[ENTRIES; 3]);
-    format!("accept{} refused{} kept{kept}\n", numbers(&lent), numbers(refusal))
+fn accept(lent: [u64; 3], answer: &[u64], kept: [u64; 3]) -> String {
+    format!("a{}{}{}\n", numbers(&lent), numbers(answer), numbers(&kept))
 }

@@ -3,12 +3,9 @@
 // `compare/run streams-sample` writes both sides.
 mod collected;
 mod copies;
-mod lines;
 mod lists;
-mod out;
 mod questions;
 mod streamed;
-mod turns;
 
 use byte_source::Span;
 use header::HeaderRead;
@@ -17,12 +14,12 @@ use types::End;
 use types::MapHeader;
 
 fn say(text: &[u8]) {
-    out::say(out::start(true), text);
+    lines::say(lines::start(true), text);
 }
 
 fn print_digest(letter: &[u8], digest: u64) {
-    let to = out::say(out::say(out::start(true), letter), b" ");
-    out::say(out::hex(to, digest, 16), b"\n");
+    let to = lines::say(lines::say(lines::start(true), letter), b" ");
+    lines::say(lines::hex(to, digest, 16), b"\n");
 }
 
 fn print_collected(map: &[u8], h: MapHeader, question: &[u8]) {
@@ -33,29 +30,16 @@ fn print_collected(map: &[u8], h: MapHeader, question: &[u8]) {
 fn print_stream(letter: &[u8], shown: bool, map: &[u8], h: MapHeader, question: &[u8]) {
     let zoom = questions::byte_at(question, 32);
     let policy = questions::byte_at(question, 33);
-    let told = streamed::tile(
-        shown,
-        map,
-        h,
-        questions::place_of(question),
-        zoom,
-        policy,
-    );
+    let told = streamed::tile(shown, map, h, questions::place_of(question), zoom, policy);
     streamed::print(letter, told);
 }
 
-fn print_turns(map: &[u8], h: MapHeader, question: &[u8]) {
-    turns::tile(map, h, questions::place_of(question));
-    say(b"T\n");
-}
-
-// A collected counts, S a stream, L a stream with its lines, T calls out of turn, E cuts, B damages, Z zooms.
+// A collected counts, S a stream, L a stream with its lines, E cuts, B damages, Z zooms.
 fn answer(letter: u8, map: &[u8], h: MapHeader, question: &[u8]) {
     match letter {
         b'A' => print_collected(map, h, question),
         b'S' => print_stream(b"S", false, map, h, question),
         b'L' => print_stream(b"L", true, map, h, question),
-        b'T' => print_turns(map, h, question),
         b'E' => print_digest(b"E", copies::all_cuts(map, h, question)),
         b'B' => print_digest(b"B", copies::all_damages(map, h, question)),
         b'Z' => print_digest(b"Z", copies::all_zooms(map, h, question)),
@@ -67,7 +51,7 @@ fn print_opening(end: End) {
     match end {
         End::At(_) => say(b"M open\n"),
         End::Refused(r) => {
-            out::refused(out::say(out::start(true), b"M "), r);
+            lines::refused(lines::say(lines::start(true), b"M "), r);
         }
     }
 }

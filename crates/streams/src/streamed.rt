@@ -1,10 +1,8 @@
 // A tile's stream under a policy, which says what ways are accepted.
-use crate::lines;
 use crate::lists;
-use crate::out;
-use crate::out::Out;
 use crate::questions::Place;
 use error::Refusal;
+use lines::Out;
 use poi::Poi;
 use tile_layout::TileLayout;
 use types::MapHeader;
@@ -124,7 +122,7 @@ fn with_refusal(told: Told, refusal: Refusal) -> Told {
         points: told.points,
         heads: told.heads,
         accepted: told.accepted,
-        out: out::refused(to, refusal),
+        out: lines::refused(to, refusal),
         ending: Ending::Refused(refusal),
     }
 }
@@ -250,7 +248,11 @@ fn answered(
 }
 
 fn is_going(ending: Ending) -> bool {
-    if let Ending::Going = ending { true } else { false }
+    if let Ending::Going = ending {
+        true
+    } else {
+        false
+    }
 }
 
 // No map has as many features as the loop may take: each has a byte.
@@ -273,7 +275,14 @@ fn steps(
             return told;
         }
         let next = answered(
-            told, map, layout, policy, stream, counts, latitudes, longitudes,
+            told,
+            map,
+            layout,
+            policy,
+            stream,
+            counts,
+            latitudes,
+            longitudes,
         );
         told = next.told;
         stream = next.stream;
@@ -305,7 +314,7 @@ pub fn tile(shown: bool, map: &[u8], h: MapHeader, place: Place, zoom: u8, polic
         points: 0,
         heads: 0,
         accepted: 0,
-        out: out::start(shown),
+        out: lines::start(shown),
         ending: Ending::Going,
     };
     let grid = place.grid;
@@ -320,15 +329,16 @@ pub fn tile(shown: bool, map: &[u8], h: MapHeader, place: Place, zoom: u8, polic
 
 // A line of the counts and the digest, and how the stream ended.
 pub fn print(letter: &[u8], told: Told) {
-    let to = out::say(out::start(true), letter);
-    let to = out::number(out::number(to, told.points), told.heads);
-    let to = out::number(to, told.accepted);
-    let lines = told.out;
-    let to = out::say(out::hex(out::say(to, b" "), lines.digest, 16), b" ");
+    let to = lines::say(lines::start(true), letter);
+    let to = lines::number(lines::number(to, told.points), told.heads);
+    let to = lines::number(to, told.accepted);
+    let printed = told.out;
+    let to = lines::say(lines::hex(lines::say(to, b" "), printed.digest, 16), b" ");
     let ending = told.ending;
     match ending {
-        Ending::Going => out::say(to, b"going\n"),
+        Ending::Going => lines::say(to, b"going\n"),
         Ending::End(end) => lines::end(to, end),
-        Ending::Refused(r) => out::refused(to, r),
-    };
+        Ending::Refused(r) => lines::refused(to, r),
+    }
+    ;
 }

@@ -14,17 +14,23 @@ use crate::tiles::file;
 const FETCHED: [(usize, u64, Range<u32>); 4] =
     [(0, 1, 0..12), (1, 3, 0..19), (2, 4, 0..4), (2, 10, 42..47)];
 
+/// The policies under which their streams are shown: all ways, two of three, none.
+const MAPS: [(&str, u8); 3] = [("islands.map", 0), ("islands-debug.map", 2), ("short-size.map", 1)];
+
 pub fn add(records: &mut Records) -> io::Result<()> {
-    // all ways, none, two of three
-    for (policy, name) in ["islands.map", "short-size.map", "islands-debug.map"].iter().enumerate() {
+    for (name, policy) in MAPS {
         let path = folder().join(name);
         let grids = grids(&path);
         let map = fs::read(&path)?;
         file::add(records, &map, grids);
-        file::add_lines(records, &map, grids, policy as u8);
+        file::add_lines(records, &map, grids, policy);
         for (sub_file, tile, features) in FETCHED {
             let at = Address { sub_file: sub_file as u64, grid: grids[sub_file], tile };
             features.for_each(|k| records.feature(at, k));
+            // the other policies, where a size is short
+            if policy == 1 {
+                [0, 2].iter().for_each(|&policy| records.lines(at, u8::MAX, policy));
+            }
         }
     }
     Ok(())

@@ -1,8 +1,8 @@
 use Prim.Native.Nat.{_-_}
 use lib.ListN.{length}
 use borrow.Author.Needs.{needs}
-use Rattle.streams.proofs.turns.kept_counts.Statement.{statement}
-use Rattle.streams.proofs.turns.kept_counts.Tie as tie
+use Rattle.turns.proofs.turns.kept_coordinates.Statement.{statement}
+use Rattle.turns.proofs.turns.kept_coordinates.Tie as tie
 
 abbrev Inv-loop : tie.InvT-loop
 Inv-loop list from kept₀ i₀ kept i = Unit {0}
@@ -10,8 +10,8 @@ Inv-loop list from kept₀ i₀ kept i = Unit {0}
 abbrev μ-loop : tie.MeasureT-loop
 μ-loop list from kept₀ i₀ kept i = length list - i
 
-pub kept-counts-spec : {M : Type 1} → statement M
-kept-counts-spec =
+pub kept-coordinates-spec : {M : Type 1} → statement M
+kept-coordinates-spec =
     tie.close
     (tie.spec
     Inv-loop

@@ -2,8 +2,8 @@ use mathlib.Core.Path.{sym}
 use native.Mathlib.Omega.{arith}
 use lib.Seq.{length-take-le}
 use borrow.Author.Needs.{needs}
-use Rattle.streams.proofs.turns.accept_fronts.Statement.{statement}
-use Rattle.streams.proofs.turns.accept_fronts.Tie as tie
+use Rattle.turns.proofs.turns.accept_fronts.Statement.{statement}
+use Rattle.turns.proofs.turns.accept_fronts.Tie as tie
 
 pub accept-fronts-spec : {M : Type 1} → statement M
 accept-fronts-spec =

@@ -1,16 +1,17 @@
 use Prim.Native.Nat.{_-_, _≤_}
+use lib.ListN.{length}
 use borrow.Author.Needs.{needs}
-use Rattle.streams.proofs.lines.tags.Statement.{statement}
-use Rattle.streams.proofs.lines.tags.Tie as tie
+use Rattle.lines.proofs.out.quoted.Statement.{statement}
+use Rattle.lines.proofs.out.quoted.Tie as tie
 
 abbrev Inv-loop : tie.InvT-loop
-Inv-loop ids count to₀ i₀ to i = i ≤ 15
+Inv-loop bytes out₀ i₀ t6 out i = i ≤ length bytes
 
 abbrev μ-loop : tie.MeasureT-loop
-μ-loop ids count to₀ i₀ to i = 15 - i
+μ-loop bytes out₀ i₀ t6 out i = length bytes - i
 
-pub tags-spec : {M : Type 1} → statement M
-tags-spec =
+pub quoted-spec : {M : Type 1} → statement M
+quoted-spec =
     tie.close
     (tie.spec
     Inv-loop
@@ -19,9 +20,10 @@ tags-spec =
     (λ c κs. search needs)
     (λ c. search needs)
     (λ c. search needs)
-    (λ c. search needs)
     (λ c κs. search needs)
     (λ c. search needs)
     (λ c. search needs)
     (λ c. search needs)
+    (λ c. search needs)
+    (λ c κs. search needs)
     (λ c. search needs))

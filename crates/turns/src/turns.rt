@@ -1,9 +1,9 @@
-// Calls out of turn, and accepts with lists that are too short, which the Rust does not have. A line for each call.
-use crate::lines;
-use crate::out;
+// Calls out of turn, and accepts with lists that are too short. A line for each call: its letter, the lengths that are lent, the answer,
+// and how many entries of each list are as they were.
 use crate::questions::Place;
 use error::Lengths;
 use error::Refusal;
+use report::Words;
 use tile_layout::TileLayout;
 use types::MapHeader;
 use visit::AcceptAnswer;
@@ -51,28 +51,31 @@ fn kept_coordinates(list: &[f64], from: usize) -> u64 {
     kept
 }
 
-// How many entries hold what they held, behind the blocks and nodes of a body; of each list.
-fn print_kept(list: &[u64], latitudes: &[f64], longitudes: &[f64], blocks: usize, nodes: usize) {
-    let to = out::say(out::start(true), b" kept");
-    let to = out::number(to, kept_counts(list, blocks));
-    let to = out::number(to, kept_coordinates(latitudes, nodes));
-    let to = out::number(to, kept_coordinates(longitudes, nodes));
-    out::say(to, b"\n");
+// How many entries of each list hold what they held, behind the blocks and nodes of a body.
+fn with_kept(
+    words: Words,
+    list: &[u64],
+    latitudes: &[f64],
+    longitudes: &[f64],
+    blocks: usize,
+    nodes: usize,
+) -> Words {
+    let words = report::push(words, kept_counts(list, blocks));
+    let words = report::push(words, kept_coordinates(latitudes, nodes));
+    report::push(words, kept_coordinates(longitudes, nodes))
 }
 
-fn print_accept(blocks: usize, latitudes: usize, longitudes: usize) {
-    let to = out::say(out::start(true), b"accept");
-    let to = out::number(out::number(to, blocks as u64), latitudes as u64);
-    out::number(to, longitudes as u64);
+fn three(words: Words, a: u64, b: u64, c: u64) -> Words {
+    report::push(report::push(report::push(words, a), b), c)
 }
 
-fn print_body(blocks: u64, nodes: u64) {
-    let to = out::say(out::start(true), b" accepted");
-    out::number(out::number(to, blocks), nodes);
-}
-
-fn print_refused(refusal: Refusal) {
-    out::refusal(out::say(out::start(true), b" refused"), refusal);
+// A refusal's number and its lengths.
+fn with_refusal(words: Words, r: Refusal) -> Words {
+    let words = report::push(words, error::number_of(r) as u64);
+    if let Refusal::TooShort(l) = r {
+        return three(words, l.list1, l.list2, l.list3);
+    }
+    words
 }
 
 // An accept that is lent the fronts of these lengths.
@@ -122,19 +125,22 @@ fn accept_with(
     latitudes: &mut [f64],
     longitudes: &mut [f64],
 ) -> Accepted {
-    print_accept(a, b, c);
+    let lent = three(report::no_words(), a as u64, b as u64, c as u64);
     let got = accept_fronts(map, stream, a, b, c, list, latitudes, longitudes);
     let answer = got.answer;
     match answer {
         AcceptAnswer::Body(body) => {
             let blocks = body.blocks as usize;
             let nodes = body.nodes as usize;
-            print_body(body.blocks, body.nodes);
-            print_kept(list, latitudes, longitudes, blocks, nodes);
+            let words = three(lent, 0, body.blocks, body.nodes);
+            report::print_line(
+                b'a',
+                with_kept(words, list, latitudes, longitudes, blocks, nodes),
+            );
         }
         AcceptAnswer::Refused(r) => {
-            print_refused(r);
-            print_kept(list, latitudes, longitudes, 0, 0);
+            let words = with_refusal(lent, r);
+            report::print_line(b'a', with_kept(words, list, latitudes, longitudes, 0, 0));
         }
     }
     got
@@ -157,25 +163,38 @@ fn try_accept(map: &[u8], stream: Stream, a: usize, b: usize, c: usize) -> Accep
     )
 }
 
+fn flag(b: bool) -> u64 {
+    if b {
+        return 1;
+    }
+    0
+}
+
+// 1 for a point, 2 for a way, 0 with sub file and water mark for the end.
 fn print_next(got: NextStep) {
-    let to = out::say(out::start(true), b"next ");
+    let words = report::no_words();
     let answer = got.answer;
     match answer {
-        NextAnswer::Point => out::say(to, b"point\n"),
-        NextAnswer::Way => out::say(to, b"way\n"),
-        NextAnswer::End(end) => lines::end(to, end),
-        NextAnswer::Refused(r) => out::refused(to, r),
-    };
+        NextAnswer::Point => report::print_line(b'n', report::push(words, 1)),
+        NextAnswer::Way => report::print_line(b'n', report::push(words, 2)),
+        NextAnswer::End(end) => {
+            report::print_line(
+                b'n',
+                three(words, 0, end.sub_file as u64, flag(end.is_water)),
+            )
+        }
+        NextAnswer::Refused(r) => report::print_line(b'n', with_refusal(words, r)),
+    }
 }
 
 fn try_decline(stream: Stream) -> Stream {
-    let to = out::say(out::start(true), b"decline ");
+    let words = report::no_words();
     let got = visit::decline(stream);
     let answer = got.answer;
     match answer {
-        DeclineAnswer::Declined => lines::declined(to),
-        DeclineAnswer::Refused(r) => out::refused(to, r),
-    };
+        DeclineAnswer::Declined => report::print_line(b'd', report::push(words, 0)),
+        DeclineAnswer::Refused(r) => report::print_line(b'd', with_refusal(words, r)),
+    }
     got.stream
 }
 
@@ -201,7 +220,13 @@ fn accept_again(map: &[u8], stream: Stream, refusal: Refusal) -> Stream {
         return stream;
     };
     short_lists(map, stream, l);
-    let got = try_accept(map, stream, l.list1 as usize, l.list2 as usize, l.list3 as usize);
+    let got = try_accept(
+        map,
+        stream,
+        l.list1 as usize,
+        l.list2 as usize,
+        l.list3 as usize,
+    );
     got.stream
 }
 
@@ -256,8 +281,6 @@ pub fn tile(map: &[u8], h: MapHeader, place: Place) {
     let opened = visit::open(map, h, place.sub_file, grid, place.tile, 255);
     match opened {
         OpenRead::Stream(stream) => features(map, tile_layout::layout_of(h), stream),
-        OpenRead::Refused(r) => {
-            out::refused(out::start(true), r);
-        }
+        OpenRead::Refused(r) => report::print_line(b'o', with_refusal(report::no_words(), r)),
     }
 }

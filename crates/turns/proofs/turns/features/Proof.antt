@@ -1,33 +1,34 @@
-use Prim.Native.Nat.{_-_}
 use borrow.Author.Needs.{needs}
-use Rattle.streams.proofs.lines.nodes.Statement.{statement}
-use Rattle.streams.proofs.lines.nodes.Tie as tie
+use Rattle.turns.proofs.turns.features.Statement.{statement}
+use Rattle.turns.proofs.turns.features.Tie as tie
 
 abbrev Inv-loop : tie.InvT-loop
-Inv-loop from end latitudes longitudes few to₀ digest₀ i₀ t12 to digest i = Unit {0}
+Inv-loop map layout stream₀ turns₀ stream turns = Unit {0}
 
 abbrev μ-loop : tie.MeasureT-loop
-μ-loop from end latitudes longitudes few to₀ digest₀ i₀ t12 to digest i = end - i
+μ-loop map layout stream₀ turns₀ stream turns = turns
 
-pub nodes-spec : {M : Type 1} → statement M
-nodes-spec =
+pub features-spec : {M : Type 1} → statement M
+features-spec =
     tie.close
     (tie.spec
     Inv-loop
     μ-loop
-    (λ c κs. search needs)
     (λ c. search needs)
-    (λ c κs. search needs)
-    (λ c κs. search needs)
-    (λ c κs. search needs)
     (λ c κs. search needs)
     (λ c κs. search needs)
     (λ c κs. search needs)
     (λ c. search needs)
     (λ c. search needs)
-    (λ c. search needs)
-    (λ c. search needs)
+    (λ c κs. search needs)
     (λ c. search needs)
     (λ c κs. search needs)
     (λ c κs. search needs)
+    (λ c κs. search needs)
+    (λ c. search needs)
+    (λ c. search needs)
+    (λ c. search needs)
+    (λ c. search needs)
+    (λ c. search needs)
+    (λ c. search needs)
     (λ c. search needs))

@@ -107,7 +107,13 @@ fn blocks(to: Out, blocks: usize, counts: &[u64], latitudes: &[f64], longitudes:
         }
         let n = counts[i];
         let end = arithmetic::saturating_add_usize(from, n as usize);
-        to = nodes(out::number(out::say(to, b" :"), n), from, end, latitudes, longitudes);
+        to = nodes(
+            out::number(out::say(to, b" :"), n),
+            from,
+            end,
+            latitudes,
+            longitudes,
+        );
         from = end;
         i += 1;
     }

@@ -1,17 +1,16 @@
 use Prim.Native.Nat.{_-_, _≤_}
-use lib.ListN.{length}
 use borrow.Author.Needs.{needs}
-use Rattle.streams.proofs.out.quoted.Statement.{statement}
-use Rattle.streams.proofs.out.quoted.Tie as tie
+use Rattle.lines.proofs.answers.tags.Statement.{statement}
+use Rattle.lines.proofs.answers.tags.Tie as tie
 
 abbrev Inv-loop : tie.InvT-loop
-Inv-loop bytes out₀ i₀ t6 out i = i ≤ length bytes
+Inv-loop ids count to₀ i₀ to i = i ≤ 15
 
 abbrev μ-loop : tie.MeasureT-loop
-μ-loop bytes out₀ i₀ t6 out i = length bytes - i
+μ-loop ids count to₀ i₀ to i = 15 - i
 
-pub quoted-spec : {M : Type 1} → statement M
-quoted-spec =
+pub tags-spec : {M : Type 1} → statement M
+tags-spec =
     tie.close
     (tie.spec
     Inv-loop
@@ -20,10 +19,9 @@ quoted-spec =
     (λ c κs. search needs)
     (λ c. search needs)
     (λ c. search needs)
-    (λ c κs. search needs)
-    (λ c. search needs)
-    (λ c. search needs)
-    (λ c. search needs)
     (λ c. search needs)
     (λ c κs. search needs)
+    (λ c. search needs)
+    (λ c. search needs)
+    (λ c. search needs)
     (λ c. search needs))
