@@ -78,10 +78,12 @@ pub struct Run {
     sources: Sources,
 }
 
-/// How many answers are the Rust's, and how many are the model's alone and why.
+/// How many answers are the Rust's, and how many are the model's alone and why; and how many features
+/// the lines of the streams have.
 #[derive(Default)]
 struct Sources {
     rust: u64,
+    features: u64,
     model: BTreeMap<Cause, u64>,
 }
 
@@ -288,6 +290,9 @@ impl Sources {
     fn print(&self) {
         let parted: u64 = self.model.values().sum();
         println!("{} answers of the Rust, {parted} of the model alone", self.rust);
+        if self.features > 0 {
+            println!("{} points and ways in the streams", self.features);
+        }
         for (cause, count) in &self.model {
             println!("  {cause:?}: {count}");
         }

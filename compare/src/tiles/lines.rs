@@ -79,6 +79,12 @@ pub fn summary(lines: &str) -> String {
     format!("{} {:016x} {end}\n", numbers(&counts), crate::answer::digest(lines.as_bytes()))
 }
 
+/// How many points and ways a stream's lines have.
+pub fn features(lines: &str) -> u64 {
+    let feature = |line: &&str| line.starts_with("point ") || line.starts_with("way ");
+    lines.lines().filter(feature).count() as u64
+}
+
 pub fn numbers(numbers: &[u64]) -> String {
     numbers.iter().map(|number| format!(" {number}")).collect()
 }

@@ -47,7 +47,9 @@ impl Run {
     }
 
     fn text(&mut self, length: usize, address: &Address, question: Question) -> String {
-        self.of_cut(length, |file| question.text(file, address))
+        let text = self.of_cut(length, |file| question.text(file, address));
+        self.sources.features += lines::features(&text);
+        text
     }
 
     fn stream(&mut self, address: &Address, input: &mut Source) -> String {
