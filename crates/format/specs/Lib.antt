@@ -10,3 +10,4 @@ pub mod Elevation
 pub mod Streamed
 pub mod Rows
 pub mod BodyLists
+pub mod Fetched

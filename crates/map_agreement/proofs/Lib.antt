@@ -1,0 +1,4 @@
+pub mod ViewLaws
+pub mod Chain
+pub mod MapLaws
+pub mod HeaderFacts

@@ -1,0 +1,3 @@
+pub mod TileView
+pub mod MapsforgeMap
+pub mod Called
