@@ -21,9 +21,11 @@ use Rattle.report.specs.Words.{pushed, mixed, mixedAll, mixedUpto}
 use Rattle.report.specs.declared.Words.{Words}
 
 pub push-full : (w : Words) (x : ℕ) → 40 ≤ w .count → w ≡ pushed w x
+unfolding pushed
 push-full w x h = rw (le-ltb (w .count) 40 h)
 
 pub push-more : (w : Words) (x : ℕ) → w .count < 40 → record { words = set (w .words) (w .count) x; count = w .count + 1 } ≡ pushed w x
+unfolding pushed
 push-more w x h = rw (lt-ltb (w .count) 40 h)
 
 pub mix-none : (l : List ℕ) (d h : ℕ) → h ≡ d → h ≡ mixedUpto d l 0
@@ -131,5 +133,14 @@ wide-fits z h = widened w32 z (record { sfits = h }) (omega arith)
 
 pub byte-fits : (z : ℤ) → mag z < 2 ^ 7 → SFits w64 (toZ w8 (ofZ w8 z))
 byte-fits z h = widened w8 z (record { sfits = h }) (omega arith)
+
+-- words pushed and mixed one behind the other, for the callers' proofs
+pub pushed-next : (w w′ r : Words) (x x′ : ℕ) → r ≡ pushed w x → w ≡ w′ → x ≡ x′ → r ≡ pushed w′ x′
+pushed-next w w′ r x x′ e d q = e ∙ ap (λ v. pushed v x) d ∙ ap (pushed w′) q
+
+pub mixed-next : (h h′ r x x′ : ℕ) → r ≡ mixed h x → h ≡ h′ → x ≡ x′ → r ≡ mixed h′ x′
+mixed-next h h′ r x x′ e d q = e ∙ ap (λ v. mixed v x) d ∙ ap (mixed h′) q
+
+pub ruleset chains = (needs, pushed-next, mixed-next)
 
 pub ruleset words = (needs, push-full, push-more, mix-none, mix-more, mix-count, mix-all, mix-byte, mix-end)

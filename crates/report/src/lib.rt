@@ -1,8 +1,11 @@
 // What the programs that are run against the Rust print: an answer as a list of words, and digests of many answers.
 ghost use mathlib.Core.Path.{_≡_};
 ghost use Prim.Native.Nat.{_+_, _*_, _%_, _^_};
-ghost use Rattle.report.specs.Words.{pushed, mixed, mixedAll, digestOf, signOf, bitsOf, floatOf};
+ghost use Rattle.report.specs.Words.{noWords, pushed, mixed, mixedAll, digestOf, signOf, bitsOf, floatOf};
+ghost use Rattle.report.specs.Texts.{room, zeros, mixedReplaced};
+ghost use Rattle.text.specs.Writing.{writing};
 ghost use lib.IntN.{natAbs};
+ghost use lib.ListN.{length};
 ghost use Rattle.report.specs.Records.{aRecord, recordRes};
 use byte_source::ByteRead;
 use byte_source::Span;
@@ -19,7 +22,7 @@ pub struct Words {
 }
 
 pub fn no_words() -> Words
-    ensures { λ r. ⌜ r .count ≡ 0 ⌝ }
+    ensures { λ r. ⌜ r ≡ noWords ⌝ }
 {
     Words {
         words: [0; 40],
@@ -87,8 +90,10 @@ pub fn mix_bytes(digest: u64, bytes: &[u8]) -> u64
     out
 }
 
-// A text's replaced bytes mixed into a digest, by way of a buffer that is long enough.
-pub fn mix_replaced(digest: u64, text: &[u8], buffer: &mut [u8]) -> u64 {
+// A text's replaced bytes mixed into a digest, by way of the buffer; 0 if the buffer is too short.
+pub fn mix_replaced(digest: u64, text: &[u8], buffer: &mut [u8]) -> u64
+    ensures { λ r. ⌜ (r ≡ mixedReplaced digest (now (text .entry)) (length (now (buffer .entry)))) × (now (buffer .exit) ≡ writing (now (text .entry)) (now (buffer .entry)) 0 .buffer) ⌝ }
+{
     let Written::Upto(n) = text::write_replaced(text, buffer, 0) else {
         return 0;
     };
@@ -99,8 +104,22 @@ pub fn mix_replaced(digest: u64, text: &[u8], buffer: &mut [u8]) -> u64 {
 }
 
 // Room for a map or a long text. In a function of its own, so that no proof looks into it.
-pub fn large() -> [u8; 1100000] {
+pub fn large() -> [u8; 1100000]
+    ensures { λ r. ⌜ r ≡ zeros room ⌝ }
+{
     [0; 1100000]
+}
+
+// A text's replaced bytes mixed into a digest. A short text has a short buffer: there are many of them.
+pub fn mix_text(digest: u64, text: &[u8]) -> u64
+    ensures { λ r. ⌜ r ≡ mixedReplaced digest (now (text .entry)) room ⌝ }
+{
+    if text.len() < 300 {
+        let mut buffer = [0u8; 900];
+        return mix_replaced(digest, text, &mut buffer);
+    }
+    let mut buffer = large();
+    mix_replaced(digest, text, &mut buffer)
 }
 
 // What a record asks, where its question stands, and the place behind it.
