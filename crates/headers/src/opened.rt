@@ -1,5 +1,4 @@
 // A header as words.
-use crate::numbers;
 use byte_source::Span;
 use byte_source::SpanRead;
 use report::Words;
@@ -16,21 +15,11 @@ fn wide(x: u8) -> u64 {
     x as u64
 }
 
-// A short text has a short buffer: there are many of them.
-pub fn mix_text(digest: u64, text: &[u8]) -> u64 {
-    if text.len() < 300 {
-        let mut buffer = [0u8; 900];
-        return report::mix_replaced(digest, text, &mut buffer);
-    }
-    let mut buffer = report::large();
-    report::mix_replaced(digest, text, &mut buffer)
-}
-
 // The length of the replaced text, and its digest.
-pub fn push_text(words: Words, map: &[u8], span: Span) -> Words {
+pub(crate) fn push_text(words: Words, map: &[u8], span: Span) -> Words {
     let bytes = byte_source::span_bytes(map, span);
     let words = report::push(words, text::replaced_len(bytes) as u64);
-    report::push(words, mix_text(14695981039346656037, bytes))
+    report::push(words, report::mix_text(14695981039346656037, bytes))
 }
 
 fn push_optional_text(words: Words, map: &[u8], text: OptionalSpan) -> Words {
@@ -63,7 +52,7 @@ fn push_optional_byte(words: Words, b: OptionalByte) -> Words {
 
 fn mix_tag(digest: u64, map: &[u8], span: Span) -> u64 {
     let bytes = byte_source::span_bytes(map, span);
-    mix_text(report::mix(digest, text::replaced_len(bytes) as u64), bytes)
+    report::mix_text(report::mix(digest, text::replaced_len(bytes) as u64), bytes)
 }
 
 // The tags' texts, one behind the other.
@@ -109,7 +98,7 @@ fn intervals_digest(h: MapHeader) -> u64 {
 }
 
 fn push_front(h: MapHeader) -> Words {
-    let words = report::push(numbers::zero(), h.header_size as u64);
+    let words = report::push(questions::zero(), h.header_size as u64);
     let words = report::push(words, h.file_version as u64);
     let words = report::push(words, h.file_size);
     let words = report::push(words, h.creation_date);
@@ -142,12 +131,12 @@ fn header_words(map: &[u8], h: MapHeader) -> Words {
 }
 
 // What opening a map answers.
-pub fn open_words(map: &[u8]) -> Words {
+pub(crate) fn open_words(map: &[u8]) -> Words {
     let read = opening::from_source(map);
     let end = read.end;
     let header = read.header;
     match end {
         End::At(_) => header_words(map, header),
-        End::Refused(r) => numbers::refusal(r),
+        End::Refused(r) => questions::refusal_words(r),
     }
 }

@@ -37,11 +37,14 @@ module _ (l : List ℕ) (i d h : ℕ) (e : h ≡ mixedUpto d l i) where
   unfolding mixedUpto
   mix-more y q = rw (add-one i) (q ∙ ap (λ x. mixed x (getD l i 0)) e)
 
-  pub mix-count : (n : ℕ) → i ≤ n → n ≤ i → i < 40 → h ≡ mixedUpto d l (min n 40)
-  mix-count n b c f = let z : i ≡ min n 40 = omega arith in e ∙ ap (mixedUpto d l) z
+  pub mix-count : (n : ℕ) → i ≤ n → n ≤ i → i < length l → h ≡ mixedUpto d l (min n (length l))
+  mix-count n b c f = let z : i ≡ min n (length l) = omega arith in e ∙ ap (mixedUpto d l) z
 
-  pub mix-all : (n : ℕ) → i ≤ n → i ≤ 40 → 40 ≤ i → h ≡ mixedUpto d l (min n 40)
-  mix-all n b c f = let z : i ≡ min n 40 = omega arith in e ∙ ap (mixedUpto d l) z
+  pub mix-all : (n : ℕ) → i ≤ n → i ≤ length l → length l ≤ i → h ≡ mixedUpto d l (min n (length l))
+  mix-all n b c f = let z : i ≡ min n (length l) = omega arith in e ∙ ap (mixedUpto d l) z
+
+pub mix-array : (l : List ℕ) (d n k y : ℕ) → y ≡ mixedUpto d l (min n (length l)) → length l ≡ k → y ≡ mixedUpto d l (min n k)
+mix-array l d n k y e h = rw (← h) e
 
 module _ (s : List ℕ) (i h t : ℕ) (e : mixedAll h (drop i s) ≡ t) where
   pub mix-byte : (y x : ℕ) → i < length s → x ≡ getD s i 0 → y ≡ mixed h x → mixedAll y (drop (i + 1) s) ≡ t
@@ -143,4 +146,4 @@ mixed-next h h′ r x x′ e d q = e ∙ ap (λ v. mixed v x) d ∙ ap (mixed h�
 
 pub ruleset chains = (needs, pushed-next, mixed-next)
 
-pub ruleset words = (needs, push-full, push-more, mix-none, mix-more, mix-count, mix-all, mix-byte, mix-end)
+pub ruleset words = (needs, push-full, push-more, mix-none, mix-more, mix-count, mix-all, mix-array, mix-byte, mix-end)

@@ -1,7 +1,7 @@
 // What the programs that are run against the Rust print: an answer as a list of words, and digests of many answers.
 ghost use mathlib.Core.Path.{_≡_};
-ghost use Prim.Native.Nat.{_+_, _*_, _%_, _^_};
-ghost use Rattle.report.specs.Words.{noWords, pushed, mixed, mixedAll, digestOf, signOf, bitsOf, floatOf};
+ghost use Prim.Native.Nat.{_+_, _*_, _%_, _^_, min};
+ghost use Rattle.report.specs.Words.{noWords, pushed, mixed, mixedUpto, mixedAll, digestOf, signOf, bitsOf, floatOf};
 ghost use Rattle.report.specs.Texts.{room, zeros, mixedReplaced};
 ghost use Rattle.text.specs.Writing.{writing};
 ghost use lib.IntN.{natAbs};
@@ -53,15 +53,13 @@ pub fn mix(digest: u64, word: u64) -> u64
     std::num::wrapping_add_u64(arithmetic::wrapping_mul_u64(digest, 1099511628211), word)
 }
 
-// An answer mixed into a digest: the number of its words, and then these.
-pub fn mix_words(digest: u64, words: Words) -> u64
-    ensures { λ r. ⌜ r ≡ digestOf digest words ⌝ }
+// Words mixed into a digest: their number, and then these.
+pub fn mix_list(digest: u64, list: &[u64], count: usize) -> u64
+    ensures { λ r. ⌜ r ≡ mixedUpto (mixed digest count) (now (list .entry)) (min count (length (now (list .entry)))) ⌝ }
 {
-    let list = words.words;
-    let count = words.count;
     let mut out = mix(digest, count as u64);
     let mut i = 0;
-    while i < 40 {
+    while i < list.len() {
         if count <= i {
             return out;
         }
@@ -69,6 +67,14 @@ pub fn mix_words(digest: u64, words: Words) -> u64
         i += 1;
     }
     out
+}
+
+// An answer mixed into a digest.
+pub fn mix_words(digest: u64, words: Words) -> u64
+    ensures { λ r. ⌜ r ≡ digestOf digest words ⌝ }
+{
+    let list = words.words;
+    mix_list(digest, &list, words.count)
 }
 
 fn wide(x: u8) -> u64

@@ -1,4 +1,5 @@
 // The features of a tile, mixed into a digest.
+use crate::lists;
 use crate::nodes;
 use error::Refusal;
 use poi::OptionalElevation;
@@ -15,7 +16,7 @@ use way_measure::Sizes;
 use way_measure::WayDataRead;
 
 // A digest and the place behind what was mixed into it.
-pub enum Mixed {
+pub(crate) enum Mixed {
     At(u64, usize),
     Refused(Refusal),
 }
@@ -30,18 +31,10 @@ fn layer_word(layer: i8) -> u64 {
     std::num::wrapping_sub_u64(5, size)
 }
 
+// The number of ids, and then these.
 fn mix_ids(digest: u64, tags: TagIds) -> u64 {
     let ids = tags.ids;
-    let count = tags.count;
-    let mut out = report::mix(digest, count as u64);
-    let mut i = 0;
-    while i < 15 {
-        if i < count {
-            out = report::mix(out, ids[i]);
-        }
-        i += 1;
-    }
-    out
+    report::mix_list(digest, &ids, tags.count)
 }
 
 // Presence, the replaced text's length, and the digest of its bytes.
@@ -51,17 +44,7 @@ fn mix_text(digest: u64, map: &[u8], text: OptionalSpan) -> u64 {
     };
     let bytes = byte_source::span_bytes(map, span);
     let out = report::mix(report::mix(digest, 1), text::replaced_len(bytes) as u64);
-    report::mix(out, text_digest(bytes))
-}
-
-// A short text has a short buffer: there are many of them.
-fn text_digest(bytes: &[u8]) -> u64 {
-    if bytes.len() < 300 {
-        let mut buffer = [0u8; 900];
-        return report::mix_replaced(14695981039346656037, bytes, &mut buffer);
-    }
-    let mut buffer = report::large();
-    report::mix_replaced(14695981039346656037, bytes, &mut buffer)
+    report::mix(out, report::mix_text(14695981039346656037, bytes))
 }
 
 fn mix_presence(digest: u64, part: OptionalSpan) -> u64 {
@@ -111,7 +94,13 @@ fn mix_poi(digest: u64, map: &[u8], p: Poi) -> u64 {
 }
 
 // The point at a place.
-pub fn mix_point_at(digest: u64, map: &[u8], at: usize, debug: bool, table: TagTable) -> Mixed {
+pub(crate) fn mix_point_at(
+    digest: u64,
+    map: &[u8],
+    at: usize,
+    debug: bool,
+    table: TagTable,
+) -> Mixed {
     let got = poi::read_poi(map, at, debug, table);
     let end = got.end;
     let p = got.poi;
@@ -127,13 +116,6 @@ fn mix_head(digest: u64, h: WayHead) -> u64 {
     mix_ids(report::mix(out, layer_word(h.layer)), ids)
 }
 
-fn flag(b: bool) -> u64 {
-    if b {
-        return 1;
-    }
-    0
-}
-
 fn mix_fields(digest: u64, map: &[u8], f: WayFields) -> u64 {
     let name = f.name;
     let house = f.house_number;
@@ -141,7 +123,7 @@ fn mix_fields(digest: u64, map: &[u8], f: WayFields) -> u64 {
     let label = f.label_position;
     let out = mix_text(mix_text(digest, map, name), map, house);
     let out = mix_label(mix_text(out, map, reference), label);
-    report::mix(out, flag(f.double_delta))
+    report::mix(out, questions::flag(f.double_delta))
 }
 
 fn mix_data(
@@ -155,47 +137,39 @@ fn mix_data(
     nodes::mix_blocks(out, sizes.blocks as usize, counts, latitudes, longitudes)
 }
 
-// A way behind its head, whose fields and nodes are mixed in.
-fn mix_body(
-    digest: u64,
-    map: &[u8],
-    at: usize,
-    signature: OptionalSpan,
-    counts: &mut [u64],
-    latitudes: &mut [f64],
-    longitudes: &mut [f64],
-) -> Mixed {
+// A way behind its head, whose fields and nodes are mixed in. The lists are lent anew for each way.
+fn mix_body(digest: u64, map: &[u8], at: usize, signature: OptionalSpan) -> Mixed {
     let got = way_fields::read_way_fields(map, at);
     let WayFieldsRead::Value(fields, at) = got else {
         return Mixed::Refused(way_fields::way_fields_refusal(got));
     };
     let out = mix_fields(digest, map, fields);
+    let mut counts = lists::counts();
+    let mut latitudes = lists::coordinates();
+    let mut longitudes = lists::coordinates();
     let read = way_data::read_way_data(
         map,
         at,
         fields.data_blocks,
         fields.double_delta,
-        counts,
-        latitudes,
-        longitudes,
+        &mut counts,
+        &mut latitudes,
+        &mut longitudes,
     );
     let WayDataRead::Value(sizes, next) = read else {
         return Mixed::Refused(way_measure::way_data_refusal(read));
     };
-    let out = mix_data(out, sizes, counts, latitudes, longitudes);
+    let out = mix_data(out, sizes, &counts, &latitudes, &longitudes);
     Mixed::At(mix_presence(out, signature), next)
 }
 
 // The way at a place.
-pub fn mix_way_at(
+pub(crate) fn mix_way_at(
     digest: u64,
     map: &[u8],
     at: usize,
     debug: bool,
     table: TagTable,
-    counts: &mut [u64],
-    latitudes: &mut [f64],
-    longitudes: &mut [f64],
 ) -> Mixed {
     let got = way_head::read_way_head(map, at, debug, table);
     let end = got.end;
@@ -204,6 +178,5 @@ pub fn mix_way_at(
     let End::At(next) = end else {
         return Mixed::Refused(types::end_refusal(end));
     };
-    let out = mix_head(digest, h);
-    mix_body(out, map, next, signature, counts, latitudes, longitudes)
+    mix_body(mix_head(digest, h), map, next, signature)
 }

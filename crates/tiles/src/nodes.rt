@@ -47,7 +47,7 @@ fn mix_block(
 }
 
 // The blocks, one behind the other.
-pub fn mix_blocks(
+pub(crate) fn mix_blocks(
     digest: u64,
     blocks: usize,
     counts: &[u64],
