@@ -1,11 +1,5 @@
 // The index of the base map.
-use crate::opened;
 use byte_source::SpanRead;
-use index::CountRead;
-use index::EntryRead;
-use index::IndexRead;
-use index::SubFile;
-use index::TileIndexEntry;
 use report::Words;
 use types::Grid;
 use types::MapHeader;
@@ -20,42 +14,6 @@ fn grid_at(question: &[u8]) -> Grid {
     }
 }
 
-fn sub_file_words(got: SubFile) -> Words {
-    match got {
-        SubFile::None => questions::one(0),
-        SubFile::At(k) => questions::two(1, k as u64),
-    }
-}
-
-fn count_words(got: CountRead) -> Words {
-    match got {
-        CountRead::Missing => questions::one(0),
-        CountRead::Count(n) => questions::two(1, n as u64),
-        CountRead::Refused(r) => questions::refusal_words(r),
-    }
-}
-
-fn index_words(got: IndexRead) -> Words {
-    match got {
-        IndexRead::Missing => questions::one(0),
-        IndexRead::At(n) => questions::two(1, n as u64),
-        IndexRead::Refused(r) => questions::refusal_words(r),
-    }
-}
-
-fn entry_words(got: EntryRead) -> Words {
-    match got {
-        EntryRead::Entry(entry) => {
-            questions::three(
-                questions::flag(entry.is_water),
-                entry.offset,
-                entry.offset_abs,
-            )
-        }
-        EntryRead::Refused(r) => questions::refusal_words(r),
-    }
-}
-
 // A number of two bytes.
 fn tag_number(question: &[u8]) -> usize {
     questions::byte_at(question, 0) as usize * 256 + questions::byte_at(question, 1) as usize
@@ -66,7 +24,7 @@ fn tag_words(map: &[u8], table: TagTable, k: usize) -> Words {
     let SpanRead::Value(span, _) = got else {
         return questions::refusal_words(byte_source::span_refusal(got));
     };
-    let words = opened::push_text(questions::zero(), map, span);
+    let words = header_words::push_text(questions::zero(), map, span);
     let kind = tag::inline_value_kind(byte_source::span_bytes(map, span));
     report::push(words, questions::letter_of(kind))
 }
@@ -75,15 +33,15 @@ fn grid_answer(letter: u8, map: &[u8], h: MapHeader, question: &[u8]) -> Words {
     let sub_file = questions::number_at(question, 0) as usize;
     let grid = grid_at(question);
     match letter {
-        b'n' => count_words(index::tile_count(h, sub_file, grid)),
-        b'i' => index_words(index::tile_index_of(
+        b'n' => header_words::count_words(index::tile_count(h, sub_file, grid)),
+        b'i' => header_words::index_words(index::tile_index_of(
             h,
             sub_file,
             grid,
             questions::int_at(question, 24),
             questions::int_at(question, 28),
         )),
-        b'e' => entry_words(index::tile_index_entry(
+        b'e' => header_words::entry_words(index::tile_index_entry(
             map,
             h,
             sub_file,
@@ -96,7 +54,10 @@ fn grid_answer(letter: u8, map: &[u8], h: MapHeader, question: &[u8]) -> Words {
 
 pub(crate) fn answer(letter: u8, map: &[u8], h: MapHeader, question: &[u8]) -> Words {
     match letter {
-        b'z' => sub_file_words(index::sub_file_for_zoom(h, questions::byte_at(question, 0))),
+        b'z' => header_words::sub_file_words(index::sub_file_for_zoom(
+            h,
+            questions::byte_at(question, 0),
+        )),
         b'p' => tag_words(map, h.poi_tags, tag_number(question)),
         b'w' => tag_words(map, h.way_tags, tag_number(question)),
         _ => grid_answer(letter, map, h, question),
