@@ -1,6 +1,5 @@
 // The features of a tile, mixed into a digest.
 use crate::lists;
-use crate::nodes;
 use error::Refusal;
 use types::End;
 use types::OptionalSpan;
@@ -40,7 +39,7 @@ fn mix_data(
     longitudes: &[f64],
 ) -> u64 {
     let out = report::mix(digest, sizes.blocks);
-    nodes::mix_blocks(out, sizes.blocks as usize, counts, latitudes, longitudes)
+    node_digests::mix_blocks(out, sizes.blocks as usize, counts, latitudes, longitudes)
 }
 
 // A way's nodes. The lists are lent anew for each way.

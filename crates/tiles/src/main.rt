@@ -3,7 +3,6 @@
 mod damage;
 mod features;
 mod lists;
-mod nodes;
 mod place;
 mod tile;
 
