@@ -6,12 +6,12 @@ pub turn-spec : {M : Type 1} → statement M
 turn-spec =
     tie.close
     (tie.spec
+    (search copying)
+    (λ c. search copying)
+    (search copying)
+    (λ c. search copying)
+    (search copying)
     (λ c. search copying)
     (λ c. search copying)
-    (λ c. search copying)
-    (λ c. search copying)
-    (λ c. search copying)
-    (λ c. search copying)
-    (λ c. search copying)
-    (λ c. search copying)
+    (search copying)
     (λ c. search copying))
