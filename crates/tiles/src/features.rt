@@ -24,11 +24,11 @@ pub(crate) fn mix_point_at(
 ) -> Mixed {
     let got = poi::read_poi(map, at, debug, table);
     let end = got.end;
+    let End::At(next) = end else {
+        return Mixed::Refused(types::end_refusal(end));
+    };
     let p = got.poi;
-    match end {
-        End::At(next) => Mixed::At(feature_digests::mix_poi(digest, map, p), next),
-        End::Refused(r) => Mixed::Refused(r),
-    }
+    Mixed::At(feature_digests::mix_poi(digest, map, p), next)
 }
 
 fn mix_data(

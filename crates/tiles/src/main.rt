@@ -19,10 +19,10 @@ fn is_open(end: End) -> bool {
 fn opening_words(map: &[u8]) -> Words {
     let opened = opening::from_source(map);
     let end = opened.end;
-    match end {
-        End::At(_) => questions::zero(),
-        End::Refused(r) => questions::refusal_words(r),
+    if is_open(end) {
+        return questions::zero();
     }
+    questions::refusal_words(types::end_refusal(end))
 }
 
 fn answer(letter: u8, map: &[u8], h: MapHeader, question: &[u8]) -> Words {
