@@ -10,4 +10,3 @@ pub mod Elevation
 pub mod Streamed
 pub mod Rows
 pub mod BodyLists
-pub mod Fetched

@@ -5,7 +5,7 @@ use mathlib.Core.Bool.{Bool}
 use mathlib.Core.List.{List}
 use lib.ListN.{length}
 use Rattle.parsing.specs.Parse.{Part, Maybe}
-use Rattle.format.specs.Fetched.{FetchedPoint, fetchedPoint, FetchedWay, fetchedWay}
+use Rattle.fetched.specs.Fetched.{listedName, FetchedPoint, fetchedPoint, FetchedWay, fetchedWay}
 use Rattle.format.specs.Streamed.{streamedMaybe}
 use Rattle.format.specs.Tile as format
 use Rattle.types.specs.Types.{nodePosition, optionalPosition, optionalSpan}
@@ -75,9 +75,9 @@ tileCollection = record {
 abbrev pub tileView : (debug : Bool) (rows : ℕ) (poiKinds wayKinds : List Kind) → (poiNames wayNames : List Part) → View (tileFormat debug rows poiKinds wayKinds)
 tileView debug rows poiKinds wayKinds poiNames wayNames = record {
   collection = tileCollection;
-  collectedPoint = λ p. record { fetched = fetchedPoint poiNames p; name = p .name; houseNumber = p .houseNumber };
+  collectedPoint = λ p. record { fetched = fetchedPoint (listedName poiNames) p; name = p .name; houseNumber = p .houseNumber };
   collectedWay = λ w. record {
-    fetched = fetchedWay wayNames (w .head) (w .body);
+    fetched = fetchedWay (listedName wayNames) (w .head) (w .body);
     name = w .body .fields .name;
     houseNumber = w .body .fields .houseNumber;
     reference = w .body .fields .reference;

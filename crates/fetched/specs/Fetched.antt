@@ -1,32 +1,41 @@
 -- A collected feature as it is fetched: document 01, tag.rs ("Behind the tags of a collected feature's ids come those keyed `name`,
 -- `addr:housenumber` and `ref`, for the texts it has") and "The stream and the collected tile" (texts one behind the other in a
 -- buffer, each maximal ill-formed part replaced; keys, values and hashes over the replaced text; a way's blocks and their initial
--- positions). `names` are the tag names of the header, by their ids.
+-- positions). `name` gives the stored bytes of a tag's name by its id.
 use Prim.Native.Nat.{ℕ}
 use mathlib.Core.Bool.{Bool}
 use mathlib.Core.List.{List, [], _∷_, _++_, map}
 use lib.IntN.{ℤ}
 use lib.Ieee.{Float}
 use lib.ListN.{length}
-use Rattle.parsing.specs.Parse.{Part, Maybe, none, some, nth}
+use Rattle.parsing.specs.Parse.{Res, ok, no, Part, Maybe, none, some, nth}
 use Rattle.text.specs.Utf8.{replaced}
 use Rattle.tag.specs.Tag.{newTag, tagOf, keyBytes}
 use Rattle.tag.specs.declared.Tag.{Tag}
 use Rattle.tag.specs.declared.TextKey.{TextKey}
 use Rattle.tag.specs.declared.TextKey.the-variants.{Name, HouseNumber, Ref}
 use Rattle.format.specs.Lent.{LentLists}
 use Rattle.format.specs.WayData.{Node, concat}
 use Rattle.format.specs.Nodes.{initialLatitudes, initialLongitudes}
 use Rattle.format.specs.BodyLists.{bodyLists}
+use Rattle.format.specs.TagTable.{Table, tagText}
 use Rattle.format.specs.Tile.{Point, Head, Body, doubleDelta}
 
--- the stored bytes of a tag's name
+-- the name of an id: of a list of names, or by a walk through the header
 abbrev pub bytesOf : Maybe Part → List ℕ
 bytesOf none = []
 bytesOf (some p) = p .bytes
 
-abbrev pub nameOf : List Part → ℕ → List ℕ
-nameOf names i = bytesOf (nth names i)
+abbrev pub listedName : List Part → ℕ → List ℕ
+listedName names i = bytesOf (nth names i)
+
+-- a name that the walk does not reach is empty; in a map that was opened it reaches every one
+abbrev pub foundBytes : Res Part → List ℕ
+foundBytes (ok p e) = p .bytes
+foundBytes (no n v) = []
+
+abbrev pub walkedName : Table → List ℕ → ℕ → List ℕ
+walkedName t m i = foundBytes (tagText t i m)
 
 -- a text that is there, replaced
 abbrev pub present : Maybe Part → List (List ℕ)
@@ -44,12 +53,12 @@ textTag key none = []
 textTag key (some p) = newTag (keyBytes key) (replaced (p .bytes)) ∷ []
 
 -- the texts of a feature in the order of the buffer: its tags' strings, then name, house number and reference
-abbrev pub featureTexts : List Part → List ℕ → (name houseNumber reference : Maybe Part) → List (List ℕ)
-featureTexts names ids n h r = map (λ i. replaced (nameOf names i)) ids ++ present n ++ present h ++ present r
+abbrev pub featureTexts : (ℕ → List ℕ) → List ℕ → (name houseNumber reference : Maybe Part) → List (List ℕ)
+featureTexts nameOf ids n h r = map (λ i. replaced (nameOf i)) ids ++ present n ++ present h ++ present r
 
 -- its tags: those of its ids, then those of its texts
-abbrev pub featureTags : List Part → List ℕ → (name houseNumber reference : Maybe Part) → List Tag
-featureTags names ids n h r = map (λ i. tagOf (nameOf names i)) ids ++ textTag Name n ++ textTag HouseNumber h ++ textTag Ref r
+abbrev pub featureTags : (ℕ → List ℕ) → List ℕ → (name houseNumber reference : Maybe Part) → List Tag
+featureTags nameOf ids n h r = map (λ i. tagOf (nameOf i)) ids ++ textTag Name n ++ textTag HouseNumber h ++ textTag Ref r
 
 -- what the buffer gets
 abbrev pub buffered : List (List ℕ) → List ℕ
@@ -66,14 +75,14 @@ pub record FetchedPoint : Type 0 where
   pub houseNumber : Maybe ℕ
   pub elevation : Maybe ℤ
 
-abbrev pub fetchedPoint : List Part → Point → FetchedPoint
-fetchedPoint names p = record {
+abbrev pub fetchedPoint : (ℕ → List ℕ) → Point → FetchedPoint
+fetchedPoint nameOf p = record {
   signature = p .signature;
   position = p .position;
   layer = p .tagged .layer;
   ids = p .tagged .ids;
-  tags = featureTags names (p .tagged .ids) (p .name) (p .houseNumber) none;
-  texts = featureTexts names (p .tagged .ids) (p .name) (p .houseNumber) none;
+  tags = featureTags nameOf (p .tagged .ids) (p .name) (p .houseNumber) none;
+  texts = featureTexts nameOf (p .tagged .ids) (p .name) (p .houseNumber) none;
   name = sizeOf (p .name);
   houseNumber = sizeOf (p .houseNumber);
   elevation = p .elevation;
@@ -95,14 +104,14 @@ pub record FetchedWay : Type 0 where
   pub initialLatitudes : List Float
   pub initialLongitudes : List Float
 
-abbrev pub fetchedWay : List Part → Head → Body → FetchedWay
-fetchedWay names h b = record {
+abbrev pub fetchedWay : (ℕ → List ℕ) → Head → Body → FetchedWay
+fetchedWay nameOf h b = record {
   signature = h .signature;
   bitmap = h .bitmap;
   layer = h .tagged .layer;
   ids = h .tagged .ids;
-  tags = featureTags names (h .tagged .ids) (b .fields .name) (b .fields .houseNumber) (b .fields .reference);
-  texts = featureTexts names (h .tagged .ids) (b .fields .name) (b .fields .houseNumber) (b .fields .reference);
+  tags = featureTags nameOf (h .tagged .ids) (b .fields .name) (b .fields .houseNumber) (b .fields .reference);
+  texts = featureTexts nameOf (h .tagged .ids) (b .fields .name) (b .fields .houseNumber) (b .fields .reference);
   name = sizeOf (b .fields .name);
   houseNumber = sizeOf (b .fields .houseNumber);
   reference = sizeOf (b .fields .reference);
