@@ -7,17 +7,6 @@ fn room() -> [u8; 2200000] {
     [0; 2200000]
 }
 
-// One data block of one block, whose node count has three bytes; its nodes are zeros.
-fn put_counts(map: &mut [u8], last_bits: u8) {
-    if map.len() < 4 {
-        return;
-    }
-    map[0] = 1;
-    map[1] = last_bits;
-    map[2] = 128;
-    map[3] = 64;
-}
-
 fn words_of(got: WayDataRead) -> Words {
     match got {
         WayDataRead::Value(s, end) => questions::three(s.blocks, s.nodes, end as u64),
@@ -49,11 +38,14 @@ fn read(map: &[u8]) -> Words {
 
 // 2^20 nodes, the same without the last byte, in lists of 1000, and 2^20 + 1 nodes.
 fn main() {
+    // one data block of one block, whose node count has three bytes; its nodes are zeros
+    let most = [1u8, 128, 128, 64];
+    let more = [1u8, 129, 128, 64];
     let mut map = room();
-    put_counts(&mut map, 128);
+    copies::put_front(&mut map, &most);
     report::print_line(b'n', measured(&map, 2097156));
     report::print_line(b'e', measured(&map, 2097155));
     report::print_line(b'l', read(&map));
-    put_counts(&mut map, 129);
+    copies::put_front(&mut map, &more);
     report::print_line(b'm', measured(&map, 2097158));
 }
