@@ -17,7 +17,7 @@ use Rattle.format.specs.Lent.{Reply}
 use Rattle.format.specs.Rows.{rowsOfInterval, rowsUpto}
 use Rattle.format.specs.Tile.{Point, Head, Body}
 use Rattle.tag.specs.declared.Kind.{Kind}
-use Rattle.types.specs.Types.{endRes, intervalsOf, debugOf, optionalSpan}
+use Rattle.types.specs.Types.{endRes, intervalsOf, debugOf}
 use Rattle.tag_table.specs.Tables.{tableIn}
 use Rattle.types.specs.Beside.{viewOr}
 use Rattle.types.specs.declared.End.the-variants as end
@@ -40,8 +40,7 @@ use Rattle.visit.specs.Visit.{stateOf, openTile, openRes, ShownAnswer, shown}
 use Rattle.visit.specs.declared.Stream.{Stream}
 use Rattle.visit.specs.declared.OpenRead.{OpenRead}
 use Rattle.visit.specs.declared.OpenRead.the-variants as open-read
-use Rattle.blocks.specs.Blocks.{filledRows}
-use Rattle.tile.specs.Tile.{tileOf, collectAt, collectTile, TileIs, tileRes}
+use Rattle.tile.specs.Tile.{shownTile, collectAt, collectTile, TileIs, tileRes}
 use Rattle.tile.specs.declared.Tile.{Tile}
 use Rattle.tile.specs.declared.TileAnswer.the-variants as tile-answer
 use Rattle.tile.specs.declared.TileRead.{TileRead}
@@ -128,19 +127,8 @@ module _ (m : List ℕ) (small : length m < 2 ^ 64) (s : ℕ) (grid : Grid) (num
     high-is : l .interval .max ≡ highest s grid number h
     high-is = ap (valueOf 0 (λ z. z .max)) (sym (entry-interval grid number (nth (h .intervals) s) m (C .entryAt h) l x en))
 
-    abbrev shownTile : (r : ℕ) (p w : List Kind) → StoredTile (tileFormat (debug h) r p w) → Tile
-    shownTile r p w t = record {
-      signature = optionalSpan (t .head .signature);
-      «zoom_table» = filledRows (t .head .table);
-      rows = length (t .head .table);
-      «first_way_offset» = t .head .offset;
-      points = length (t .points);
-      ways = length (t .ways);
-      exact = allExact (t .ways);
-    }
-
     abbrev collects : (low high : ℕ) (p w : List Kind) → Res Tile
-    collects low high p w = answered (mapRes (shownTile (rowsOfInterval low high) p w) (collect (tileFormat (debug h) (rowsOfInterval low high) p w) m (l .entry .absolute)))
+    collects low high p w = answered (mapRes (shownTile (debug h) (rowsOfInterval low high) p w) (collect (tileFormat (debug h) (rowsOfInterval low high) p w) m (l .entry .absolute)))
 
     -- collecting, by the header's value
     collected-as : collectTile (mapHeader h) s grid number m ≡ collects (lowest s grid number h) (highest s grid number h) poiKinds wayKinds
@@ -211,7 +199,7 @@ module _ (m : List ℕ) (small : length m < 2 ^ 64) (s : ℕ) (grid : Grid) (num
     from-tile : (v : Tile) → v .exact ≡ true → answer v ≡ collectTile (mapHeader h) s grid number m → BookSays m s grid number (mapHeader h)
     from-tile v f q = go (collect (C .format h) m (l .entry .absolute)) refl (q ∙ collected-as)
       where
-        go : (r : Res (StoredTile (C .format h))) → collect (C .format h) m (l .entry .absolute) ≡ r → answer v ≡ answered (mapRes (shownTile rows poiKinds wayKinds) r) → BookSays m s grid number (mapHeader h)
+        go : (r : Res (StoredTile (C .format h))) → collect (C .format h) m (l .entry .absolute) ≡ r → answer v ≡ answered (mapRes (shownTile (debug h) rows poiKinds wayKinds) r) → BookSays m s grid number (mapHeader h)
         go (ok t past) c d = says t past c (ap (λ (a : Tile). a .exact) (sym (ok-val d)) ∙ f)
         go (no k y) c d = no-ok (sym d)
 
