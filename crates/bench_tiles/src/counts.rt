@@ -2,15 +2,15 @@
 use libc::STDOUT_FILENO;
 use visit::StreamedBody;
 
-pub struct Counts {
-    pub points: u64,
-    pub ways: u64,
-    pub blocks: u64,
-    pub nodes: u64,
-    pub refused: u64,
+pub(crate) struct Counts {
+    pub(crate) points: u64,
+    pub(crate) ways: u64,
+    pub(crate) blocks: u64,
+    pub(crate) nodes: u64,
+    pub(crate) refused: u64,
 }
 
-pub fn none() -> Counts {
+pub(crate) fn none() -> Counts {
     Counts {
         points: 0,
         ways: 0,
@@ -24,7 +24,7 @@ fn sum(a: u64, b: u64) -> u64 {
     std::num::wrapping_add_u64(a, b)
 }
 
-pub fn with_features(c: Counts, points: u64, ways: u64) -> Counts {
+pub(crate) fn with_features(c: Counts, points: u64, ways: u64) -> Counts {
     Counts {
         points: sum(c.points, points),
         ways: sum(c.ways, ways),
@@ -34,7 +34,7 @@ pub fn with_features(c: Counts, points: u64, ways: u64) -> Counts {
     }
 }
 
-pub fn with_body(c: Counts, body: StreamedBody) -> Counts {
+pub(crate) fn with_body(c: Counts, body: StreamedBody) -> Counts {
     Counts {
         points: c.points,
         ways: c.ways,
@@ -44,7 +44,7 @@ pub fn with_body(c: Counts, body: StreamedBody) -> Counts {
     }
 }
 
-pub fn with_refusal(c: Counts) -> Counts {
+pub(crate) fn with_refusal(c: Counts) -> Counts {
     Counts {
         points: c.points,
         ways: c.ways,
@@ -59,7 +59,7 @@ fn print_number(text: &[u8], n: u64) {
     io::print_decimal(STDOUT_FILENO, n);
 }
 
-pub fn print(c: Counts) {
+pub(crate) fn print(c: Counts) {
     print_number(b"points ", c.points);
     print_number(b" ways ", c.ways);
     print_number(b" blocks ", c.blocks);

@@ -5,10 +5,7 @@ mod counts;
 mod lists;
 mod tiles;
 
-use byte_source::ByteRead;
-use byte_source::IntRead;
 use byte_source::Span;
-use byte_source::WordRead;
 use counts::Counts;
 use header::HeaderRead;
 use tiles::Work;
@@ -16,40 +13,19 @@ use types::End;
 use types::Grid;
 use types::MapHeader;
 
-fn byte_at(input: &[u8], at: usize) -> u8 {
-    let ByteRead::Value(v, _) = byte_source::read_u8(input, at) else {
-        return 0;
-    };
-    v
-}
-
-fn int_at(input: &[u8], at: usize) -> i32 {
-    let IntRead::Value(v, _) = byte_source::read_i32_be(input, at) else {
-        return 0;
-    };
-    v
-}
-
-fn word_at(input: &[u8], at: usize) -> u32 {
-    let WordRead::Value(v, _) = byte_source::read_u32_be(input, at) else {
-        return 0;
-    };
-    v
-}
-
 // The grid of a sub file behind the six bytes of the front.
 fn grid_of(input: &[u8], sub_file: u8) -> Grid {
     let at = 6 + 16 * (sub_file as usize);
     Grid {
-        x_min: int_at(input, at),
-        y_min: int_at(input, at + 4),
-        x_max: int_at(input, at + 8),
-        y_max: int_at(input, at + 12),
+        x_min: questions::int_at(input, at),
+        y_min: questions::int_at(input, at + 4),
+        x_max: questions::int_at(input, at + 8),
+        y_max: questions::int_at(input, at + 12),
     }
 }
 
 fn work_of(input: &[u8]) -> Work {
-    match byte_at(input, 0) {
+    match questions::byte_at(input, 0) {
         0 => Work::Accept,
         1 => Work::Decline,
         _ => Work::Collect,
@@ -67,7 +43,7 @@ fn all_tiles(
     longitudes: &mut [f64],
 ) -> Counts {
     let work = work_of(input);
-    let sub_files = byte_at(input, 5);
+    let sub_files = questions::byte_at(input, 5);
     let mut all = c;
     let mut i: u8 = 0;
     while i < sub_files {
@@ -97,7 +73,7 @@ fn many_times(
     longitudes: &mut [f64],
 ) -> Counts {
     let mut all = counts::none();
-    let mut left = word_at(input, 1);
+    let mut left = questions::word_at(input, 1);
     while 0 < left {
         all = all_tiles(all, input, map, h, node_counts, latitudes, longitudes);
         left -= 1;
@@ -128,7 +104,7 @@ fn run_opened(input: &[u8], map: &[u8], opened: HeaderRead) {
 }
 
 fn map_of(input: &[u8]) -> &[u8] {
-    let start = 6 + 16 * (byte_at(input, 5) as usize);
+    let start = 6 + 16 * (questions::byte_at(input, 5) as usize);
     let size = input.len();
     byte_source::span_bytes(input, Span { start, size })
 }

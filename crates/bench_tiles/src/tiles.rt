@@ -13,7 +13,7 @@ use visit::OpenRead;
 use visit::Stream;
 
 // What is done with each tile.
-pub enum Work {
+pub(crate) enum Work {
     Accept,
     Decline,
     Collect,
@@ -238,7 +238,7 @@ fn tiles_of(h: MapHeader, sub_file: usize, grid: Grid) -> usize {
 }
 
 // All tiles of a sub file.
-pub fn sub_file(
+pub(crate) fn sub_file(
     c: Counts,
     map: &[u8],
     h: MapHeader,

@@ -14,7 +14,7 @@ use Rattle.byte_source.specs.Answers.{spanBytes}
 use Rattle.byte_source.proofs.ReadLaws.{Taken, ViewPasses, view-passes, ViewStops, view-stops, stop, taken, byte-ok, byte-no}
 use Rattle.text.specs.Utf8.{valid}
 use Rattle.format.specs.WayData.{Node}
-use Rattle.types.specs.Types.{optionalSpan, maybePart}
+use Rattle.types.specs.Types.{optionalSpan, maybePart, nodePosition}
 use Rattle.types.specs.declared.Position.{Position}
 use Rattle.types.specs.declared.OptionalSpan.{OptionalSpan}
 use Rattle.types.specs.declared.OptionalSpan.the-variants.{Absent, At}
@@ -23,7 +23,7 @@ use Rattle.types.specs.declared.End.{End}
 use Rattle.types.proofs.TypeLaws as types
 use Rattle.types.proofs.TypeLaws.{part-back}
 use Rattle.types.proofs.BesideLaws.{beside-same, beside-after}
-use Rattle.fields.specs.Fields.{optionalSpanRes, optionalSpanRefusal, positionRes, positionRefusal, nodePosition, streamedSpan}
+use Rattle.fields.specs.Fields.{optionalSpanRes, optionalSpanRefusal, positionRes, positionRefusal, streamedSpan}
 use Rattle.fields.specs.declared.OptionalSpanRead.{OptionalSpanRead}
 use Rattle.fields.specs.declared.OptionalSpanRead.the-variants as span
 use Rattle.fields.specs.declared.PositionRead.{PositionRead}

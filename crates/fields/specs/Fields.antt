@@ -9,8 +9,7 @@ use Rattle.error.specs.declared.Refusal.the-variants.{Source}
 use Rattle.byte_source.specs.declared.Span.{Span}
 use Rattle.byte_source.specs.Answers.{spanBytes}
 use Rattle.text.specs.Utf8.{valid}
-use Rattle.format.specs.WayData.{Node}
-use Rattle.types.specs.Types.{positionOf, maybePart}
+use Rattle.types.specs.Types.{maybePart}
 use Rattle.types.specs.declared.Position.{Position}
 use Rattle.types.specs.declared.OptionalSpan.{OptionalSpan}
 use Rattle.types.specs.declared.OptionalSpan.the-variants.{Absent, At}
@@ -26,10 +25,6 @@ optionalSpanRes m (span.Refused r) = refused r
 abbrev pub optionalSpanRefusal : OptionalSpanRead → Refusal
 optionalSpanRefusal (span.Value s n) = Source
 optionalSpanRefusal (span.Refused r) = r
-
--- a stored position in degrees
-abbrev pub nodePosition : Node → Position
-nodePosition n = positionOf (n .latitude) (n .longitude)
 
 abbrev pub positionRes : PositionRead → Res Position
 positionRes (position.Value p n) = ok p n

@@ -10,7 +10,8 @@ ghost use Rattle.parsing.specs.Parse.{mapRes, optional};
 ghost use Rattle.utils.specs.Vbe.{text};
 ghost use Rattle.format.specs.WayData.{node};
 ghost use Rattle.format.specs.Tile.{debugSignature};
-ghost use Rattle.fields.specs.Fields.{optionalSpanRes, optionalSpanRefusal, positionRes, positionRefusal, nodePosition, streamedSpan};
+ghost use Rattle.types.specs.Types.{nodePosition};
+ghost use Rattle.fields.specs.Fields.{optionalSpanRes, optionalSpanRefusal, positionRes, positionRefusal, streamedSpan};
 
 pub enum OptionalSpanRead {
     Value(OptionalSpan, usize),

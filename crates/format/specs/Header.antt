@@ -10,6 +10,7 @@ use Rattle.parsing.specs.Parse.{Res, ok, no, Parser, andThen, bind, _>>=_, retu
 use Rattle.parsing.specs.Good.{Good, goods}
 use Rattle.byte_source.specs.BigEndian.{bigEndian, int32, bytes}
 use Rattle.utils.specs.Vbe.{text, numbers}
+use Rattle.format.specs.WayData.{Node}
 
 -- bit k of a byte, counted from the lowest
 abbrev pub bit : ℕ → ℕ → Bool
@@ -47,29 +48,25 @@ preamble = do
   m ← chunk 20
   pick (same m magic) versioned (fail 2 [])
 
--- a position in microdegrees, as stored
-pub record Place : Type 0 where
-  pub latitude : ℤ
-  pub longitude : ℤ
-
-unfoldable pub place : Parser Place
+-- a position in microdegrees, of four bytes each
+unfoldable pub place : Parser Node
 place = do
   latitude ← int32
   longitude ← int32
   return (record { latitude = latitude; longitude = longitude })
 
 pub record Box : Type 0 where
-  pub min : Place
-  pub max : Place
+  pub min : Node
+  pub max : Node
 
 abbrev pub between : ℤ → ℤ → ℤ → Bool
 between low high z = leZ low z && leZ z high
 
 -- latitudes from -90 to 90 degrees, longitudes from -180 to 180
-abbrev pub onEarth : Place → Bool
+abbrev pub onEarth : Node → Bool
 onEarth p = between (negsuc 89999999) (pos 90000000) (p .latitude) && between (negsuc 179999999) (pos 180000000) (p .longitude)
 
-abbrev pub validBox : Place → Place → Bool
+abbrev pub validBox : Node → Node → Bool
 validBox a b = onEarth a && onEarth b && leZ (a .latitude) (b .latitude) && leZ (a .longitude) (b .longitude)
 
 -- checked right after its 16 bytes
@@ -98,7 +95,7 @@ front = do
 
 -- the fields that the flags announce
 pub record Options : Type 0 where
-  pub startPosition : Maybe Place
+  pub startPosition : Maybe Node
   pub startZoom : Maybe ℕ
   pub language : Maybe Part
   pub comment : Maybe Part

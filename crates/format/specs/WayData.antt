@@ -8,7 +8,7 @@ use Rattle.parsing.specs.Parse.{Parser, _>>=_, return, fail, pick, many}
 use Rattle.parsing.specs.Good.{Good, Strict, total}
 use Rattle.utils.specs.Vbe.{unsigned, coordinate, numbers, numbers-strict}
 
--- microdegrees: of a block's first node as stored, of a later one its delta, or the delta of its delta
+-- a position in microdegrees, as stored: in a block the first node's; of a later one its delta, or the delta of its delta
 pub record Node : Type 0 where
   pub latitude : ℤ
   pub longitude : ℤ

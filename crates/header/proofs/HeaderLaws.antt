@@ -14,7 +14,7 @@ use Rattle.error.specs.declared.Refusal.the-variants.{InvalidHeaderSize}
 use Rattle.format.specs.Header.{Header, Interval, tags, intervals, tables, header}
 use Rattle.format.specs.TagTable.{tagText, named}
 use Rattle.format.proofs.TagLaws.{header-tags}
-use Rattle.types.specs.Types.{intervalOf, intervalsOf, optionalByte, endRefusal}
+use Rattle.types.specs.Types.{intervalOf, intervalsOf, optionalByte, endRefusal, nodePosition, optionalPosition}
 use Rattle.types.specs.declared.Position.{Position}
 use Rattle.types.specs.declared.BoundingBox.{BoundingBox}
 use Rattle.types.specs.declared.MapHeader.{MapHeader}
@@ -42,12 +42,12 @@ use Rattle.tag_table.proofs.TableLaws.{table-ok, table-no}
 use Rattle.zoom_intervals.specs.Intervals.{zoomInterval, emptyInterval, filled, zoomIntervals, IntervalsAre}
 use Rattle.zoom_intervals.specs.declared.ZoomIntervals.{ZoomIntervals}
 use Rattle.zoom_intervals.specs.declared.IntervalsRead.{IntervalsRead}
-use Rattle.header.specs.HeaderView.{degreesOf, boundingBox, optionalPosition, mapHeader, emptyHeader, HeaderIs}
+use Rattle.header.specs.HeaderView.{boundingBox, mapHeader, emptyHeader, HeaderIs}
 use Rattle.header.specs.Made.{Made, Checked}
 use Rattle.header.specs.declared.HeaderRead.{HeaderRead}
 
 -- a start position in degrees
-pub position-at : (p : OptionalStored) (v : StoredPosition) (r : Position) → p ≡ stored.At v → r ≡ degreesOf (placeOf v) → position.At r ≡ optionalPosition (maybePlace p)
+pub position-at : (p : OptionalStored) (v : StoredPosition) (r : Position) → p ≡ stored.At v → r ≡ nodePosition (placeOf v) → position.At r ≡ optionalPosition (maybePlace p)
 position-at p v r h e = rw (h, e)
 
 pub position-absent : (p : OptionalStored) → p ≡ stored.Absent → position.Absent ≡ optionalPosition (maybePlace p)

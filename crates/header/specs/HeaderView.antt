@@ -4,27 +4,18 @@ use mathlib.Core.List.{[]}
 use lib.IntN.{pos}
 use lib.ListN.{length}
 use Rattle.parsing.specs.Parse.{Res, Maybe, none, some}
-use Rattle.format.specs.Header.{Place, Box, Header}
-use Rattle.types.specs.Types.{positionOf, spanOf, optionalSpan, optionalByte}
-use Rattle.types.specs.declared.Position.{Position}
+use Rattle.format.specs.Header.{Box, Header}
+use Rattle.types.specs.Types.{positionOf, nodePosition, optionalPosition, spanOf, optionalSpan, optionalByte}
 use Rattle.types.specs.declared.BoundingBox.{BoundingBox}
 use Rattle.types.specs.declared.MapHeader.{MapHeader}
-use Rattle.types.specs.declared.OptionalPosition.{OptionalPosition}
 use Rattle.types.specs.declared.OptionalPosition.the-variants as position
 use Rattle.tag_table.specs.Tables.{tagTable}
 use Rattle.types.specs.Beside.{Beside}
 use Rattle.zoom_intervals.specs.Intervals.{filled}
 use Rattle.header.specs.declared.HeaderRead.{HeaderRead}
 
-abbrev pub degreesOf : Place → Position
-degreesOf p = positionOf (p .latitude) (p .longitude)
-
 abbrev pub boundingBox : Box → BoundingBox
-boundingBox b = record { min = degreesOf (b .min); max = degreesOf (b .max) }
-
-abbrev pub optionalPosition : Maybe Place → OptionalPosition
-optionalPosition none = position.Absent
-optionalPosition (some p) = position.At (degreesOf p)
+boundingBox b = record { min = nodePosition (b .min); max = nodePosition (b .max) }
 
 abbrev pub mapHeader : Header → MapHeader
 mapHeader h = record {

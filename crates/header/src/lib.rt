@@ -22,9 +22,10 @@ use zoom_intervals::IntervalsRead;
 use zoom_intervals::ZoomIntervals;
 ghost use mathlib.Core.Path.{_≡_};
 ghost use Rattle.format.specs.Header.{tables, header};
+ghost use Rattle.types.specs.Types.{nodePosition, optionalPosition};
 ghost use Rattle.header_fields.specs.Fields.{placeOf, boxOf};
 ghost use Rattle.header_parts.specs.Parts.{frontOf, optionsOf, maybePlace};
-ghost use Rattle.header.specs.HeaderView.{degreesOf, boundingBox, optionalPosition, emptyHeader, HeaderIs};
+ghost use Rattle.header.specs.HeaderView.{boundingBox, emptyHeader, HeaderIs};
 ghost use Rattle.header.specs.Made.{Made, Checked};
 
 // The header, with the place behind it; beside a refusal an empty header.
@@ -34,7 +35,7 @@ pub struct HeaderRead {
 }
 
 fn degrees_of(p: StoredPosition) -> Position
-    ensures { λ r. ⌜ r ≡ degreesOf (placeOf p) ⌝ }
+    ensures { λ r. ⌜ r ≡ nodePosition (placeOf p) ⌝ }
 {
     let y = p.latitude;
     let x = p.longitude;

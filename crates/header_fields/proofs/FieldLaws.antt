@@ -25,7 +25,8 @@ use Rattle.byte_source.specs.declared.Span.{Span}
 use Rattle.byte_source.specs.declared.SpanRead.{SpanRead}
 use Rattle.byte_source.specs.declared.SpanRead.the-variants as span
 use Rattle.byte_source.proofs.ReadLaws.{Taken, Passes, Stops, stop, taken}
-use Rattle.format.specs.Header.{same, Place}
+use Rattle.format.specs.Header.{same}
+use Rattle.format.specs.WayData.{Node}
 use Rattle.types.proofs.TypeLaws as types
 use Rattle.header_fields.specs.Fields.{placeOf, placeRes, placeRefusal, boxOf, boxRes, boxRefusal, preambleOf, preambleRes, preambleRefusal}
 use Rattle.header_fields.specs.declared.StoredPositionRead.the-variants as position
@@ -91,7 +92,7 @@ wide-fits v h = rw (toZ-ofZ {w = w32} {z = v} h) (wider v h)
 pub wide-same : (v : ℤ) → SFits w32 v → toZ w64 (ofZ w64 (toZ w32 (ofZ w32 v))) ≡ v
 wide-same v h = toZ-ofZ {w = w64} (wide-fits v h) ∙ toZ-ofZ {w = w32} h
 
-pub place-made : (v u y x : ℤ) (n : ℕ) → v ≡ y → u ≡ x → _≡_ {A = Res Place} (ok (record { latitude = v; longitude = u }) n) (ok (record { latitude = y; longitude = x }) n)
+pub place-made : (v u y x : ℤ) (n : ℕ) → v ≡ y → u ≡ x → _≡_ {A = Res Node} (ok (record { latitude = v; longitude = u }) n) (ok (record { latitude = y; longitude = x }) n)
 place-made v u y x n h k = rw (h, k)
 
 pub ruleset widths = (needs, wide-fits, wide-same)

@@ -4,7 +4,8 @@ use Rattle.error.specs.Refusals.{refused}
 use Rattle.error.specs.declared.Refusal.{Refusal}
 use Rattle.error.specs.declared.Refusal.the-variants.{Source}
 use Rattle.format.specs.Header as format
-use Rattle.format.specs.Header.{Place, Box}
+use Rattle.format.specs.Header.{Box}
+use Rattle.format.specs.WayData.{Node}
 use Rattle.header_fields.specs.declared.StoredPosition.{StoredPosition}
 use Rattle.header_fields.specs.declared.StoredPositionRead.{StoredPositionRead}
 use Rattle.header_fields.specs.declared.StoredPositionRead.the-variants as position
@@ -15,10 +16,10 @@ use Rattle.header_fields.specs.declared.Preamble.{Preamble}
 use Rattle.header_fields.specs.declared.PreambleRead.{PreambleRead}
 use Rattle.header_fields.specs.declared.PreambleRead.the-variants as preamble
 
-abbrev pub placeOf : StoredPosition → Place
+abbrev pub placeOf : StoredPosition → Node
 placeOf p = record { latitude = p .latitude .0; longitude = p .longitude .0 }
 
-abbrev pub placeRes : StoredPositionRead → Res Place
+abbrev pub placeRes : StoredPositionRead → Res Node
 placeRes (position.Value p n) = ok (placeOf p) n
 placeRes (position.Refused r) = refused r
 

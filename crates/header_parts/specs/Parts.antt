@@ -8,7 +8,7 @@ use Rattle.error.specs.declared.Refusal.{Refusal}
 use Rattle.error.specs.declared.Refusal.the-variants.{Source}
 use Rattle.byte_source.specs.Answers.{partIn}
 use Rattle.format.specs.Header as format
-use Rattle.format.specs.Header.{Place}
+use Rattle.format.specs.WayData.{Node}
 use Rattle.types.specs.Types.{maybePart}
 use Rattle.types.specs.declared.OptionalByte.{OptionalByte}
 use Rattle.types.specs.declared.OptionalByte.the-variants as byte
@@ -43,7 +43,7 @@ abbrev pub frontRefusal : FrontRead → Refusal
 frontRefusal (front.Value f n) = Source
 frontRefusal (front.Refused r) = r
 
-abbrev pub maybePlace : OptionalStored → Maybe Place
+abbrev pub maybePlace : OptionalStored → Maybe Node
 maybePlace place.Absent = none
 maybePlace (place.At p) = some (placeOf p)
 
@@ -51,7 +51,7 @@ abbrev pub maybeByte : OptionalByte → Maybe ℕ
 maybeByte byte.Absent = none
 maybeByte (byte.At b) = some b
 
-abbrev pub optionalPlaceRes : OptionalStoredRead → Res (Maybe Place)
+abbrev pub optionalPlaceRes : OptionalStoredRead → Res (Maybe Node)
 optionalPlaceRes (place-read.Value p n) = ok (maybePlace p) n
 optionalPlaceRes (place-read.Refused r) = refused r
 

@@ -3,7 +3,6 @@
 mod columns;
 mod damage;
 mod indexes;
-mod numbers;
 mod opened;
 
 use byte_source::Span;
@@ -38,7 +37,7 @@ fn answer_header(letter: u8, base: &[u8], question: &[u8]) {
         report::print_line(letter, indexes::answer(letter, base, header, question));
         return;
     }
-    report::print_line(letter, numbers::not_opened());
+    report::print_line(letter, report::push(report::no_words(), 99));
 }
 
 // The question is answered; the base map of the next one, which an M changes.

@@ -1,7 +1,9 @@
 // A header in words, a line for each field.
 use byte_source::Span;
 use byte_source::SpanRead;
+use error::Refusal;
 use libc::STDOUT_FILENO;
+use types::BoundingBox;
 use types::MapHeader;
 use types::OptionalByte;
 use types::OptionalPosition;
@@ -10,7 +12,8 @@ use types::Position;
 use types::TagTable;
 use types::ZoomInterval;
 
-fn say(text: &[u8]) {
+// No contract can say what is written, so none of these functions has one.
+pub(crate) fn say(text: &[u8]) {
     io::write_all(STDOUT_FILENO, text);
 }
 
@@ -18,6 +21,12 @@ fn number(label: &[u8], value: u64) {
     say(label);
     io::print_decimal(STDOUT_FILENO, value);
     say(b"\n");
+}
+
+pub(crate) fn refusal(r: Refusal) {
+    say(b"not a readable map: refusal ");
+    io::print_decimal(STDOUT_FILENO, error::number_of(r) as u64);
+    say(b" (docs/DIFFERENCES.md and crates/error say what each number means)\n");
 }
 
 fn text(label: &[u8], map: &[u8], span: Span) {
@@ -126,13 +135,16 @@ fn intervals(h: MapHeader) {
     }
 }
 
+fn bounds(b: BoundingBox) {
+    position(b"south west: ", b.min);
+    position(b"north east: ", b.max);
+}
+
 fn front(map: &[u8], h: MapHeader) {
     number(b"version: ", h.file_version as u64);
     number(b"file size: ", h.file_size);
     number(b"created, in milliseconds since 1970: ", h.creation_date);
-    let bounds = h.bounding_box;
-    position(b"south west: ", bounds.min);
-    position(b"north east: ", bounds.max);
+    bounds(h.bounding_box);
     number(b"tile size: ", h.tile_size as u64);
     text(b"projection: ", map, h.projection);
     number(b"flags: ", h.flags as u64);
@@ -152,7 +164,7 @@ fn options(map: &[u8], h: MapHeader) {
 }
 
 // The whole header, which ends at `end`.
-pub fn header(map: &[u8], h: MapHeader, end: usize) {
+pub(crate) fn header(map: &[u8], h: MapHeader, end: usize) {
     front(map, h);
     options(map, h);
     tags(b"point tags: ", map, h.poi_tags);

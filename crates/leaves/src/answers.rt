@@ -6,131 +6,90 @@ use byte_source::ShortRead;
 use byte_source::Span;
 use byte_source::SpanRead;
 use byte_source::WordRead;
-use error::Refusal;
 use report::Words;
 use tag::Kind;
 use tag::Tag;
 use utils::MicroRead;
 use utils::SignedRead;
 
-// None of the leaves' refusals has values.
-pub fn refusal(r: Refusal) -> Words {
-    report::push(report::no_words(), error::number_of(r) as u64)
-}
-
-pub fn one(a: u64) -> Words {
-    report::push(report::push(report::no_words(), 0), a)
-}
-
-pub fn two(a: u64, b: u64) -> Words {
-    report::push(one(a), b)
-}
-
-pub fn three(a: u64, b: u64, c: u64) -> Words {
-    report::push(two(a, b), c)
-}
-
 fn byte(got: ByteRead) -> Words {
     match got {
-        ByteRead::Value(v, at) => two(v as u64, at as u64),
-        ByteRead::Refused(r) => refusal(r),
+        ByteRead::Value(v, at) => questions::two(v as u64, at as u64),
+        ByteRead::Refused(r) => questions::refusal_words(r),
     }
 }
 
 fn short(got: ShortRead) -> Words {
     match got {
-        ShortRead::Value(v, at) => two(v as u64, at as u64),
-        ShortRead::Refused(r) => refusal(r),
+        ShortRead::Value(v, at) => questions::two(v as u64, at as u64),
+        ShortRead::Refused(r) => questions::refusal_words(r),
     }
 }
 
 fn word(got: WordRead) -> Words {
     match got {
-        WordRead::Value(v, at) => two(v as u64, at as u64),
-        WordRead::Refused(r) => refusal(r),
+        WordRead::Value(v, at) => questions::two(v as u64, at as u64),
+        WordRead::Refused(r) => questions::refusal_words(r),
     }
 }
 
 fn number(got: NumberRead) -> Words {
     match got {
-        NumberRead::Value(v, at) => two(v, at as u64),
-        NumberRead::Refused(r) => refusal(r),
+        NumberRead::Value(v, at) => questions::two(v, at as u64),
+        NumberRead::Refused(r) => questions::refusal_words(r),
     }
 }
 
 // 1 if it is negative, and its magnitude.
 fn with_sign(v: i64, at: usize) -> Words {
-    three(report::sign(v), report::magnitude(v), at as u64)
+    questions::three(report::sign(v), report::magnitude(v), at as u64)
 }
 
 fn int(got: IntRead) -> Words {
     match got {
         IntRead::Value(v, at) => with_sign(v as i64, at),
-        IntRead::Refused(r) => refusal(r),
+        IntRead::Refused(r) => questions::refusal_words(r),
     }
 }
 
 fn signed(got: SignedRead) -> Words {
     match got {
         SignedRead::Value(v, at) => with_sign(v, at),
-        SignedRead::Refused(r) => refusal(r),
+        SignedRead::Refused(r) => questions::refusal_words(r),
     }
 }
 
 fn micro(got: MicroRead) -> Words {
     let MicroRead::Value(m, at) = got else {
-        return refusal(utils::micro_refusal(got));
+        return questions::refusal_words(utils::micro_refusal(got));
     };
     let degrees = utils::microdegrees_to_degrees(m);
-    two(report::float_bits(degrees.0), at as u64)
-}
-
-fn flag(b: bool) -> u64 {
-    if b {
-        return 1;
-    }
-    0
-}
-
-fn replaced_digest(text: &[u8]) -> u64 {
-    let mut buffer = report::large();
-    report::mix_replaced(14695981039346656037, text, &mut buffer)
+    questions::two(report::float_bits(degrees.0), at as u64)
 }
 
 fn stored_text(map: &[u8], span: Span, at: usize) -> Words {
     let bytes = byte_source::span_bytes(map, span);
-    let words = three(
+    let words = questions::three(
         span.start as u64,
         span.size as u64,
-        flag(text::utf8_valid(bytes)),
+        questions::flag(text::utf8_valid(bytes)),
     );
     let words = report::push(words, text::replaced_len(bytes) as u64);
-    let words = report::push(words, replaced_digest(bytes));
+    let words = report::push(words, report::mix_text(14695981039346656037, bytes));
     report::push(words, at as u64)
 }
 
-pub fn text_at_start(map: &[u8]) -> Words {
+pub(crate) fn text_at_start(map: &[u8]) -> Words {
     let got = utils::read_vbe_u(map, 0);
     let SpanRead::Value(span, at) = got else {
-        return refusal(byte_source::span_refusal(got));
+        return questions::refusal_words(byte_source::span_refusal(got));
     };
     stored_text(map, span, at)
 }
 
 fn parsed(t: Tag) -> Words {
-    let words = two(t.key_len as u64, t.value_len as u64);
+    let words = questions::two(t.key_len as u64, t.value_len as u64);
     report::push(report::push(words, t.key_code), t.value_code)
-}
-
-pub fn letter_of(kind: Kind) -> u64 {
-    match kind {
-        Kind::Byte => 98,
-        Kind::Short => 104,
-        Kind::Int => 105,
-        Kind::Float => 102,
-        Kind::Text => 115,
-        Kind::Nothing => 0,
-    }
 }
 
 fn kind_of(letter: u8) -> Kind {
@@ -152,24 +111,24 @@ fn value(input: &[u8]) -> Words {
     let letter = input[0];
     let got = tag::skip_inline_value(&input[1..], 0, kind_of(letter));
     let SpanRead::Value(span, at) = got else {
-        return refusal(byte_source::span_refusal(got));
+        return questions::refusal_words(byte_source::span_refusal(got));
     };
-    three(span.start as u64, span.size as u64, at as u64)
+    questions::three(span.start as u64, span.size as u64, at as u64)
 }
 
 fn text_answer(letter: u8, input: &[u8]) -> Words {
     match letter {
         b't' => text_at_start(input),
-        b'h' => one(text::hash_tag_parameter(input)),
+        b'h' => questions::one(text::hash_tag_parameter(input)),
         b'g' => parsed(tag::parse_tag(input)),
-        b'k' => one(letter_of(tag::inline_value_kind(input))),
+        b'k' => questions::one(questions::letter_of(tag::inline_value_kind(input))),
         b'v' => value(input),
         _ => report::no_words(),
     }
 }
 
 // The answer to a letter, for a map that is the input, read at its start.
-pub fn answer(letter: u8, input: &[u8]) -> Words {
+pub(crate) fn answer(letter: u8, input: &[u8]) -> Words {
     match letter {
         b'a' => byte(byte_source::read_u8(input, 0)),
         b'b' => short(byte_source::read_u16_be(input, 0)),

@@ -1,14 +1,9 @@
 // Digests of the answers to every short input, a line for each first byte.
 use crate::answers;
-use libc::STDOUT_FILENO;
 
-fn print_digest(letter: u8, first: u64, digest: u64) {
-    io::write_all(STDOUT_FILENO, &[letter]);
-    io::write_all(STDOUT_FILENO, b" ");
-    io::print_decimal(STDOUT_FILENO, first);
-    io::write_all(STDOUT_FILENO, b" ");
-    io::print_decimal(STDOUT_FILENO, digest);
-    io::write_all(STDOUT_FILENO, b"\n");
+fn print_digest(letter: u8, first: u8, digest: u64) {
+    let words = report::push(report::no_words(), first as u64);
+    report::print_line(letter, report::push(words, digest));
 }
 
 // The input of one byte, and then all of two bytes, that start with `first`.
@@ -23,31 +18,24 @@ fn inputs_from(letter: u8, first: u8) -> u64 {
 }
 
 // Every input of one and of two bytes, for the letter that the input names.
-pub fn short_inputs(input: &[u8]) {
+pub(crate) fn short_inputs(input: &[u8]) {
     if input.len() < 1 {
         return;
     }
     let letter = input[0];
     for first in 0..=255u8 {
-        print_digest(letter, first as u64, inputs_from(letter, first));
+        print_digest(letter, first, inputs_from(letter, first));
     }
-}
-
-fn valid_word(text: &[u8]) -> u64 {
-    if text::utf8_valid(text) {
-        return 1;
-    }
-    0
 }
 
 // A text's validity, its replaced bytes behind their length, its hash and its letter.
 fn mix_text(digest: u64, text: &[u8]) -> u64 {
     let mut buffer = [0u8; 9];
-    let mut out = report::mix(digest, valid_word(text));
+    let mut out = report::mix(digest, questions::flag(text::utf8_valid(text)));
     out = report::mix(out, text::replaced_len(text) as u64);
     out = report::mix_replaced(out, text, &mut buffer);
     out = report::mix(out, text::hash_tag_parameter(text));
-    report::mix(out, answers::letter_of(tag::inline_value_kind(text)))
+    report::mix(out, questions::letter_of(tag::inline_value_kind(text)))
 }
 
 fn texts_from_two(digest: u64, first: u8, second: u8) -> u64 {
@@ -68,8 +56,8 @@ fn texts_from(first: u8) -> u64 {
 }
 
 // Every text of three bytes.
-pub fn texts_of_three() {
+pub(crate) fn texts_of_three() {
     for first in 0..=255u8 {
-        print_digest(b'3', first as u64, texts_from(first));
+        print_digest(b'3', first, texts_from(first));
     }
 }

@@ -3,18 +3,6 @@ use crate::answers;
 use byte_source::WordRead;
 use report::Words;
 
-// The first bytes of the map become the prefix.
-fn put_prefix(map: &mut [u8], prefix: &[u8]) {
-    let mut i = 0;
-    while i < prefix.len() {
-        if map.len() <= i {
-            return;
-        }
-        map[i] = prefix[i];
-        i += 1;
-    }
-}
-
 // Bytes 61 hex from a place on.
 fn put_filling(map: &mut [u8], from: usize, end: usize) {
     let mut i = from;
@@ -29,7 +17,7 @@ fn put_filling(map: &mut [u8], from: usize, end: usize) {
 
 // The text of a map that is the prefix and so many bytes of the filling.
 fn text_of_front(map: &mut [u8], prefix: &[u8], fill: usize) -> Words {
-    put_prefix(map, prefix);
+    copies::put_front(map, prefix);
     let size = arithmetic::saturating_add_usize(prefix.len(), fill);
     if map.len() < size {
         return report::no_words();
@@ -42,7 +30,7 @@ fn text_of_front(map: &mut [u8], prefix: &[u8], fill: usize) -> Words {
 }
 
 // The input is the number of filling bytes, and then the prefix.
-pub fn filled_text(input: &[u8]) -> Words {
+pub(crate) fn filled_text(input: &[u8]) -> Words {
     let WordRead::Value(fill, at) = byte_source::read_u32_be(input, 0) else {
         return report::no_words();
     };

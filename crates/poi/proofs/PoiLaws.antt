@@ -18,7 +18,7 @@ use Rattle.format.specs.Elevation.{low32}
 use Rattle.tag.specs.declared.Kind.{Kind}
 use Rattle.format.specs.WayData.{Node, node}
 use Rattle.format.specs.Tile.{Tagged, PointFields, Point, debugSignature, behindPosition, point}
-use Rattle.types.specs.Types.{optionalSpan, endRefusal}
+use Rattle.types.specs.Types.{optionalSpan, endRefusal, nodePosition}
 use Rattle.types.specs.declared.End.the-variants as end
 use Rattle.types.specs.declared.OptionalSpan.{OptionalSpan}
 use Rattle.types.specs.declared.OptionalSpan.the-variants.{Absent}
@@ -30,7 +30,7 @@ use Rattle.tagged.proofs.LayerLaws.{layer-bits}
 use Rattle.tagged.proofs.TaggedLaws.{tagged-ok, tagged-no}
 use Rattle.tagged.specs.TagIds.{ShownTags, tagsOf, shownTags, tagIds}
 use Rattle.tagged.specs.declared.TaggedRead.{TaggedRead}
-use Rattle.fields.specs.Fields.{optionalSpanRes, positionRes, nodePosition, streamedSpan}
+use Rattle.fields.specs.Fields.{optionalSpanRes, positionRes, streamedSpan}
 use Rattle.fields.specs.declared.OptionalSpanRead.{OptionalSpanRead}
 use Rattle.fields.specs.declared.OptionalSpanRead.the-variants as span-read
 use Rattle.fields.specs.declared.PositionRead.{PositionRead}

@@ -10,10 +10,10 @@ use Rattle.format.specs.Elevation.{low32}
 use Rattle.format.specs.Nodes.{zero64}
 use Rattle.format.specs.Tile.{PointFields, Point}
 use Rattle.types.specs.Beside.{Beside}
-use Rattle.types.specs.Types.{optionalSpan}
+use Rattle.types.specs.Types.{optionalSpan, nodePosition}
 use Rattle.types.specs.declared.OptionalSpan.the-variants as span
 use Rattle.tagged.specs.TagIds.{tagIds, noTags}
-use Rattle.fields.specs.Fields.{nodePosition, streamedSpan}
+use Rattle.fields.specs.Fields.{streamedSpan}
 use Rattle.poi.specs.declared.OptionalElevation.{OptionalElevation}
 use Rattle.poi.specs.declared.OptionalElevation.the-variants.{Absent, At}
 use Rattle.poi.specs.declared.Poi.{Poi}

@@ -21,9 +21,11 @@ use Rattle.report.specs.Words.{pushed, mixed, mixedAll, mixedUpto}
 use Rattle.report.specs.declared.Words.{Words}
 
 pub push-full : (w : Words) (x : ℕ) → 40 ≤ w .count → w ≡ pushed w x
+unfolding pushed
 push-full w x h = rw (le-ltb (w .count) 40 h)
 
 pub push-more : (w : Words) (x : ℕ) → w .count < 40 → record { words = set (w .words) (w .count) x; count = w .count + 1 } ≡ pushed w x
+unfolding pushed
 push-more w x h = rw (lt-ltb (w .count) 40 h)
 
 pub mix-none : (l : List ℕ) (d h : ℕ) → h ≡ d → h ≡ mixedUpto d l 0
@@ -35,11 +37,14 @@ module _ (l : List ℕ) (i d h : ℕ) (e : h ≡ mixedUpto d l i) where
   unfolding mixedUpto
   mix-more y q = rw (add-one i) (q ∙ ap (λ x. mixed x (getD l i 0)) e)
 
-  pub mix-count : (n : ℕ) → i ≤ n → n ≤ i → i < 40 → h ≡ mixedUpto d l (min n 40)
-  mix-count n b c f = let z : i ≡ min n 40 = omega arith in e ∙ ap (mixedUpto d l) z
+  pub mix-count : (n : ℕ) → i ≤ n → n ≤ i → i < length l → h ≡ mixedUpto d l (min n (length l))
+  mix-count n b c f = let z : i ≡ min n (length l) = omega arith in e ∙ ap (mixedUpto d l) z
 
-  pub mix-all : (n : ℕ) → i ≤ n → i ≤ 40 → 40 ≤ i → h ≡ mixedUpto d l (min n 40)
-  mix-all n b c f = let z : i ≡ min n 40 = omega arith in e ∙ ap (mixedUpto d l) z
+  pub mix-all : (n : ℕ) → i ≤ n → i ≤ length l → length l ≤ i → h ≡ mixedUpto d l (min n (length l))
+  mix-all n b c f = let z : i ≡ min n (length l) = omega arith in e ∙ ap (mixedUpto d l) z
+
+pub mix-array : (l : List ℕ) (d n k y : ℕ) → y ≡ mixedUpto d l (min n (length l)) → length l ≡ k → y ≡ mixedUpto d l (min n k)
+mix-array l d n k y e h = rw (← h) e
 
 module _ (s : List ℕ) (i h t : ℕ) (e : mixedAll h (drop i s) ≡ t) where
   pub mix-byte : (y x : ℕ) → i < length s → x ≡ getD s i 0 → y ≡ mixed h x → mixedAll y (drop (i + 1) s) ≡ t
@@ -132,4 +137,13 @@ wide-fits z h = widened w32 z (record { sfits = h }) (omega arith)
 pub byte-fits : (z : ℤ) → mag z < 2 ^ 7 → SFits w64 (toZ w8 (ofZ w8 z))
 byte-fits z h = widened w8 z (record { sfits = h }) (omega arith)
 
-pub ruleset words = (needs, push-full, push-more, mix-none, mix-more, mix-count, mix-all, mix-byte, mix-end)
+-- words pushed and mixed one behind the other, for the callers' proofs
+pub pushed-next : (w w′ r : Words) (x x′ : ℕ) → r ≡ pushed w x → w ≡ w′ → x ≡ x′ → r ≡ pushed w′ x′
+pushed-next w w′ r x x′ e d q = e ∙ ap (λ v. pushed v x) d ∙ ap (pushed w′) q
+
+pub mixed-next : (h h′ r x x′ : ℕ) → r ≡ mixed h x → h ≡ h′ → x ≡ x′ → r ≡ mixed h′ x′
+mixed-next h h′ r x x′ e d q = e ∙ ap (λ v. mixed v x) d ∙ ap (mixed h′) q
+
+pub ruleset chains = (needs, pushed-next, mixed-next)
+
+pub ruleset words = (needs, push-full, push-more, mix-none, mix-more, mix-count, mix-all, mix-array, mix-byte, mix-end)

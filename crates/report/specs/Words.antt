@@ -5,12 +5,15 @@ use mathlib.Core.List.{List, [], _∷_}
 use lib.Dec.{ltb}
 use lib.IntN.{ℤ, pos}
 use lib.Signed.{leZ}
-use lib.ListN.{set, getD}
+use lib.ListN.{set, getD, replicate}
 use lib.Ieee.{Float, nan, binary64, ne, toBits, ofBits, nanBits}
 use Rattle.report.specs.declared.Words.{Words}
 
+unfoldable pub noWords : Words
+noWords = record { words = replicate 40 0; count = 0 }
+
 -- one word more, while there is room
-abbrev pub pushed : Words → ℕ → Words
+unfoldable pub pushed : Words → ℕ → Words
 pushed w x = cond (ltb (w .count) 40) (record { words = set (w .words) (w .count) x; count = w .count + 1 }) w
 
 unfoldable pub mixed : ℕ → ℕ → ℕ

@@ -1,8 +1,11 @@
 // What the programs that are run against the Rust print: an answer as a list of words, and digests of many answers.
 ghost use mathlib.Core.Path.{_≡_};
-ghost use Prim.Native.Nat.{_+_, _*_, _%_, _^_};
-ghost use Rattle.report.specs.Words.{pushed, mixed, mixedAll, digestOf, signOf, bitsOf, floatOf};
+ghost use Prim.Native.Nat.{_+_, _*_, _%_, _^_, min};
+ghost use Rattle.report.specs.Words.{noWords, pushed, mixed, mixedUpto, mixedAll, digestOf, signOf, bitsOf, floatOf};
+ghost use Rattle.report.specs.Texts.{room, zeros, mixedReplaced};
+ghost use Rattle.text.specs.Writing.{writing};
 ghost use lib.IntN.{natAbs};
+ghost use lib.ListN.{length};
 ghost use Rattle.report.specs.Records.{aRecord, recordRes};
 use byte_source::ByteRead;
 use byte_source::Span;
@@ -19,7 +22,7 @@ pub struct Words {
 }
 
 pub fn no_words() -> Words
-    ensures { λ r. ⌜ r .count ≡ 0 ⌝ }
+    ensures { λ r. ⌜ r ≡ noWords ⌝ }
 {
     Words {
         words: [0; 40],
@@ -50,15 +53,13 @@ pub fn mix(digest: u64, word: u64) -> u64
     std::num::wrapping_add_u64(arithmetic::wrapping_mul_u64(digest, 1099511628211), word)
 }
 
-// An answer mixed into a digest: the number of its words, and then these.
-pub fn mix_words(digest: u64, words: Words) -> u64
-    ensures { λ r. ⌜ r ≡ digestOf digest words ⌝ }
+// Words mixed into a digest: their number, and then these.
+pub fn mix_list(digest: u64, list: &[u64], count: usize) -> u64
+    ensures { λ r. ⌜ r ≡ mixedUpto (mixed digest count) (now (list .entry)) (min count (length (now (list .entry)))) ⌝ }
 {
-    let list = words.words;
-    let count = words.count;
     let mut out = mix(digest, count as u64);
     let mut i = 0;
-    while i < 40 {
+    while i < list.len() {
         if count <= i {
             return out;
         }
@@ -66,6 +67,14 @@ pub fn mix_words(digest: u64, words: Words) -> u64
         i += 1;
     }
     out
+}
+
+// An answer mixed into a digest.
+pub fn mix_words(digest: u64, words: Words) -> u64
+    ensures { λ r. ⌜ r ≡ digestOf digest words ⌝ }
+{
+    let list = words.words;
+    mix_list(digest, &list, words.count)
 }
 
 fn wide(x: u8) -> u64
@@ -87,8 +96,10 @@ pub fn mix_bytes(digest: u64, bytes: &[u8]) -> u64
     out
 }
 
-// A text's replaced bytes mixed into a digest, by way of a buffer that is long enough.
-pub fn mix_replaced(digest: u64, text: &[u8], buffer: &mut [u8]) -> u64 {
+// A text's replaced bytes mixed into a digest, by way of the buffer; 0 if the buffer is too short.
+pub fn mix_replaced(digest: u64, text: &[u8], buffer: &mut [u8]) -> u64
+    ensures { λ r. ⌜ (r ≡ mixedReplaced digest (now (text .entry)) (length (now (buffer .entry)))) × (now (buffer .exit) ≡ writing (now (text .entry)) (now (buffer .entry)) 0 .buffer) ⌝ }
+{
     let Written::Upto(n) = text::write_replaced(text, buffer, 0) else {
         return 0;
     };
@@ -99,8 +110,22 @@ pub fn mix_replaced(digest: u64, text: &[u8], buffer: &mut [u8]) -> u64 {
 }
 
 // Room for a map or a long text. In a function of its own, so that no proof looks into it.
-pub fn large() -> [u8; 1100000] {
+pub fn large() -> [u8; 1100000]
+    ensures { λ r. ⌜ r ≡ zeros room ⌝ }
+{
     [0; 1100000]
+}
+
+// A text's replaced bytes mixed into a digest. A short text has a short buffer: there are many of them.
+pub fn mix_text(digest: u64, text: &[u8]) -> u64
+    ensures { λ r. ⌜ r ≡ mixedReplaced digest (now (text .entry)) room ⌝ }
+{
+    if text.len() < 300 {
+        let mut buffer = [0u8; 900];
+        return mix_replaced(digest, text, &mut buffer);
+    }
+    let mut buffer = large();
+    mix_replaced(digest, text, &mut buffer)
 }
 
 // What a record asks, where its question stands, and the place behind it.

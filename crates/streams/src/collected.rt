@@ -1,5 +1,5 @@
 // A collected tile: its zoom table, first-way offset and counts, whether every stored size is right, and its signature.
-use crate::questions::Place;
+use crate::place::Place;
 use lines::Out;
 use tile::Tile;
 use tile::TileAnswer;
@@ -41,7 +41,7 @@ fn line(to: Out, map: &[u8], tile: Tile) -> Out {
     lines::say(to, b"\n")
 }
 
-pub fn tile(shown: bool, map: &[u8], h: MapHeader, place: Place) -> Out {
+pub(crate) fn tile(shown: bool, map: &[u8], h: MapHeader, place: Place) -> Out {
     let grid = place.grid;
     let got = tile::read_tile(map, h, place.sub_file, grid, place.tile);
     let answer = got.answer;

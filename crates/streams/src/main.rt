@@ -2,9 +2,9 @@
 // length of the question in 4 bytes, the question. Each answer is a line, or one for each feature and a line behind them;
 // `compare/run streams-sample` writes both sides.
 mod collected;
-mod copies;
+mod damage;
 mod lists;
-mod questions;
+mod place;
 mod streamed;
 
 use byte_source::Span;
@@ -24,13 +24,13 @@ fn print_digest(letter: &[u8], digest: u64) {
 
 fn print_collected(map: &[u8], h: MapHeader, question: &[u8]) {
     say(b"A ");
-    collected::tile(true, map, h, questions::place_of(question));
+    collected::tile(true, map, h, place::place_of(question));
 }
 
 fn print_stream(letter: &[u8], shown: bool, map: &[u8], h: MapHeader, question: &[u8]) {
     let zoom = questions::byte_at(question, 32);
     let policy = questions::byte_at(question, 33);
-    let told = streamed::tile(shown, map, h, questions::place_of(question), zoom, policy);
+    let told = streamed::tile(shown, map, h, place::place_of(question), zoom, policy);
     streamed::print(letter, told);
 }
 
@@ -40,9 +40,9 @@ fn answer(letter: u8, map: &[u8], h: MapHeader, question: &[u8]) {
         b'A' => print_collected(map, h, question),
         b'S' => print_stream(b"S", false, map, h, question),
         b'L' => print_stream(b"L", true, map, h, question),
-        b'E' => print_digest(b"E", copies::all_cuts(map, h, question)),
-        b'B' => print_digest(b"B", copies::all_damages(map, h, question)),
-        b'Z' => print_digest(b"Z", copies::all_zooms(map, h, question)),
+        b'E' => print_digest(b"E", damage::all_cuts(map, h, question)),
+        b'B' => print_digest(b"B", damage::all_damages(map, h, question)),
+        b'Z' => print_digest(b"Z", damage::all_zooms(map, h, question)),
         _ => say(b"?\n"),
     }
 }

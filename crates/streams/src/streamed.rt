@@ -1,6 +1,6 @@
 // A tile's stream under a policy, which says what ways are accepted.
 use crate::lists;
-use crate::questions::Place;
+use crate::place::Place;
 use error::Refusal;
 use lines::Out;
 use poi::Poi;
@@ -15,19 +15,19 @@ use visit::StreamedBody;
 use visit::StreamedHead;
 use visit::TileEnd;
 
-pub enum Ending {
+pub(crate) enum Ending {
     Going,
     End(TileEnd),
     Refused(Refusal),
 }
 
 // How many points, heads and bodies came, and how the stream ended.
-pub struct Told {
-    pub points: u64,
-    pub heads: u64,
-    pub accepted: u64,
-    pub out: Out,
-    pub ending: Ending,
+pub(crate) struct Told {
+    pub(crate) points: u64,
+    pub(crate) heads: u64,
+    pub(crate) accepted: u64,
+    pub(crate) out: Out,
+    pub(crate) ending: Ending,
 }
 
 struct Step {
@@ -309,7 +309,14 @@ fn streamed(first: Told, map: &[u8], layout: TileLayout, policy: u8, stream: Str
 }
 
 // The stream of a tile, as far as it goes.
-pub fn tile(shown: bool, map: &[u8], h: MapHeader, place: Place, zoom: u8, policy: u8) -> Told {
+pub(crate) fn tile(
+    shown: bool,
+    map: &[u8],
+    h: MapHeader,
+    place: Place,
+    zoom: u8,
+    policy: u8,
+) -> Told {
     let first = Told {
         points: 0,
         heads: 0,
@@ -328,7 +335,7 @@ pub fn tile(shown: bool, map: &[u8], h: MapHeader, place: Place, zoom: u8, polic
 }
 
 // A line of the counts and the digest, and how the stream ended.
-pub fn print(letter: &[u8], told: Told) {
+pub(crate) fn print(letter: &[u8], told: Told) {
     let to = lines::say(lines::start(true), letter);
     let to = lines::number(lines::number(to, told.points), told.heads);
     let to = lines::number(to, told.accepted);

@@ -19,6 +19,8 @@ use Rattle.types.specs.Beside.{viewOr}
 use Rattle.types.specs.declared.MapHeader.{MapHeader}
 use Rattle.tag_table.specs.Tables.{tableIn}
 use Rattle.blocks.specs.Blocks.{emptyRow, filledRows}
+use Rattle.tag.specs.declared.Kind.{Kind}
+use Rattle.agreement.specs.TileFormat.{tileFormat}
 use Rattle.agreement.specs.Collected.{allExact, StoredTile, collect}
 use Rattle.tile_layout.specs.TileLayout.{layoutOf, formatOf}
 use Rattle.tile_layout.specs.declared.TileLayout.{TileLayout}
@@ -29,8 +31,8 @@ use Rattle.tile.specs.declared.TileAnswer.the-variants as tile-answer
 use Rattle.tile.specs.declared.TileRead.{TileRead}
 
 -- what is shown of a tile that was collected: its features are fetched
-abbrev pub tileOf : (l : TileLayout) (rows : ℕ) (m : List ℕ) → StoredTile (formatOf l rows m) → Tile
-tileOf l rows m t = record {
+abbrev pub shownTile : (debug : Bool) (rows : ℕ) (poiKinds wayKinds : List Kind) → StoredTile (tileFormat debug rows poiKinds wayKinds) → Tile
+shownTile debug rows poiKinds wayKinds t = record {
   signature = optionalSpan (t .head .signature);
   «zoom_table» = filledRows (t .head .table);
   rows = length (t .head .table);
@@ -39,6 +41,9 @@ tileOf l rows m t = record {
   ways = length (t .ways);
   exact = allExact (t .ways);
 }
+
+abbrev pub tileOf : (l : TileLayout) (rows : ℕ) (m : List ℕ) → StoredTile (formatOf l rows m) → Tile
+tileOf l rows m t = shownTile (l .debug) rows (tagKinds (tableIn (l .«poi_tags»)) m) (tagKinds (tableIn (l .«way_tags»)) m) t
 
 -- where collecting is refused
 abbrev pub emptyTile : Tile

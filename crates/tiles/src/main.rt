@@ -1,14 +1,12 @@
 // Replays the Rust's collected tiles without any Rust. Standard input is a list of records: a letter for what is asked, the length of
 // the question in 4 bytes, the question. Each answer is a line of words; `compare/run tiles-sample` writes both sides.
-mod copies;
+mod damage;
 mod features;
 mod lists;
-mod nodes;
-mod questions;
+mod place;
 mod tile;
 
 use byte_source::Span;
-use header::HeaderRead;
 use report::RecordRead;
 use report::Words;
 use types::End;
@@ -18,39 +16,44 @@ fn is_open(end: End) -> bool {
     if let End::At(_) = end { true } else { false }
 }
 
-fn opening_words(opened: HeaderRead) -> Words {
+fn opening_words(map: &[u8]) -> Words {
+    let opened = opening::from_source(map);
     let end = opened.end;
-    match end {
-        End::At(_) => report::push(report::no_words(), 0),
-        End::Refused(r) => questions::refusal(r),
+    if is_open(end) {
+        return questions::zero();
     }
+    questions::refusal_words(types::end_refusal(end))
 }
 
 fn answer(letter: u8, map: &[u8], h: MapHeader, question: &[u8]) -> Words {
     match letter {
-        b'A' => copies::whole(map, h, question),
-        b'E' => copies::all_cuts(map, h, question),
-        b'B' => copies::all_damages(map, h, question),
+        b'A' => tile::words(map, h, place::place_of(question)),
+        b'E' => damage::all_cuts(map, h, question),
+        b'B' => damage::all_damages(map, h, question),
         _ => report::no_words(),
     }
+}
+
+// Questions to the base map.
+fn base_words(letter: u8, map: &[u8], question: &[u8]) -> Words {
+    let opened = opening::from_source(map);
+    let end = opened.end;
+    if is_open(end) {
+        let h = opened.header;
+        return answer(letter, map, h, question);
+    }
+    report::push(report::no_words(), 99)
 }
 
 // The question is answered; the base map of the next one, which an M changes.
 fn next_base(input: &[u8], base: Span, letter: u8, span: Span) -> Span {
     let question = byte_source::span_bytes(input, span);
     if letter == b'M' {
-        report::print_line(letter, opening_words(opening::from_source(question)));
+        report::print_line(letter, opening_words(question));
         return span;
     }
     let map = byte_source::span_bytes(input, base);
-    let opened = opening::from_source(map);
-    let end = opened.end;
-    if is_open(end) {
-        let h = opened.header;
-        report::print_line(letter, answer(letter, map, h, question));
-        return base;
-    }
-    report::print_line(letter, report::push(report::no_words(), 99));
+    report::print_line(letter, base_words(letter, map, question));
     base
 }
 

@@ -1,8 +1,7 @@
 // A tile as the Rust's `read_tile` reads it: its head, every point, every way.
 use crate::features;
 use crate::features::Mixed;
-use crate::questions;
-use crate::questions::Place;
+use crate::place::Place;
 use blocks::ZoomTableRead;
 use byte_source::NumberRead;
 use error::Refusal;
@@ -33,22 +32,12 @@ fn mix_points(digest: u64, map: &[u8], at: usize, n: u64, debug: bool, table: Ta
 }
 
 // The ways from a place on.
-fn mix_ways(
-    digest: u64,
-    map: &[u8],
-    at: usize,
-    n: u64,
-    debug: bool,
-    table: TagTable,
-    counts: &mut [u64],
-    latitudes: &mut [f64],
-    longitudes: &mut [f64],
-) -> Mixed {
+fn mix_ways(digest: u64, map: &[u8], at: usize, n: u64, debug: bool, table: TagTable) -> Mixed {
     let mut out = digest;
     let mut next = at;
     let mut left = n;
     while 0 < left {
-        let got = features::mix_way_at(out, map, next, debug, table, counts, latitudes, longitudes);
+        let got = features::mix_way_at(out, map, next, debug, table);
         let Mixed::At(mixed, after) = got else {
             return got;
         };
@@ -90,8 +79,7 @@ fn sum_rows(table: ZoomTableRead) -> Sums {
 }
 
 fn counted(rows: usize, offset: u64, sums: Sums, digest: u64) -> Words {
-    let words = report::push(report::no_words(), 0);
-    let words = report::push(report::push(words, rows as u64), offset);
+    let words = questions::two(rows as u64, offset);
     let words = report::push(report::push(words, sums.points), sums.ways);
     report::push(words, digest)
 }
@@ -104,9 +92,6 @@ fn feature_words(
     rows: usize,
     offset: u64,
     sums: Sums,
-    counts: &mut [u64],
-    latitudes: &mut [f64],
-    longitudes: &mut [f64],
 ) -> Words {
     let debug = h.flags / 128 == 1;
     let first_way = arithmetic::saturating_add_usize(at, offset as usize);
@@ -114,17 +99,7 @@ fn feature_words(
     let Mixed::At(digest, _) = points else {
         return refused_words(points);
     };
-    let ways = mix_ways(
-        digest,
-        map,
-        first_way,
-        sums.ways,
-        debug,
-        h.way_tags,
-        counts,
-        latitudes,
-        longitudes,
-    );
+    let ways = mix_ways(digest, map, first_way, sums.ways, debug, h.way_tags);
     let Mixed::At(digest, _) = ways else {
         return refused_words(ways);
     };
@@ -133,74 +108,41 @@ fn feature_words(
 
 fn refused_words(got: Mixed) -> Words {
     match got {
-        Mixed::Refused(r) => questions::refusal(r),
+        Mixed::Refused(r) => questions::refusal_words(r),
         Mixed::At(_, _) => report::no_words(),
     }
 }
 
 // The tile that stands at a place.
-fn tile_words(
-    map: &[u8],
-    at: usize,
-    h: MapHeader,
-    interval: ZoomInterval,
-    counts: &mut [u64],
-    latitudes: &mut [f64],
-    longitudes: &mut [f64],
-) -> Words {
+fn tile_words(map: &[u8], at: usize, h: MapHeader, interval: ZoomInterval) -> Words {
     let got = fields::read_signature(map, at, h.flags / 128 == 1);
     let OptionalSpanRead::Value(_, at) = got else {
-        return questions::refusal(fields::optional_span_refusal(got));
+        return questions::refusal_words(fields::optional_span_refusal(got));
     };
     let table = blocks::read_zoom_table(map, at, interval.min_zoom_level, interval.max_zoom_level);
     let end = table.end;
     let End::At(at) = end else {
-        return questions::refusal(types::end_refusal(end));
+        return questions::refusal_words(types::end_refusal(end));
     };
     let got = utils::read_vbe_u_int(map, at);
     let NumberRead::Value(offset, at) = got else {
-        return questions::refusal(byte_source::number_refusal(got));
+        return questions::refusal_words(byte_source::number_refusal(got));
     };
-    feature_words(
-        map,
-        at,
-        h,
-        table.count,
-        offset,
-        sum_rows(table),
-        counts,
-        latitudes,
-        longitudes,
-    )
+    feature_words(map, at, h, table.count, offset, sum_rows(table))
 }
 
 // Sub file, grid, tile, entry, interval, and then the tile's bytes in file order.
-pub fn words(
-    map: &[u8],
-    h: MapHeader,
-    place: Place,
-    counts: &mut [u64],
-    latitudes: &mut [f64],
-    longitudes: &mut [f64],
-) -> Words {
+pub(crate) fn words(map: &[u8], h: MapHeader, place: Place) -> Words {
     let grid = place.grid;
     let got = index::tile_index_entry(map, h, place.sub_file, grid, place.tile);
     let EntryRead::Entry(entry) = got else {
-        return questions::refusal(index::entry_refusal(got));
+        return questions::refusal_words(index::entry_refusal(got));
     };
     let IntervalRead::At(interval) = index::interval_of(h, place.sub_file) else {
-        return questions::refusal(Refusal::InvalidTileIndex);
+        return questions::refusal_words(Refusal::InvalidTileIndex);
     };
     if interval.max_zoom_level < interval.min_zoom_level {
-        return questions::refusal(Refusal::ReversedInterval);
+        return questions::refusal_words(Refusal::ReversedInterval);
     }
-    tile_words(
-        map,
-        entry.offset_abs as usize,
-        h,
-        interval,
-        counts,
-        latitudes,
-        longitudes,
-    )
+    tile_words(map, entry.offset_abs as usize, h, interval)
 }

@@ -1,6 +1,6 @@
 // What the Rust does not have: calls out of turn, and accepts with lists that are too short. Standard input is a list of records as that
 // of `streams`: M a map, T a tile of it. `compare/run turns-sample` writes both sides, from document 01 alone.
-mod questions;
+mod place;
 mod turns;
 
 use byte_source::Span;
@@ -12,7 +12,7 @@ fn answer_opened(map: &[u8], opened: HeaderRead, question: &[u8]) {
     let end = opened.end;
     let h = opened.header;
     if let End::At(_) = end {
-        turns::tile(map, h, questions::place_of(question));
+        turns::tile(map, h, place::place_of(question));
     }
 }
 

@@ -1,6 +1,6 @@
 // Calls out of turn, and accepts with lists that are too short. A line for each call: its letter, the lengths that are lent, the answer,
 // and how many entries of each list are as they were.
-use crate::questions::Place;
+use crate::place::Place;
 use error::Lengths;
 use error::Refusal;
 use report::Words;
@@ -276,7 +276,7 @@ fn features(map: &[u8], layout: TileLayout, opened: Stream) {
     }
 }
 
-pub fn tile(map: &[u8], h: MapHeader, place: Place) {
+pub(crate) fn tile(map: &[u8], h: MapHeader, place: Place) {
     let grid = place.grid;
     let opened = visit::open(map, h, place.sub_file, grid, place.tile, 255);
     match opened {

@@ -13,6 +13,7 @@ use Rattle.byte_source.specs.declared.Span.{Span}
 use Rattle.byte_source.specs.Answers.{partIn}
 use Rattle.utils.specs.Degree.{degrees}
 use Rattle.format.specs.Header.{Interval, bit}
+use Rattle.format.specs.WayData.{Node}
 use Rattle.format.specs.Index.{Grid as TileGrid}
 use Rattle.types.specs.declared.Position.{Position}
 use Rattle.types.specs.declared.ZoomInterval.{ZoomInterval}
@@ -49,6 +50,14 @@ gridOf g = record { xMin = g .«x_min»; yMin = g .«y_min»; xMax = g .«x_max�
 -- two stored coordinates in degrees
 abbrev pub positionOf : ℤ → ℤ → Position
 positionOf latitude longitude = record { latitude = degrees latitude; longitude = degrees longitude }
+
+abbrev pub nodePosition : Node → Position
+nodePosition n = positionOf (n .latitude) (n .longitude)
+
+-- a position is either absent or given as degrees
+abbrev pub optionalPosition : Maybe Node → OptionalPosition
+optionalPosition none = position.Absent
+optionalPosition (some n) = position.At (nodePosition n)
 
 -- where a part of the map is
 abbrev pub spanOf : Part → Span

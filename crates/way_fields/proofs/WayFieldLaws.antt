@@ -15,14 +15,14 @@ use Rattle.format.specs.WayData.{Node}
 use Rattle.format.specs.Tile as format
 use Rattle.format.specs.Tile.{dataBlockCount}
 use Rattle.format.specs.Header.{bit}
-use Rattle.types.specs.Types.{optionalSpan}
+use Rattle.types.specs.Types.{optionalSpan, nodePosition, optionalPosition}
 use Rattle.types.specs.declared.OptionalSpan.{OptionalSpan}
 use Rattle.types.specs.declared.Position.{Position}
 use Rattle.types.specs.declared.OptionalPosition.{OptionalPosition}
 use Rattle.types.specs.declared.OptionalPosition.the-variants.{At}
-use Rattle.fields.specs.Fields.{nodePosition, streamedSpan}
+use Rattle.fields.specs.Fields.{streamedSpan}
 use Rattle.fields.proofs.FieldLaws as fields
-use Rattle.way_fields.specs.WayFields.{optionalPosition, labelRes, labelRefusal, announcedOf, announcedRes, announcedRefusal, wayFieldsOf, wayFieldsRes, wayFieldsRefusal, streamedWayFields}
+use Rattle.way_fields.specs.WayFields.{labelRes, labelRefusal, announcedOf, announcedRes, announcedRefusal, wayFieldsOf, wayFieldsRes, wayFieldsRefusal, streamedWayFields}
 use Rattle.way_fields.specs.declared.WayFields.{WayFields}
 use Rattle.way_fields.specs.declared.WayFieldsRead.the-variants as fields-read
 use Rattle.way_fields.specs.declared.LabelRead.the-variants as label

@@ -8,10 +8,10 @@ use Rattle.error.specs.declared.Refusal.the-variants.{Source}
 use Rattle.format.specs.WayData.{Node}
 use Rattle.format.specs.Tile as format
 use Rattle.format.specs.Tile.{wayFields, dataBlockCount, doubleDelta}
-use Rattle.types.specs.Types.{optionalSpan}
+use Rattle.types.specs.Types.{optionalSpan, optionalPosition}
 use Rattle.types.specs.declared.OptionalPosition.{OptionalPosition}
 use Rattle.types.specs.declared.OptionalPosition.the-variants.{Absent, At}
-use Rattle.fields.specs.Fields.{nodePosition, streamedSpan}
+use Rattle.fields.specs.Fields.{streamedSpan}
 use Rattle.way_fields.specs.declared.WayFields.{WayFields}
 use Rattle.way_fields.specs.declared.WayFieldsRead.{WayFieldsRead}
 use Rattle.way_fields.specs.declared.WayFieldsRead.the-variants as fields
@@ -31,11 +31,6 @@ bodyHead = do
   f ← wayFields
   k ← dataBlockCount (f .flags)
   return (record { fields = f; dataBlocks = k })
-
--- a label position is either absent or given as degrees
-abbrev pub optionalPosition : Maybe Node → OptionalPosition
-optionalPosition none = Absent
-optionalPosition (some n) = At (nodePosition n)
 
 abbrev pub wayFieldsOf : BodyHead → WayFields
 wayFieldsOf b = record {

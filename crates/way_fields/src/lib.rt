@@ -10,8 +10,9 @@ ghost use mathlib.Core.Path.{_≡_};
 ghost use Rattle.parsing.specs.Parse.{mapRes, optional};
 ghost use Rattle.format.specs.WayData.{node};
 ghost use Rattle.format.specs.Tile.{wayFields, dataBlockCount};
+ghost use Rattle.types.specs.Types.{optionalPosition};
 ghost use Rattle.byte_source.specs.Answers.{numberRes};
-ghost use Rattle.way_fields.specs.WayFields.{optionalPosition, labelRes, labelRefusal, announcedOf, announcedRes, announcedRefusal, bodyHead, wayFieldsOf, wayFieldsRes, wayFieldsRefusal, streamedWayFields};
+ghost use Rattle.way_fields.specs.WayFields.{labelRes, labelRefusal, announcedOf, announcedRes, announcedRefusal, bodyHead, wayFieldsOf, wayFieldsRes, wayFieldsRefusal, streamedWayFields};
 
 // A way's texts are raw parts of the map. `data_blocks` data blocks follow.
 pub struct WayFields {

@@ -6,10 +6,10 @@ use Rattle.headers.proofs.damage.damages_of.Statement.{statement}
 use Rattle.headers.proofs.damage.damages_of.Tie as tie
 
 abbrev Inv-loop : tie.InvT-loop
-Inv-loop copy₀ map digest₀ at₀ copy digest at = (at ≤ 1500) × (length copy ≡ length copy₀)
+Inv-loop copy₀ map digest₀ n₀ copy digest n = (n ≤ 4500) × (length copy ≡ length copy₀)
 
 abbrev μ-loop : tie.MeasureT-loop
-μ-loop copy₀ map digest₀ at₀ copy digest at = 1500 - at
+μ-loop copy₀ map digest₀ n₀ copy digest n = 4500 - n
 
 pub damages-of-spec : {M : Type 1} → statement M
 damages-of-spec =
@@ -17,13 +17,16 @@ damages-of-spec =
     (tie.spec
     Inv-loop
     μ-loop
-    (λ c κs. search needs)
-    (λ c. search needs)
-    (λ c. search needs)
-    (λ c. search needs)
-    (λ c κs. search needs)
-    (λ c. search needs)
-    (λ c. search needs)
-    (λ c. search needs)
-    (λ c. search needs)
-    (λ c. search needs))
+    (search needs)
+    (search needs)
+    (search needs)
+    (search needs)
+    (search needs)
+    (search needs)
+    (search needs)
+    (search needs)
+    (search needs)
+    (search needs)
+    (search needs)
+    (search needs)
+    (search needs))

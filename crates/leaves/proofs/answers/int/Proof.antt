@@ -15,8 +15,8 @@ with-sign-requires c κs = search needs
 enum-known-got-2 : tie.Need-enum-known-got-2
 enum-known-got-2 c = search needs
 
-refusal-requires : tie.Need-refusal-requires
-refusal-requires c κs = search needs
+refusal-words-requires : tie.Need-refusal-words-requires
+refusal-words-requires c κs = search needs
 
 returns : tie.Need-returns
 returns c = search needs
@@ -32,6 +32,6 @@ int-spec =
     cast-with-sign
     with-sign-requires
     enum-known-got-2
-    refusal-requires
+    refusal-words-requires
     returns
     returns-2)

@@ -5,8 +5,8 @@ use borrow.Author.Needs.{needs}
 use Rattle.leaves.proofs.fills.text_of_front.Statement.{statement}
 use Rattle.leaves.proofs.fills.text_of_front.Tie as tie
 
-put-prefix-requires : tie.Need-put-prefix-requires
-put-prefix-requires c κs = search needs
+put-front-requires : tie.Need-put-front-requires
+put-front-requires c κs = search needs
 
 saturating-add-usize-requires : tie.Need-saturating-add-usize-requires
 saturating-add-usize-requires c κs = search needs
@@ -51,7 +51,7 @@ pub text-of-front-spec : {M : Type 1} → statement M
 text-of-front-spec =
     tie.close
     (tie.spec
-    put-prefix-requires
+    put-front-requires
     saturating-add-usize-requires
     no-words-requires
     same-length

@@ -1,14 +1,12 @@
-use mathlib.Core.Path.{_≡_}
-use lib.ListN.{length}
 use borrow.Author.Needs.{needs}
 use Rattle.tiles.proofs.tile.mix_ways.Statement.{statement}
 use Rattle.tiles.proofs.tile.mix_ways.Tie as tie
 
 abbrev Inv-loop : tie.InvT-loop
-Inv-loop digest map at n debug table counts₀ latitudes₀ longitudes₀ out₀ next₀ left₀ counts latitudes longitudes out next left = (length counts ≡ length counts₀) × (length latitudes ≡ length latitudes₀) × (length longitudes ≡ length longitudes₀)
+Inv-loop digest map at n debug table out₀ next₀ left₀ out next left = Unit {0}
 
 abbrev μ-loop : tie.MeasureT-loop
-μ-loop digest map at n debug table counts₀ latitudes₀ longitudes₀ out₀ next₀ left₀ counts latitudes longitudes out next left = left
+μ-loop digest map at n debug table out₀ next₀ left₀ out next left = left
 
 pub mix-ways-spec : {M : Type 1} → statement M
 mix-ways-spec =
@@ -18,12 +16,6 @@ mix-ways-spec =
     μ-loop
     (λ c. search needs)
     (λ c κs. search needs)
-    (λ c. search needs)
-    (λ c. search needs)
-    (λ c. search needs)
-    (λ c. search needs)
-    (λ c. search needs)
-    (λ c. search needs)
     (λ c. search needs)
     (λ c. search needs)
     (λ c. search needs)

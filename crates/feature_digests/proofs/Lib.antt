@@ -1,0 +1,2 @@
+pub mod FeatureLaws
+pub mod SignedLaws

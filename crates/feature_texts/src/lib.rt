@@ -1,0 +1,76 @@
+// tag.rs and tile.rs: the texts of a collected feature in a lent buffer: its tags' strings in the order of its ids, then its name, house
+// number and reference. A text that is absent takes no room.
+use byte_source::SpanRead;
+use text::Written;
+use types::OptionalSpan;
+use types::TagTable;
+ghost use mathlib.Core.Path.{_≡_};
+ghost use Prim.Native.Nat.{_+_, _≤_};
+ghost use lib.ListN.{length};
+ghost use lib.Seq.{sets};
+ghost use Rattle.arithmetic.specs.Cut.{cut};
+ghost use Rattle.text.specs.Utf8.{replaced};
+ghost use Rattle.types.specs.Types.{maybePart};
+ghost use Rattle.tag_table.specs.Tables.{tableIn};
+ghost use Rattle.fetched.specs.Fetched.{bytesOf, walkedName, featureTexts, buffered};
+ghost use Rattle.feature_texts.specs.FeatureTexts.{idTexts, textsIn, writeTexts};
+
+// What a feature's texts are made of.
+pub struct TextParts {
+    pub table: TagTable,
+    pub name: OptionalSpan,
+    pub house_number: OptionalSpan,
+    pub reference: OptionalSpan,
+}
+
+// The stored bytes of a tag's name; none where the walk does not reach it.
+pub fn tag_name(map: &[u8], table: TagTable, id: u64) -> &[u8]
+    ensures { λ r. ⌜ now r ≡ walkedName (tableIn table) (now (map .entry)) id ⌝ }
+{
+    let got = tag_table::tag_text(map, table, id as usize);
+    let SpanRead::Value(span, _) = got else {
+        return &map[..0];
+    };
+    byte_source::span_bytes(map, span)
+}
+
+// The stored bytes of a text; none where it is absent.
+pub fn optional_bytes(map: &[u8], text: OptionalSpan) -> &[u8]
+    ensures { λ r. ⌜ now r ≡ bytesOf (maybePart (now (map .entry)) text) ⌝ }
+{
+    let OptionalSpan::At(span) = text else {
+        return &map[..0];
+    };
+    byte_source::span_bytes(map, span)
+}
+
+// The length of the tags' strings; 2^64 - 1 stands for any larger one.
+fn ids_len(map: &[u8], table: TagTable, ids: &[u64]) -> usize
+    ensures { λ r. ⌜ r ≡ cut (length (idTexts (walkedName (tableIn table) (now (map .entry))) (now (ids .entry)))) ⌝ }
+{
+    let mut len = 0;
+    let mut i = 0;
+    while i < ids.len() {
+        let one = text::replaced_len(tag_name(map, table, ids[i]));
+        len = arithmetic::saturating_add_usize(len, one);
+        i += 1;
+    }
+    len
+}
+
+// The length that a buffer needs for the texts of a feature with these tag ids.
+pub fn texts_len(map: &[u8], ids: &[u64], parts: TextParts) -> usize
+    ensures { λ r. ⌜ r ≡ cut (length (textsIn parts (now (map .entry)) (now (ids .entry)))) ⌝ }
+{
+    let table = parts.table;
+    let len = ids_len(map, table, ids);
+    let text = parts.name;
+    let name = text::replaced_len(optional_bytes(map, text));
+    let text = parts.house_number;
+    let house_number = text::replaced_len(optional_bytes(map, text));
+    let text = parts.reference;
+    let reference = text::replaced_len(optional_bytes(map, text));
+    let len = arithmetic::saturating_add_usize(len, name);
+    let len = arithmetic::saturating_add_usize(len, house_number);
+    arithmetic::saturating_add_usize(len, reference)
+}

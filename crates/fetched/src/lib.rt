@@ -1,0 +1,1 @@
+// What a fetched feature is: definitions alone.

@@ -1,0 +1,43 @@
+-- The replies that a program saw are those of the machine: the contracts of next, accept and decline, one after the other.
+use Prim.Native.Nat.{ℕ}
+use mathlib.Core.Path.{_≡_, refl, ap, _∙_}
+use mathlib.Core.List.{List, [], _∷_}
+use Rattle.format.specs.Lent.{Reply}
+use Rattle.format.specs.Tile.{Point, Head, Body}
+use Rattle.way_data.specs.Reply.{lent}
+use Rattle.tile_layout.specs.TileLayout.{formatOf}
+use Rattle.tile_layout.specs.declared.TileLayout.{TileLayout}
+use Rattle.agreement.specs.Calls.{Answer, Call, next, accept, decline, Step, run, plain}
+use Rattle.agreement.specs.Stream.{State, stream}
+use Rattle.agreement.specs.TileFormat as tile
+use Rattle.visit.specs.Visit.{stateOf, ShownAnswer, shown, shownStep, nextAnswer, acceptStep, declineStep}
+use Rattle.visit.specs.declared.Stream.{Stream}
+use Rattle.map_agreement.specs.Called.{Called, no-call, call-next, call-accept, call-decline}
+
+-- as the machine's replies are shown
+abbrev pub shownReplies : List (Reply (Answer Point Head Body tile.TileEnd)) → List (Reply ShownAnswer)
+shownReplies [] = []
+shownReplies (r ∷ rs) = record { answer = shown (r .answer); lists = r .lists } ∷ shownReplies rs
+
+abbrev ShownStep : Type 0
+ShownStep = Step ShownAnswer (State tile.TileEnd)
+
+-- one step, and the rest
+joined : (m : List ℕ) (l : TileLayout) (rows : ℕ) (ds : List Call) (qs : List (Reply ShownAnswer)) (x : Step (Answer Point Head Body tile.TileEnd) (State tile.TileEnd)) (y : ShownStep)
+    → y ≡ shownStep x → qs ≡ shownReplies (run (stream (formatOf l rows m) m) (y .left) ds)
+    → y .reply ∷ qs ≡ shownReplies (x .reply ∷ run (stream (formatOf l rows m) m) (x .left) ds)
+joined m l rows ds qs x y e q =
+    ap (λ (b : ShownStep). b .reply ∷ qs) e
+    ∙ ap (λ b. shownStep x .reply ∷ b) (q ∙ ap (λ (b : ShownStep). shownReplies (run (stream (formatOf l rows m) m) (b .left) ds)) e)
+
+pub called-run : (m : List ℕ) (l : TileLayout) (rows : ℕ) (s : Stream) (cs : List Call) (rs : List (Reply ShownAnswer)) → Called m l s cs rs → rs ≡ shownReplies (run (stream (formatOf l rows m) m) (stateOf s) cs)
+called-run m l rows s cs rs no-call = refl
+called-run m l rows s cs rs (call-next r {cs = ds} {rs = qs} k c) =
+    joined m l rows ds qs (stream (formatOf l rows m) m (stateOf s) next) (plain (nextAnswer (r .answer) (r .poi) (r .head)) (stateOf (r .stream))) (k rows .answer)
+    (called-run m l rows (r .stream) ds qs c)
+called-run m l rows s cs rs (call-accept r c₀ c la₀ lo₀ la lo {cs = ds} {rs = qs} k d) =
+    joined m l rows ds qs (stream (formatOf l rows m) m (stateOf s) (accept (lent c₀ la₀ lo₀))) (acceptStep r c la lo) (k l rows)
+    (called-run m l rows (r .stream) ds qs d)
+called-run m l rows s cs rs (call-decline r {cs = ds} {rs = qs} k d) =
+    joined m l rows ds qs (stream (formatOf l rows m) m (stateOf s) decline) (declineStep r) (k l rows m)
+    (called-run m l rows (r .stream) ds qs d)

@@ -1,0 +1,59 @@
+-- Demand 3, from the functions' contracts: what a program that opened a map, collected a tile and opened its stream knows, and what then
+-- holds of every list of calls.
+use Prim.Native.Nat.{ℕ, _^_, _<_}
+use mathlib.Core.Path.{_≡_}
+use mathlib.Core.Bool.{true}
+use mathlib.Core.List.{List}
+use lib.ListN.{length}
+use Rattle.format.specs.Header.{Header, opened}
+use Rattle.format.specs.Index.{Grid, Located}
+use Rattle.format.specs.Lent.{Reply}
+use Rattle.types.specs.declared.End.the-variants as end
+use Rattle.types.specs.declared.MapHeader.{MapHeader}
+use Rattle.header.specs.HeaderView.{HeaderIs}
+use Rattle.header.specs.declared.HeaderRead.{HeaderRead}
+use Rattle.tile_layout.specs.TileLayout.{layoutOf}
+use Rattle.agreement.specs.Calls.{Call}
+use Rattle.agreement.specs.Book.{bookReplies}
+use Rattle.agreement.specs.Collected.{StoredTile}
+use Rattle.agreement.specs.MapLayout.{rowsAt}
+use Rattle.agreement.specs.View.{collectedTile}
+use Rattle.agreement.specs.Demand3.{Demand3, MapCollects}
+use Rattle.visit.specs.Visit.{openTile, openRes, ShownAnswer}
+use Rattle.visit.specs.declared.Stream.{Stream}
+use Rattle.visit.specs.declared.OpenRead.{OpenRead}
+use Rattle.visit.specs.declared.OpenRead.the-variants as open-read
+use Rattle.tile.specs.Tile.{collectTile, TileIs}
+use Rattle.tile.specs.declared.TileAnswer.the-variants as tile-answer
+use Rattle.tile.specs.declared.TileRead.{TileRead}
+use Rattle.map_agreement.specs.TileView.{tileCollection}
+use Rattle.map_agreement.specs.MapsforgeMap.{mapsforge}
+use Rattle.map_agreement.specs.Called.{Called}
+
+-- the contracts of `from_source` and `read_tile`, neither of which was refused; and collecting said that every stored size is the
+-- decoded length. (No lent map has 2 ^ 64 bytes.)
+pub record Collected (m : List ℕ) (subFile : ℕ) (grid : Grid) (number : ℕ) (h : HeaderRead) (t : TileRead) : Type 0 where
+  pub small : length m < 2 ^ 64
+  pub header : HeaderIs (opened m) h
+  pub headerEnd : ℕ
+  pub opens : h .end ≡ end.At headerEnd
+  pub tile : TileIs (collectTile (h .header) subFile grid number m) t
+  pub collects : t .answer ≡ tile-answer.Collected
+  pub exact : t .tile .exact ≡ true
+
+-- a stream opens at every zoom
+pub data Opens : OpenRead → Type 0 where
+  opens : (s : Stream) → Opens (open-read.Stream s)
+
+-- The map's stored header and the tile as stored, of which demand 3 holds; the stream opens; and whatever a program calls, it sees the
+-- book's replies.
+pub record BookSays (m : List ℕ) (subFile : ℕ) (grid : Grid) (number : ℕ) (h : MapHeader) : Type 0 where
+  pub stored : Header
+  pub place : Located
+  pub tile : StoredTile (mapsforge subFile grid number .format stored)
+  pub collects : MapCollects (mapsforge subFile grid number) m stored place tile
+  pub demand-3 : Demand3 (mapsforge subFile grid number) m stored place tile
+  pub streams : (zoom : ℕ) (o : OpenRead) → openRes o ≡ openTile h subFile grid number zoom m → Opens o
+  pub replies : (zoom : ℕ) (s : Stream) → openRes (open-read.Stream s) ≡ openTile h subFile grid number zoom m
+      → (cs : List Call) (rs : List (Reply ShownAnswer)) → Called m (layoutOf h) s cs rs
+      → rs ≡ bookReplies tileCollection (collectedTile (mapsforge subFile grid number .view stored) tile (mapsforge subFile grid number .end stored place)) (rowsAt (mapsforge subFile grid number) stored zoom) cs

@@ -1,0 +1,4 @@
+pub mod TileView
+pub mod MapsforgeMap
+pub mod Called
+pub mod BookSays

@@ -1,0 +1,89 @@
+-- What the book of demand 3 is fed of a Mapsforge tile: each feature as it is fetched, together with its texts as stored; and what the
+-- book says of it, which are the fetched fields but for those that a streamed feature lacks (document 01, "The book of demand 3").
+use Prim.Native.Nat.{ℕ}
+use mathlib.Core.Bool.{Bool}
+use mathlib.Core.List.{List}
+use lib.ListN.{length}
+use Rattle.parsing.specs.Parse.{Part, Maybe}
+use Rattle.fetched.specs.Fetched.{listedName, FetchedPoint, fetchedPoint, FetchedWay, fetchedWay}
+use Rattle.format.specs.Streamed.{streamedMaybe}
+use Rattle.format.specs.Tile as format
+use Rattle.types.specs.Types.{nodePosition, optionalPosition, optionalSpan}
+use Rattle.types.specs.declared.OptionalSpan.the-variants as span
+use Rattle.tag.specs.declared.Kind.{Kind}
+use Rattle.tagged.specs.TagIds.{tagIds}
+use Rattle.poi.specs.Poi.{optionalElevation}
+use Rattle.poi.specs.declared.Poi.{Poi}
+use Rattle.visit.specs.Visit.{shownPoint, shownHead, shownBody}
+use Rattle.visit.specs.declared.StreamedHead.{StreamedHead}
+use Rattle.visit.specs.declared.StreamedBody.{StreamedBody}
+use Rattle.agreement.specs.Collected.{Collection}
+use Rattle.agreement.specs.View.{View}
+use Rattle.agreement.specs.TileFormat.{TileEnd, tileFormat}
+
+pub record CollectedPoint : Type 0 where
+  pub fetched : FetchedPoint
+  pub name : Maybe Part
+  pub houseNumber : Maybe Part
+
+pub record CollectedWay : Type 0 where
+  pub fetched : FetchedWay
+  pub name : Maybe Part
+  pub houseNumber : Maybe Part
+  pub reference : Maybe Part
+
+-- a text is its stored bytes, or empty if they are not valid UTF-8
+abbrev pub bookPoint : CollectedPoint → Poi
+bookPoint p = record {
+  signature = span.Absent;
+  position = nodePosition (p .fetched .position);
+  layer = p .fetched .layer;
+  «tag_ids» = tagIds (p .fetched .ids);
+  name = optionalSpan (streamedMaybe (p .name));
+  «house_number» = optionalSpan (streamedMaybe (p .houseNumber));
+  elevation = optionalElevation (p .fetched .elevation);
+}
+
+abbrev pub bookHead : CollectedWay → StreamedHead
+bookHead w = record { bitmap = w .fetched .bitmap; layer = w .fetched .layer; «tag_ids» = tagIds (w .fetched .ids) }
+
+abbrev pub bookBody : CollectedWay → StreamedBody
+bookBody w = record {
+  name = optionalSpan (streamedMaybe (w .name));
+  «house_number» = optionalSpan (streamedMaybe (w .houseNumber));
+  reference = optionalSpan (streamedMaybe (w .reference));
+  «label_position» = optionalPosition (w .fetched .label);
+  blocks = length (w .fetched .lists .counts);
+  nodes = length (w .fetched .lists .latitudes);
+}
+
+abbrev pub tileCollection : Collection
+tileCollection = record {
+  Point = CollectedPoint;
+  Way = CollectedWay;
+  PointAnswer = Poi;
+  HeadAnswer = StreamedHead;
+  BodyAnswer = StreamedBody;
+  EndAnswer = TileEnd;
+  point = bookPoint;
+  head = bookHead;
+  body = bookBody;
+  lists = λ w. w .fetched .lists;
+}
+
+-- `poiNames` and `wayNames` are the header's tag names; what the stream shows is what the contracts of crate visit say
+abbrev pub tileView : (debug : Bool) (rows : ℕ) (poiKinds wayKinds : List Kind) → (poiNames wayNames : List Part) → View (tileFormat debug rows poiKinds wayKinds)
+tileView debug rows poiKinds wayKinds poiNames wayNames = record {
+  collection = tileCollection;
+  collectedPoint = λ p. record { fetched = fetchedPoint (listedName poiNames) p; name = p .name; houseNumber = p .houseNumber };
+  collectedWay = λ w. record {
+    fetched = fetchedWay (listedName wayNames) (w .head) (w .body);
+    name = w .body .fields .name;
+    houseNumber = w .body .fields .houseNumber;
+    reference = w .body .fields .reference;
+  };
+  streamedPoint = shownPoint;
+  streamedHead = shownHead;
+  streamedBody = shownBody;
+  streamedEnd = λ z. z;
+}

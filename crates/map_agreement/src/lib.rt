@@ -1,0 +1,1 @@
+// Demand 3 of Mapsforge maps: definitions and theorems, no code.

@@ -1,0 +1,31 @@
+-- The simplest answers as words (compare/src/answer.rs has the same).
+use Prim.Native.Nat.{ℕ}
+use mathlib.Core.List.{List, [], _∷_}
+use lib.ListN.{take}
+use Rattle.error.specs.Refusals.{numberOf, valuesOf}
+use Rattle.error.specs.declared.Refusal.{Refusal}
+use Rattle.tag.specs.declared.Kind.{Kind}
+use Rattle.tag.specs.declared.Kind.the-variants as kinds
+use Rattle.report.specs.declared.Words.{Words}
+use Rattle.report.specs.Words.{noWords, pushed}
+
+abbrev pub pushedAll : Words → List ℕ → Words
+pushedAll w [] = w
+pushedAll w (x ∷ xs) = pushedAll (pushed w x) xs
+
+-- a success is 0 and its values
+abbrev pub answered : List ℕ → Words
+answered xs = pushedAll (pushed noWords 0) xs
+
+-- a refusal is document 01's number and its values; of the six lengths needed those of the first three lists
+unfoldable pub refusalWords : Refusal → Words
+refusalWords r = pushedAll (pushed noWords (numberOf r)) (take 3 (valuesOf r))
+
+-- Document 01: the letters of the kinds of inline values
+abbrev pub letterOf : Kind → ℕ
+letterOf kinds.Byte = 98
+letterOf kinds.Short = 104
+letterOf kinds.Int = 105
+letterOf kinds.Float = 102
+letterOf kinds.Text = 115
+letterOf kinds.Nothing = 0

@@ -1,0 +1,118 @@
+// The numbers of a question that the runs against the Rust ask, and the simplest answers.
+use byte_source::ByteRead;
+use byte_source::IntRead;
+use byte_source::NumberRead;
+use byte_source::WordRead;
+use error::Lengths;
+use error::Refusal;
+use report::Words;
+use tag::Kind;
+ghost use mathlib.Core.Path.{_≡_};
+ghost use mathlib.Core.Bool.{cond};
+ghost use mathlib.Core.List.{[], _∷_};
+ghost use Rattle.questions.specs.Numbers.{byteAt, numberAt, intAt};
+ghost use Rattle.questions.specs.Answers.{pushedAll, answered, refusalWords, letterOf};
+
+// The numbers that stand at a place of a question; 0 where it ends too early.
+pub fn byte_at(question: &[u8], at: usize) -> u8
+    ensures { λ r. ⌜ r ≡ byteAt (now (question .entry)) at ⌝ }
+{
+    let ByteRead::Value(v, _) = byte_source::read_u8(question, at) else {
+        return 0;
+    };
+    v
+}
+
+pub fn word_at(question: &[u8], at: usize) -> u32
+    ensures { λ r. ⌜ r ≡ numberAt 4 (now (question .entry)) at ⌝ }
+{
+    let WordRead::Value(v, _) = byte_source::read_u32_be(question, at) else {
+        return 0;
+    };
+    v
+}
+
+pub fn number_at(question: &[u8], at: usize) -> u64
+    ensures { λ r. ⌜ r ≡ numberAt 8 (now (question .entry)) at ⌝ }
+{
+    let NumberRead::Value(v, _) = byte_source::read_u64_be(question, at) else {
+        return 0;
+    };
+    v
+}
+
+pub fn int_at(question: &[u8], at: usize) -> i32
+    ensures { λ r. ⌜ r ≡ intAt (now (question .entry)) at ⌝ }
+{
+    let IntRead::Value(v, _) = byte_source::read_i32_be(question, at) else {
+        return 0;
+    };
+    v
+}
+
+fn push_lengths(words: Words, l: Lengths) -> Words
+    ensures { λ r. ⌜ r ≡ pushedAll words (l .list1 ∷ l .list2 ∷ l .list3 ∷ []) ⌝ }
+{
+    report::push(report::push(report::push(words, l.list1), l.list2), l.list3)
+}
+
+// A refusal: its number, and its values.
+pub fn refusal_words(refusal: Refusal) -> Words
+    ensures { λ r. ⌜ r ≡ refusalWords refusal ⌝ }
+{
+    let words = report::push(report::no_words(), error::number_of(refusal) as u64);
+    match refusal {
+        Refusal::UnsupportedVersion(v) => report::push(words, v as u64),
+        Refusal::InvalidTagId(i) => report::push(words, i),
+        Refusal::TooShort(l) => push_lengths(words, l),
+        _ => words,
+    }
+}
+
+// A success is 0 and its values.
+pub fn zero() -> Words
+    ensures { λ r. ⌜ r ≡ answered [] ⌝ }
+{
+    report::push(report::no_words(), 0)
+}
+
+pub fn one(a: u64) -> Words
+    ensures { λ r. ⌜ r ≡ answered (a ∷ []) ⌝ }
+{
+    report::push(zero(), a)
+}
+
+pub fn two(a: u64, b: u64) -> Words
+    ensures { λ r. ⌜ r ≡ answered (a ∷ b ∷ []) ⌝ }
+{
+    report::push(one(a), b)
+}
+
+pub fn three(a: u64, b: u64, c: u64) -> Words
+    ensures { λ r. ⌜ r ≡ answered (a ∷ b ∷ c ∷ []) ⌝ }
+{
+    report::push(two(a, b), c)
+}
+
+pub fn flag(b: bool) -> u64
+    ensures { λ r. ⌜ r ≡ cond b 1 0 ⌝ }
+{
+    if b {
+        return 1;
+    }
+    0
+}
+
+// The letter of an inline value's kind, and 0 for none.
+pub fn letter_of(kind: Kind) -> u64
+    ensures { λ r. ⌜ r ≡ letterOf kind ⌝ }
+{
+    match kind {
+        Kind::Byte => 98,
+        Kind::Short => 104,
+        Kind::Int => 105,
+        Kind::Float => 102,
+        Kind::Text => 115,
+        Kind::Nothing => 0,
+    }
+}
