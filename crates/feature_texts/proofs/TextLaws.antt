@@ -58,7 +58,7 @@ module _ (f : ℕ → List ℕ) (ids : List ℕ) (len i : ℕ) where
         let a = length (replaced s) in
         let r = length (idTexts f (drop (i + 1) ids)) in
         let w : cut (len + length (idTexts f (drop i ids))) ≡ cut (len + (a + r)) =
-            rw (drop-cons ids i d b, length-append (replaced (f (getD ids i d))) (idTexts f (drop (suc i) ids)), ← h, add-one i) refl in
+        rw (drop-cons ids i d b, length-append (replaced (f (getD ids i d))) (idTexts f (drop (suc i) ids)), ← h, add-one i) refl in
         let u : cut (next + r) ≡ cut (len + (a + r)) = sums len a r one next k n in
         u ∙ sym w ∙ e
       where

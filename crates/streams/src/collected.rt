@@ -1,6 +1,7 @@
 // A collected tile: its zoom table, first-way offset and counts, whether every stored size is right, and its signature.
+use crate::out;
+use crate::out::Out;
 use crate::place::Place;
-use lines::Out;
 use tile::Tile;
 use tile::TileAnswer;
 use types::MapHeader;
@@ -13,7 +14,7 @@ fn rows(to: Out, tile: Tile) -> Out {
     while i < 256 {
         if i < count {
             let row = table[i];
-            to = lines::number(lines::number(lines::say(to, b" :"), row.points), row.ways);
+            to = out::number(out::number(out::say(to, b" :"), row.points), row.ways);
         }
         i += 1;
     }
@@ -22,23 +23,23 @@ fn rows(to: Out, tile: Tile) -> Out {
 
 fn exact(to: Out, exact: bool) -> Out {
     if exact {
-        return lines::say(to, b" exact");
+        return out::say(to, b" exact");
     }
-    lines::say(to, b" inexact")
+    out::say(to, b" inexact")
 }
 
 fn line(to: Out, map: &[u8], tile: Tile) -> Out {
-    let to = rows(lines::say(to, b"collected"), tile);
-    let to = lines::number(lines::say(to, b" first"), tile.first_way_offset);
-    let to = lines::number(lines::say(to, b" points"), tile.points);
-    let to = lines::number(lines::say(to, b" ways"), tile.ways);
+    let to = rows(out::say(to, b"collected"), tile);
+    let to = out::number(out::say(to, b" first"), tile.first_way_offset);
+    let to = out::number(out::say(to, b" points"), tile.points);
+    let to = out::number(out::say(to, b" ways"), tile.ways);
     let signature = tile.signature;
-    let to = lines::text(
-        lines::say(exact(to, tile.exact), b" signature"),
+    let to = out::text(
+        out::say(exact(to, tile.exact), b" signature"),
         map,
         signature,
     );
-    lines::say(to, b"\n")
+    out::say(to, b"\n")
 }
 
 pub(crate) fn tile(shown: bool, map: &[u8], h: MapHeader, place: Place) -> Out {
@@ -47,7 +48,7 @@ pub(crate) fn tile(shown: bool, map: &[u8], h: MapHeader, place: Place) -> Out {
     let answer = got.answer;
     let read = got.tile;
     match answer {
-        TileAnswer::Collected => line(lines::start(shown), map, read),
-        TileAnswer::Refused(r) => lines::refused(lines::start(shown), r),
+        TileAnswer::Collected => line(out::start(shown), map, read),
+        TileAnswer::Refused(r) => out::refused(out::start(shown), r),
     }
 }

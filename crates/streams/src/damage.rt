@@ -1,9 +1,9 @@
 // The tile of cut and damaged copies of the base map, and of every zoom, each in one digest.
 use crate::collected;
+use crate::out::Out;
 use crate::place;
 use crate::place::Place;
 use crate::streamed;
-use lines::Out;
 use types::MapHeader;
 
 // What is asked of a copy: 0 to collect, or a policy's number + 1.

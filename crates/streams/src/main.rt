@@ -1,9 +1,11 @@
 // Replays the Rust's streams and collected counts without any Rust. Standard input is a list of records: a letter for what is asked, the
 // length of the question in 4 bytes, the question. Each answer is a line, or one for each feature and a line behind them;
 // `compare/run streams-sample` writes both sides.
+mod answers;
 mod collected;
 mod damage;
 mod lists;
+mod out;
 mod place;
 mod streamed;
 
@@ -14,12 +16,12 @@ use types::End;
 use types::MapHeader;
 
 fn say(text: &[u8]) {
-    lines::say(lines::start(true), text);
+    out::say(out::start(true), text);
 }
 
 fn print_digest(letter: &[u8], digest: u64) {
-    let to = lines::say(lines::say(lines::start(true), letter), b" ");
-    lines::say(lines::hex(to, digest, 16), b"\n");
+    let to = out::say(out::say(out::start(true), letter), b" ");
+    out::say(out::hex(to, digest, 16), b"\n");
 }
 
 fn print_collected(map: &[u8], h: MapHeader, question: &[u8]) {
@@ -51,7 +53,7 @@ fn print_opening(end: End) {
     match end {
         End::At(_) => say(b"M open\n"),
         End::Refused(r) => {
-            lines::refused(lines::say(lines::start(true), b"M "), r);
+            out::refused(out::say(out::start(true), b"M "), r);
         }
     }
 }

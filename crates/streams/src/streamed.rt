@@ -1,8 +1,10 @@
 // A tile's stream under a policy, which says what ways are accepted.
+use crate::answers;
 use crate::lists;
+use crate::out;
+use crate::out::Out;
 use crate::place::Place;
 use error::Refusal;
-use lines::Out;
 use poi::Poi;
 use tile_layout::TileLayout;
 use types::MapHeader;
@@ -56,7 +58,7 @@ fn with_point(told: Told, map: &[u8], poi: Poi) -> Told {
         points: one_more(told.points),
         heads: told.heads,
         accepted: told.accepted,
-        out: lines::point(to, map, poi),
+        out: answers::point(to, map, poi),
         ending,
     }
 }
@@ -68,7 +70,7 @@ fn with_head(told: Told, head: StreamedHead) -> Told {
         points: told.points,
         heads: one_more(told.heads),
         accepted: told.accepted,
-        out: lines::head(to, head),
+        out: answers::head(to, head),
         ending,
     }
 }
@@ -88,7 +90,7 @@ fn with_body(
         points: told.points,
         heads: told.heads,
         accepted: one_more(told.accepted),
-        out: lines::body(to, map, layer, body, counts, latitudes, longitudes),
+        out: answers::body(to, map, layer, body, counts, latitudes, longitudes),
         ending,
     }
 }
@@ -100,7 +102,7 @@ fn with_declined(told: Told) -> Told {
         points: told.points,
         heads: told.heads,
         accepted: told.accepted,
-        out: lines::declined(to),
+        out: answers::declined(to),
         ending,
     }
 }
@@ -111,7 +113,7 @@ fn with_end(told: Told, end: TileEnd) -> Told {
         points: told.points,
         heads: told.heads,
         accepted: told.accepted,
-        out: lines::end(to, end),
+        out: answers::end(to, end),
         ending: Ending::End(end),
     }
 }
@@ -122,7 +124,7 @@ fn with_refusal(told: Told, refusal: Refusal) -> Told {
         points: told.points,
         heads: told.heads,
         accepted: told.accepted,
-        out: lines::refused(to, refusal),
+        out: out::refused(to, refusal),
         ending: Ending::Refused(refusal),
     }
 }
@@ -321,7 +323,7 @@ pub(crate) fn tile(
         points: 0,
         heads: 0,
         accepted: 0,
-        out: lines::start(shown),
+        out: out::start(shown),
         ending: Ending::Going,
     };
     let grid = place.grid;
@@ -336,16 +338,16 @@ pub(crate) fn tile(
 
 // A line of the counts and the digest, and how the stream ended.
 pub(crate) fn print(letter: &[u8], told: Told) {
-    let to = lines::say(lines::start(true), letter);
-    let to = lines::number(lines::number(to, told.points), told.heads);
-    let to = lines::number(to, told.accepted);
+    let to = out::say(out::start(true), letter);
+    let to = out::number(out::number(to, told.points), told.heads);
+    let to = out::number(to, told.accepted);
     let printed = told.out;
-    let to = lines::say(lines::hex(lines::say(to, b" "), printed.digest, 16), b" ");
+    let to = out::say(out::hex(out::say(to, b" "), printed.digest, 16), b" ");
     let ending = told.ending;
     match ending {
-        Ending::Going => lines::say(to, b"going\n"),
-        Ending::End(end) => lines::end(to, end),
-        Ending::Refused(r) => lines::refused(to, r),
+        Ending::Going => out::say(to, b"going\n"),
+        Ending::End(end) => answers::end(to, end),
+        Ending::Refused(r) => out::refused(to, r),
     }
     ;
 }

@@ -67,8 +67,10 @@ module _ (m : List ℕ) (l : TileLayout) (at : ℕ) (g : WayHeadRead) (b : HeadI
   read = head (l .debug) (tagKinds (tableIn (l .«way_tags»)) m) m at
 
   pub way-stops : (x y : Refusal) → g .end ≡ end.Refused x → y ≡ endRefusal (g .end) → ForAllRows (exactWay l m at) (refused y)
-  way-stops x y h w = record { each = λ rows.
-      ap refused (w ∙ ap endRefusal h) ∙ sym (way-no-head (formatOf l rows m) m at (stopped read (sym (b .answer) ∙ ap (endRes (g .head)) h))) }
+  way-stops x y h w = record {
+    each = λ rows.
+        ap refused (w ∙ ap endRefusal h) ∙ sym (way-no-head (formatOf l rows m) m at (stopped read (sym (b .answer) ∙ ap (endRes (g .head)) h)));
+  }
     where
       stopped : (r : Res Head) → mapRes headOf r ≡ refused x → r ≡ refused x
       stopped (ok a e) d = no-ok (sym d)
@@ -93,9 +95,11 @@ module _ (m : List ℕ) (l : TileLayout) (at : ℕ) (g : WayHeadRead) (b : HeadI
 
     module _ (w : WayBodyRead) (q : bodyRes w ≡ mapRes bodyOf (body m n)) where
       pub body-stops : (x y : Refusal) → w ≡ body-read.Refused x → y ≡ bodyRefusal w → ForAllRows (exactWay l m at) (refused y)
-      body-stops x y d z = record { each = λ rows.
-          ap refused (z ∙ ap bodyRefusal d)
-          ∙ sym (way-no-body (formatOf l rows m) m bodyOf (g .head .size) n at (viewed (λ (a : WayHead). a .size) read seen) (sym q ∙ ap bodyRes d)) }
+      body-stops x y d z = record {
+        each = λ rows.
+            ap refused (z ∙ ap bodyRefusal d)
+            ∙ sym (way-no-body (formatOf l rows m) m bodyOf (g .head .size) n at (viewed (λ (a : WayHead). a .size) read seen) (sym q ∙ ap bodyRes d));
+      }
 
       module _ (v : WayBody) (k : ℕ) (d : w ≡ body-read.Value v k) where
         -- a way ends behind its data start
@@ -107,8 +111,10 @@ module _ (m : List ℕ) (l : TileLayout) (at : ℕ) (g : WayHeadRead) (b : HeadI
             ends (no x y) f c = no-ok c
 
         pub way-ends : ForAllRows (exactWay l m at) (ok (eqb (g .head .size) (k - g .head .start)) k)
-        way-ends = record { each = λ rows.
-            sym (way-exact (formatOf l rows m) m bodyOf (g .head .size) n at (g .head .start) (viewed (λ (a : WayHead). a .size) read seen) (viewed (λ (a : WayHead). a .start) read seen) (sym q ∙ ap bodyRes d)) }
+        way-ends = record {
+          each = λ rows.
+              sym (way-exact (formatOf l rows m) m bodyOf (g .head .size) n at (g .head .start) (viewed (λ (a : WayHead). a .size) read seen) (viewed (λ (a : WayHead). a .start) read seen) (sym q ∙ ap bodyRes d));
+        }
 
 pub ruleset way-reads = (needs, way-stops, body-stops, length-fits, way-ends)
 
@@ -129,8 +135,10 @@ module _ (m : List ℕ) (l : TileLayout) (i at n : ℕ) (all : Bool) (e : ForAll
     ways-more b c k h w = record { each = λ rows. ap (λ x. ok x k) w ∙ sym (exact-more (formatOf l rows m) m i at (sym (e .each rows)) (sym (q .each rows) ∙ ap waysRes h)) }
 
     pub ways-no : (k : ℕ) (x y : Refusal) → g ≡ ways.Refused x → y ≡ waysRefusal g → i < k → ForAllRows (exactWays l m k at) (refused y)
-    ways-no k x y h w b = record { each = λ rows.
-        ap refused (w ∙ ap waysRefusal h) ∙ sym (exact-no (formatOf l rows m) m i k at (sym (e .each rows)) (sym (q .each rows) ∙ ap waysRes h) b) }
+    ways-no k x y h w b = record {
+      each = λ rows.
+          ap refused (w ∙ ap waysRefusal h) ∙ sym (exact-no (formatOf l rows m) m i k at (sym (e .each rows)) (sym (q .each rows) ∙ ap waysRes h) b);
+    }
 
   pub ways-done : (k : ℕ) → i ≤ k → k ≤ i → ForAllRows (exactWays l m k at) (ok all n)
   ways-done k b b′ = let z : i ≡ k = omega arith in rw z at e

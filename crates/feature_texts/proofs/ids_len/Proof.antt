@@ -10,7 +10,7 @@ use Rattle.feature_texts.proofs.ids_len.Statement.{statement}
 use Rattle.feature_texts.proofs.ids_len.Tie as tie
 
 abbrev Inv-loop : tie.InvT-loop
-Inv-loop map table ids len₀ i₀ len i = 
+Inv-loop map table ids len₀ i₀ len i =
     (i ≤ length ids) × (len < 2 ^ 64) × (cut (len + length (idTexts (walkedName (tableIn table) map) (drop i ids))) ≡ cut (length (idTexts (walkedName (tableIn table) map) ids)))
 
 abbrev μ-loop : tie.MeasureT-loop

@@ -6,7 +6,7 @@ use Rattle.tile_walk.proofs.measure_ways.Statement.{statement}
 use Rattle.tile_walk.proofs.measure_ways.Tie as tie
 
 abbrev Inv-loop : tie.InvT-loop
-Inv-loop map at n layout all₀ next₀ i₀ all next i = 
+Inv-loop map at n layout all₀ next₀ i₀ all next i =
     (i ≤ n) × ForAllRows (exactWays layout map i at) (ok all next)
 
 abbrev μ-loop : tie.MeasureT-loop

@@ -10,7 +10,7 @@ use Rattle.tile_walk.proofs.pass_points.Statement.{statement}
 use Rattle.tile_walk.proofs.pass_points.Tie as tie
 
 abbrev Inv-loop : tie.InvT-loop
-Inv-loop map at n layout next₀ i₀ next i = 
+Inv-loop map at n layout next₀ i₀ next i =
     (i ≤ n) × (mapRes length (many (point (layout .debug) (tagKinds (tableIn (layout .«poi_tags»)) map)) i map at) ≡ ok i next)
 
 abbrev μ-loop : tie.MeasureT-loop

@@ -41,7 +41,7 @@ fn elevation(to: Out, elevation: OptionalElevation) -> Out {
     }
 }
 
-pub fn point(to: Out, map: &[u8], p: Poi) -> Out {
+pub(crate) fn point(to: Out, map: &[u8], p: Poi) -> Out {
     let position = p.position;
     let ids = p.tag_ids;
     let name = p.name;
@@ -54,13 +54,13 @@ pub fn point(to: Out, map: &[u8], p: Poi) -> Out {
     out::say(elevation(out::say(to, b" elevation"), height), b"\n")
 }
 
-pub fn head(to: Out, head: StreamedHead) -> Out {
+pub(crate) fn head(to: Out, head: StreamedHead) -> Out {
     let ids = head.tag_ids;
     let to = out::hex(out::say(to, b"way "), head.bitmap as u64, 4);
     out::say(tags(to, ids), b"\n")
 }
 
-pub fn declined(to: Out) -> Out {
+pub(crate) fn declined(to: Out) -> Out {
     out::say(to, b"declined\n")
 }
 
@@ -121,7 +121,7 @@ fn blocks(to: Out, blocks: usize, counts: &[u64], latitudes: &[f64], longitudes:
 }
 
 // The layer is the head's: the Rust tells it only with the body.
-pub fn body(
+pub(crate) fn body(
     to: Out,
     map: &[u8],
     of: i8,
@@ -144,7 +144,7 @@ pub fn body(
     out::say(to, b"\n")
 }
 
-pub fn end(to: Out, end: TileEnd) -> Out {
+pub(crate) fn end(to: Out, end: TileEnd) -> Out {
     let to = out::number(out::say(to, b"end"), end.sub_file as u64);
     if end.is_water {
         return out::say(to, b" water\n");

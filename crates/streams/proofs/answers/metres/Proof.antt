@@ -1,7 +1,7 @@
 use Rattle.report.proofs.WordLaws.{wide-fits}
 use borrow.Author.Needs.{needs}
-use Rattle.lines.proofs.answers.metres.Statement.{statement}
-use Rattle.lines.proofs.answers.metres.Tie as tie
+use Rattle.streams.proofs.answers.metres.Statement.{statement}
+use Rattle.streams.proofs.answers.metres.Tie as tie
 
 pub metres-spec : {M : Type 1} → statement M
 metres-spec =

@@ -8,19 +8,19 @@ use types::OptionalPosition;
 use types::OptionalSpan;
 use types::Position;
 
-pub struct Out {
-    pub shown: bool,
-    pub digest: u64,
+pub(crate) struct Out {
+    pub(crate) shown: bool,
+    pub(crate) digest: u64,
 }
 
-pub fn start(shown: bool) -> Out {
+pub(crate) fn start(shown: bool) -> Out {
     Out {
         shown,
         digest: 14695981039346656037,
     }
 }
 
-pub fn say(out: Out, bytes: &[u8]) -> Out {
+pub(crate) fn say(out: Out, bytes: &[u8]) -> Out {
     if out.shown {
         io::write_all(STDOUT_FILENO, bytes);
     }
@@ -30,19 +30,19 @@ pub fn say(out: Out, bytes: &[u8]) -> Out {
     }
 }
 
-pub fn decimal(out: Out, n: u64) -> Out {
+pub(crate) fn decimal(out: Out, n: u64) -> Out {
     let mut digits = [0u8; 20];
     let size = io::decimal(n, &mut digits);
     say(out, &digits[..size])
 }
 
 // A space and a number.
-pub fn number(out: Out, n: u64) -> Out {
+pub(crate) fn number(out: Out, n: u64) -> Out {
     decimal(say(out, b" "), n)
 }
 
 // A space, a minus if there is one, and the magnitude.
-pub fn signed(out: Out, v: i64) -> Out {
+pub(crate) fn signed(out: Out, v: i64) -> Out {
     let out = say(out, b" ");
     if report::sign(v) == 1 {
         return decimal(say(out, b"-"), report::magnitude(v));
@@ -51,22 +51,22 @@ pub fn signed(out: Out, v: i64) -> Out {
 }
 
 // Digits in base 16, at least as many as the width.
-pub fn hex(out: Out, n: u64, width: usize) -> Out {
+pub(crate) fn hex(out: Out, n: u64, width: usize) -> Out {
     let mut digits = [0u8; 16];
     let size = io::hex(n, width, &mut digits);
     say(out, &digits[..size])
 }
 
 // A space and the 16 digits of a float's bits.
-pub fn float(out: Out, x: f64) -> Out {
+pub(crate) fn float(out: Out, x: f64) -> Out {
     hex(say(out, b" "), report::float_bits(x), 16)
 }
 
-pub fn position(out: Out, p: Position) -> Out {
+pub(crate) fn position(out: Out, p: Position) -> Out {
     float(float(out, p.latitude), p.longitude)
 }
 
-pub fn label(out: Out, label: OptionalPosition) -> Out {
+pub(crate) fn label(out: Out, label: OptionalPosition) -> Out {
     match label {
         OptionalPosition::Absent => say(out, b" -"),
         OptionalPosition::At(p) => position(out, p),
@@ -100,7 +100,7 @@ fn span(out: Out, map: &[u8], span: Span) -> Out {
     quoted(out, byte_source::span_bytes(map, span))
 }
 
-pub fn text(out: Out, map: &[u8], text: OptionalSpan) -> Out {
+pub(crate) fn text(out: Out, map: &[u8], text: OptionalSpan) -> Out {
     match text {
         OptionalSpan::Absent => say(out, b" -"),
         OptionalSpan::At(part) => span(out, map, part),
@@ -112,7 +112,7 @@ fn lengths(out: Out, l: Lengths) -> Out {
 }
 
 // A refusal's number and its values.
-pub fn refusal(out: Out, r: Refusal) -> Out {
+pub(crate) fn refusal(out: Out, r: Refusal) -> Out {
     let out = number(out, error::number_of(r) as u64);
     match r {
         Refusal::UnsupportedVersion(v) => number(out, v as u64),
@@ -123,6 +123,6 @@ pub fn refusal(out: Out, r: Refusal) -> Out {
 }
 
 // A line of a refusal.
-pub fn refused(out: Out, r: Refusal) -> Out {
+pub(crate) fn refused(out: Out, r: Refusal) -> Out {
     say(refusal(say(out, b"refused"), r), b"\n")
 }

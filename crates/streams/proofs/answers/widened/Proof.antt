@@ -1,7 +1,7 @@
 use Rattle.report.proofs.WordLaws.{byte-fits}
 use borrow.Author.Needs.{needs}
-use Rattle.lines.proofs.answers.widened.Statement.{statement}
-use Rattle.lines.proofs.answers.widened.Tie as tie
+use Rattle.streams.proofs.answers.widened.Statement.{statement}
+use Rattle.streams.proofs.answers.widened.Tie as tie
 
 pub widened-spec : {M : Type 1} → statement M
 widened-spec =

@@ -1,8 +1,8 @@
 use Prim.Native.Nat.{_-_, _≤_}
 use lib.ListN.{length}
 use borrow.Author.Needs.{needs}
-use Rattle.lines.proofs.out.quoted.Statement.{statement}
-use Rattle.lines.proofs.out.quoted.Tie as tie
+use Rattle.streams.proofs.out.quoted.Statement.{statement}
+use Rattle.streams.proofs.out.quoted.Tie as tie
 
 abbrev Inv-loop : tie.InvT-loop
 Inv-loop bytes out₀ i₀ t6 out i = i ≤ length bytes

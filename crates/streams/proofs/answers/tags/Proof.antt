@@ -1,7 +1,7 @@
 use Prim.Native.Nat.{_-_, _≤_}
 use borrow.Author.Needs.{needs}
-use Rattle.lines.proofs.answers.tags.Statement.{statement}
-use Rattle.lines.proofs.answers.tags.Tie as tie
+use Rattle.streams.proofs.answers.tags.Statement.{statement}
+use Rattle.streams.proofs.answers.tags.Tie as tie
 
 abbrev Inv-loop : tie.InvT-loop
 Inv-loop ids count to₀ i₀ to i = i ≤ 15

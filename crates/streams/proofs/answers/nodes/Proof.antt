@@ -1,7 +1,7 @@
 use Prim.Native.Nat.{_-_}
 use borrow.Author.Needs.{needs}
-use Rattle.lines.proofs.answers.nodes.Statement.{statement}
-use Rattle.lines.proofs.answers.nodes.Tie as tie
+use Rattle.streams.proofs.answers.nodes.Statement.{statement}
+use Rattle.streams.proofs.answers.nodes.Tie as tie
 
 abbrev Inv-loop : tie.InvT-loop
 Inv-loop from end latitudes longitudes few to₀ digest₀ i₀ t12 to digest i = Unit {0}

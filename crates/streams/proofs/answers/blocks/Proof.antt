@@ -1,8 +1,8 @@
 use Prim.Native.Nat.{_-_, _≤_}
 use lib.ListN.{length}
 use borrow.Author.Needs.{needs}
-use Rattle.lines.proofs.answers.blocks.Statement.{statement}
-use Rattle.lines.proofs.answers.blocks.Tie as tie
+use Rattle.streams.proofs.answers.blocks.Statement.{statement}
+use Rattle.streams.proofs.answers.blocks.Tie as tie
 
 abbrev Inv-loop : tie.InvT-loop
 Inv-loop blocks counts latitudes longitudes to₀ from₀ i₀ t11 to from i = i ≤ length counts
