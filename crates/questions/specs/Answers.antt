@@ -4,8 +4,6 @@ use mathlib.Core.List.{List, [], _∷_}
 use lib.ListN.{take}
 use Rattle.error.specs.Refusals.{numberOf, valuesOf}
 use Rattle.error.specs.declared.Refusal.{Refusal}
-use Rattle.tag.specs.declared.Kind.{Kind}
-use Rattle.tag.specs.declared.Kind.the-variants as kinds
 use Rattle.report.specs.declared.Words.{Words}
 use Rattle.report.specs.Words.{noWords, pushed}
 
@@ -20,12 +18,3 @@ answered xs = pushedAll (pushed noWords 0) xs
 -- a refusal is document 01's number and its values; of the six lengths needed those of the first three lists
 unfoldable pub refusalWords : Refusal → Words
 refusalWords r = pushedAll (pushed noWords (numberOf r)) (take 3 (valuesOf r))
-
--- Document 01: the letters of the kinds of inline values
-abbrev pub letterOf : Kind → ℕ
-letterOf kinds.Byte = 98
-letterOf kinds.Short = 104
-letterOf kinds.Int = 105
-letterOf kinds.Float = 102
-letterOf kinds.Text = 115
-letterOf kinds.Nothing = 0

@@ -11,7 +11,8 @@ ghost use mathlib.Core.Path.{_≡_};
 ghost use mathlib.Core.Bool.{cond};
 ghost use mathlib.Core.List.{[], _∷_};
 ghost use Rattle.questions.specs.Numbers.{byteAt, numberAt, intAt};
-ghost use Rattle.questions.specs.Answers.{pushedAll, answered, refusalWords, letterOf};
+ghost use Rattle.tag.specs.Tag.{letterOf};
+ghost use Rattle.questions.specs.Answers.{pushedAll, answered, refusalWords};
 
 // The numbers that stand at a place of a question; 0 where it ends too early.
 pub fn byte_at(question: &[u8], at: usize) -> u8
@@ -56,7 +57,7 @@ fn push_lengths(words: Words, l: Lengths) -> Words
     report::push(report::push(report::push(words, l.list1), l.list2), l.list3)
 }
 
-// A refusal: its number, and its values.
+// A refusal: its number, and its values; of the lengths needed those of the first three lists.
 pub fn refusal_words(refusal: Refusal) -> Words
     ensures { λ r. ⌜ r ≡ refusalWords refusal ⌝ }
 {
