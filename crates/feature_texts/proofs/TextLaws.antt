@@ -20,12 +20,11 @@ use Rattle.byte_source.specs.declared.SpanRead.the-variants as span
 use Rattle.text.specs.Utf8.{bytesOfAll, replaced}
 use Rattle.text.proofs.Utf8Laws.{sequences-end}
 use Rattle.format.specs.TagTable.{Table, tagText}
-use Rattle.format.specs.WayData.{concat}
 use Rattle.types.specs.Types.{maybePart}
 use Rattle.types.specs.declared.OptionalSpan.{OptionalSpan}
 use Rattle.types.specs.declared.OptionalSpan.the-variants.{Absent, At}
-use Rattle.fetched.specs.Fetched.{bytesOf, foundBytes, walkedName, present, featureTexts, buffered}
-use Rattle.feature_texts.specs.FeatureTexts.{idTexts, textsIn}
+use Rattle.fetched.specs.Fetched.{bytesOf, foundBytes, walkedName, idTexts, present, buffered}
+use Rattle.feature_texts.specs.FeatureTexts.{textsIn}
 use Rattle.feature_texts.specs.declared.TextParts.{TextParts}
 use Rattle.tag_table.specs.Tables.{tableIn}
 
@@ -74,26 +73,17 @@ module _ (f : ℕ → List ℕ) (ids : List ℕ) (len i : ℕ) where
 
 pub ruleset lengths = (needs, len-start, len-more, len-done, cut-small)
 
--- the other texts behind the tags' strings
-concat-append : {A : Type 0} (x y : List (List A)) → concat (x ++ y) ≡ concat x ++ concat y
-concat-append [] y = refl
-concat-append (b ∷ x) y = rw (concat-append x y, append-assoc)
-
+-- a text that is there, or not
 replaced-nil : replaced [] ≡ []
 unfolding bytesOfAll
 replaced-nil = ap (λ ps. bytesOfAll ps []) (sequences-end [] 0 (omega arith))
 
-present-bytes : (o : Maybe Part) → concat (present o) ≡ replaced (bytesOf o)
+pub present-bytes : (o : Maybe Part) → present o ≡ replaced (bytesOf o)
 present-bytes none = sym replaced-nil
-present-bytes (some p) = append-nil (replaced (p .bytes))
+present-bytes (some p) = refl
 
-pub texts-are : (f : ℕ → List ℕ) (ids : List ℕ) (n h r : Maybe Part) → buffered (featureTexts f ids n h r) ≡ idTexts f ids ++ replaced (bytesOf n) ++ replaced (bytesOf h) ++ replaced (bytesOf r)
-texts-are f ids n h r =
-    let l = map (λ i. replaced (f i)) ids in
-    concat-append (l ++ present n ++ present h) (present r)
-    ∙ ap (λ x. x ++ concat (present r)) (concat-append (l ++ present n) (present h))
-    ∙ ap (λ x. x ++ concat (present h) ++ concat (present r)) (concat-append l (present n))
-    ∙ rw (present-bytes n, present-bytes h, present-bytes r)
+pub texts-are : (f : ℕ → List ℕ) (ids : List ℕ) (n h r : Maybe Part) → buffered f ids n h r ≡ idTexts f ids ++ replaced (bytesOf n) ++ replaced (bytesOf h) ++ replaced (bytesOf r)
+texts-are f ids n h r = rw (present-bytes n, present-bytes h, present-bytes r)
 
 -- the sum of four lengths, each cut
 sum-of : (A B a b x : ℕ) → a ≡ cut A → b ≡ cut B → x ≡ cut (a + b) → x ≡ cut (A + B)

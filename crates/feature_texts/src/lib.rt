@@ -12,8 +12,8 @@ ghost use Rattle.arithmetic.specs.Cut.{cut};
 ghost use Rattle.text.specs.Utf8.{replaced};
 ghost use Rattle.types.specs.Types.{maybePart};
 ghost use Rattle.tag_table.specs.Tables.{tableIn};
-ghost use Rattle.fetched.specs.Fetched.{bytesOf, walkedName, featureTexts, buffered};
-ghost use Rattle.feature_texts.specs.FeatureTexts.{idTexts, textsIn, writeTexts};
+ghost use Rattle.fetched.specs.Fetched.{bytesOf, walkedName, idTexts};
+ghost use Rattle.feature_texts.specs.FeatureTexts.{textsIn, writeTexts};
 
 // What a feature's texts are made of.
 pub struct TextParts {
@@ -73,4 +73,59 @@ pub fn texts_len(map: &[u8], ids: &[u64], parts: TextParts) -> usize
     let len = arithmetic::saturating_add_usize(len, name);
     let len = arithmetic::saturating_add_usize(len, house_number);
     arithmetic::saturating_add_usize(len, reference)
+}
+
+// A text in a buffer that has room for it; the place behind it.
+fn put(bytes: &[u8], buffer: &mut [u8], at: usize) -> usize
+    requires { ⌜ at + length (replaced (now bytes)) ≤ length (now buffer) ⌝ }
+    ensures { λ r. ⌜ (r ≡ at + length (replaced (now (bytes .entry)))) × (now (buffer .exit) ≡ sets (now (buffer .entry)) at (replaced (now (bytes .entry)))) ⌝ }
+{
+    let got = text::write_replaced(bytes, buffer, at);
+    let Written::Upto(next) = got else {
+        return at;
+    };
+    next
+}
+
+// The tags' strings at the front of a buffer that has room for them; the place behind them.
+fn put_ids(map: &[u8], table: TagTable, ids: &[u64], buffer: &mut [u8]) -> usize
+    requires { ⌜ length (idTexts (walkedName (tableIn table) (now map)) (now ids)) ≤ length (now buffer) ⌝ }
+    ensures { λ r. ⌜ (r ≡ length (idTexts (walkedName (tableIn table) (now (map .entry))) (now (ids .entry)))) × (now (buffer .exit) ≡ sets (now (buffer .entry)) 0 (idTexts (walkedName (tableIn table) (now (map .entry))) (now (ids .entry)))) ⌝ }
+{
+    let mut at = 0;
+    let mut i = 0;
+    while i < ids.len() {
+        at = put(tag_name(map, table, ids[i]), buffer, at);
+        i += 1;
+    }
+    at
+}
+
+// All texts at the front of a buffer that has room for them.
+fn put_texts(map: &[u8], ids: &[u64], parts: TextParts, buffer: &mut [u8])
+    requires { ⌜ length (textsIn parts (now map) (now ids)) ≤ length (now buffer) ⌝ }
+    ensures { λ r. ⌜ now (buffer .exit) ≡ sets (now (buffer .entry)) 0 (textsIn parts (now (map .entry)) (now (ids .entry))) ⌝ }
+{
+    let table = parts.table;
+    let at = put_ids(map, table, ids, buffer);
+    let text = parts.name;
+    let at = put(optional_bytes(map, text), buffer, at);
+    let text = parts.house_number;
+    let at = put(optional_bytes(map, text), buffer, at);
+    let text = parts.reference;
+    put(optional_bytes(map, text), buffer, at);
+}
+
+// Writes the texts of a feature with these tag ids to the front of a buffer, if it is long enough.
+pub fn write_texts(map: &[u8], ids: &[u64], parts: TextParts, buffer: &mut [u8])
+    ensures { λ r. ⌜ now (buffer .exit) ≡ writeTexts (textsIn parts (now (map .entry)) (now (ids .entry))) (now (buffer .entry)) ⌝ }
+{
+    let len = texts_len(map, ids, parts);
+    if 18446744073709551614 < len {
+        return;
+    }
+    if buffer.len() < len {
+        return;
+    }
+    put_texts(map, ids, parts, buffer);
 }

@@ -1,1 +1,50 @@
-// What a fetched feature is: definitions alone.
+// What is handed out of a fetched feature: records, and their definitions in specs/. No code.
+use poi::OptionalElevation;
+use tag::Tag;
+use tagged::TagIds;
+use types::OptionalPosition;
+use types::OptionalSpan;
+use types::Position;
+
+// A text in the lent buffer: its length there, and the tag that is made of it.
+pub struct TagText {
+    pub len: usize,
+    pub tag: Tag,
+}
+
+pub enum OptionalText {
+    Absent,
+    At(TagText),
+}
+
+// The texts of a feature in the order of the buffer: one for each tag id, from the front, empty ones behind them; then the others. A
+// text that is absent takes no room.
+pub struct FeatureTexts {
+    pub tags: [TagText; 15],
+    pub name: OptionalText,
+    pub house_number: OptionalText,
+    pub reference: OptionalText,
+}
+
+// A fetched point. Its signature is a raw part of the map.
+pub struct FetchedPoi {
+    pub signature: OptionalSpan,
+    pub position: Position,
+    pub layer: i8,
+    pub tag_ids: TagIds,
+    pub texts: FeatureTexts,
+    pub elevation: OptionalElevation,
+}
+
+// A fetched way. `blocks` and `nodes` count what stands in the lent lists.
+pub struct FetchedWay {
+    pub signature: OptionalSpan,
+    pub bitmap: u16,
+    pub layer: i8,
+    pub tag_ids: TagIds,
+    pub texts: FeatureTexts,
+    pub label_position: OptionalPosition,
+    pub double_delta: bool,
+    pub blocks: u64,
+    pub nodes: u64,
+}

@@ -1,4 +1,5 @@
 pub mod ViewLaws
+pub mod FetchGives
 pub mod Chain
 pub mod MapLaws
 pub mod HeaderFacts

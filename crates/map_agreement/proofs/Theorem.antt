@@ -44,7 +44,12 @@ use Rattle.tile.specs.Tile.{shownTile, collectAt, collectTile, TileIs, tileRes}
 use Rattle.tile.specs.declared.Tile.{Tile}
 use Rattle.tile.specs.declared.TileAnswer.the-variants as tile-answer
 use Rattle.tile.specs.declared.TileRead.{TileRead}
-use Rattle.map_agreement.specs.TileView.{tileCollection, tileView}
+use Rattle.agreement.specs.Collected as collected
+use Rattle.format.proofs.TagLaws.{TagNames, header-tags}
+use Rattle.fetched.specs.Fetched.{walkedName, Fetched}
+use Rattle.fetch.specs.Fetch as fetch
+use Rattle.map_agreement.specs.TileView.{tileCollection, tileView, fetchGives}
+use Rattle.map_agreement.proofs.FetchGives.{name-is, fetch-gives}
 use Rattle.map_agreement.specs.MapsforgeMap.{entryIn, valueOf, interval, lowest, highest, mapsforge}
 use Rattle.map_agreement.specs.Called.{Called}
 use Rattle.map_agreement.specs.BookSays.{Collected, Opens, opens, BookSays}
@@ -140,6 +145,21 @@ module _ (m : List ℕ) (small : length m < 2 ^ 64) (s : ℕ) (grid : Grid) (num
         ∙ ap (λ a. collects a (l .interval .max) poiKinds wayKinds) low-is
         ∙ ap (λ a. collects (lowest s grid number h) a poiKinds wayKinds) high-is
 
+    -- fetching, by the header's value
+    abbrev fetchesAt : (k low high : ℕ) (p w : List Kind) → Res (Fetched fetch.Feature)
+    fetchesAt k low high p w =
+        andThen (collect (tileFormat (debug h) (rowsOfInterval low high) p w) m (l .entry .absolute)) (λ t _.
+        fetch.givenBy (debug h) (rowsOfInterval low high) p w (walkedName (tableOf (h .poiTags)) m) (walkedName (tableOf (h .wayTags)) m) (collected.fetch (collected.storedTile t (record { subFile = s; water = l .entry .water })) k))
+
+    fetched-as : (k : ℕ) → fetch.fetchTile (mapHeader h) s grid number k m ≡ fetchesAt k (lowest s grid number h) (highest s grid number h) poiKinds wayKinds
+    unfolding fetch.fetchTile
+    fetched-as k =
+        ap (λ r. andThen {B = Fetched fetch.Feature} r (λ l _. fetch.fetchAt (layoutOf (mapHeader h)) k s l m)) (located-as ∙ ap answered en)
+        ∙ ap (λ p. fetchesAt k (l .interval .min) (l .interval .max) p (tagKinds (tableOf (h .wayTags)) m)) (kinds .poi)
+        ∙ ap (λ w. fetchesAt k (l .interval .min) (l .interval .max) poiKinds w) (kinds .way)
+        ∙ ap (λ a. fetchesAt k a (l .interval .max) poiKinds wayKinds) low-is
+        ∙ ap (λ a. fetchesAt k (lowest s grid number h) a poiKinds wayKinds) high-is
+
     abbrev opensAt : (low high zoom : ℕ) (p w : List Kind) → Res (State TileEnd)
     opensAt low high zoom p w = answered (openStream (tileFormat (debug h) (rowsOfInterval low high) p w) (rowsUpto low high zoom) (record { subFile = s; water = l .entry .water }) m (l .entry .absolute))
 
@@ -170,6 +190,16 @@ module _ (m : List ℕ) (small : length m < 2 ^ 64) (s : ℕ) (grid : Grid) (num
       fresh-opens : (zoom : ℕ) → openTile (mapHeader h) s grid number zoom m ≡ answer (freshTile C h l t zoom)
       fresh-opens zoom = opened-as zoom ∙ ap answered (D .agrees zoom [] .opens)
 
+      names : TagNames m h
+      names = header-tags m 0 h e (header-of m h e o)
+
+      -- what the fetches give is what the book is fed
+      fetched-is : (k : ℕ) → fetch.fetchTile (mapHeader h) s grid number k m ≡ fetchGives (collected.fetch (collectedTile (C .view h) t (C .end h l)) k)
+      fetched-is k =
+          fetched-as k
+          ∙ ap (λ r. andThen {B = Fetched fetch.Feature} r (λ t _. fetch.givenBy (debug h) rows poiKinds wayKinds (walkedName (tableOf (h .poiTags)) m) (walkedName (tableOf (h .wayTags)) m) (collected.fetch (collected.storedTile t (C .end h l)) k))) c
+          ∙ fetch-gives (debug h) rows poiKinds wayKinds (h .poiTags .texts) (h .wayTags .texts) (walkedName (tableOf (h .poiTags)) m) (walkedName (tableOf (h .wayTags)) m) (name-is m (h .poiTags) (names .poi)) (name-is m (h .wayTags) (names .way)) t (C .end h l) k
+
       abbrev machine : (p w : List Kind) → State TileEnd → List Call → List (Reply ShownAnswer)
       machine p w a cs = shownReplies (run (stream (tileFormat (debug h) rows p w) m) a cs)
 
@@ -180,6 +210,7 @@ module _ (m : List ℕ) (small : length m < 2 ^ 64) (s : ℕ) (grid : Grid) (num
         tile = t;
         collects = whole;
         demand-3 = D;
+        fetches = λ k lent left r f. subst (λ (x : Res (Fetched fetch.Feature)). fetch.FeatureIs x lent r left) (fetched-is k) f;
         streams = λ zoom q r. never-refused q (r ∙ fresh-opens zoom);
         replies = λ zoom st r cs rs k.
             let f : stateOf st ≡ freshTile C h l t zoom = ok-val (r ∙ fresh-opens zoom) in

@@ -15,7 +15,7 @@ use Rattle.header.specs.declared.HeaderRead.{HeaderRead}
 use Rattle.tile_layout.specs.TileLayout.{layoutOf}
 use Rattle.agreement.specs.Calls.{Call}
 use Rattle.agreement.specs.Book.{bookReplies}
-use Rattle.agreement.specs.Collected.{StoredTile}
+use Rattle.agreement.specs.Collected.{StoredTile, fetch}
 use Rattle.agreement.specs.MapLayout.{rowsAt}
 use Rattle.agreement.specs.View.{collectedTile}
 use Rattle.agreement.specs.Demand3.{Demand3, MapCollects}
@@ -26,7 +26,10 @@ use Rattle.visit.specs.declared.OpenRead.the-variants as open-read
 use Rattle.tile.specs.Tile.{collectTile, TileIs}
 use Rattle.tile.specs.declared.TileAnswer.the-variants as tile-answer
 use Rattle.tile.specs.declared.TileRead.{TileRead}
-use Rattle.map_agreement.specs.TileView.{tileCollection}
+use Rattle.fetched.specs.Fetched.{FetchLists}
+use Rattle.fetch.specs.Fetch.{fetchTile, FeatureIs}
+use Rattle.fetch.specs.declared.Fetch.{Fetch}
+use Rattle.map_agreement.specs.TileView.{tileCollection, fetchGives}
 use Rattle.map_agreement.specs.MapsforgeMap.{mapsforge}
 use Rattle.map_agreement.specs.Called.{Called}
 
@@ -45,14 +48,16 @@ pub record Collected (m : List ℕ) (subFile : ℕ) (grid : Grid) (number : ℕ)
 pub data Opens : OpenRead → Type 0 where
   opens : (s : Stream) → Opens (open-read.Stream s)
 
--- The map's stored header and the tile as stored, of which demand 3 holds; the stream opens; and whatever a program calls, it sees the
--- book's replies.
+-- The map's stored header and the tile as stored, of which demand 3 holds; what the book is fed is what the fetches give; the stream
+-- opens; and whatever a program calls, it sees the book's replies.
 pub record BookSays (m : List ℕ) (subFile : ℕ) (grid : Grid) (number : ℕ) (h : MapHeader) : Type 0 where
   pub stored : Header
   pub place : Located
   pub tile : StoredTile (mapsforge subFile grid number .format stored)
   pub collects : MapCollects (mapsforge subFile grid number) m stored place tile
   pub demand-3 : Demand3 (mapsforge subFile grid number) m stored place tile
+  pub fetches : (k : ℕ) (lent left : FetchLists) (r : Fetch) → FeatureIs (fetchTile h subFile grid number k m) lent r left
+      → FeatureIs (fetchGives (fetch (collectedTile (mapsforge subFile grid number .view stored) tile (mapsforge subFile grid number .end stored place)) k)) lent r left
   pub streams : (zoom : ℕ) (o : OpenRead) → openRes o ≡ openTile h subFile grid number zoom m → Opens o
   pub replies : (zoom : ℕ) (s : Stream) → openRes (open-read.Stream s) ≡ openTile h subFile grid number zoom m
       → (cs : List Call) (rs : List (Reply ShownAnswer)) → Called m (layoutOf h) s cs rs

@@ -2,32 +2,32 @@
 -- book says of it, which are the fetched fields but for those that a streamed feature lacks (document 01, "The book of demand 3").
 use Prim.Native.Nat.{ℕ}
 use mathlib.Core.Bool.{Bool}
-use mathlib.Core.List.{List}
-use lib.ListN.{length}
-use Rattle.parsing.specs.Parse.{Part, Maybe}
-use Rattle.fetched.specs.Fetched.{listedName, FetchedPoint, fetchedPoint, FetchedWay, fetchedWay}
+use mathlib.Core.List.{List, []}
+use Rattle.parsing.specs.Parse.{Res, no, Part, Maybe}
+use Rattle.format.specs.Index.{answer}
+use Rattle.fetched.specs.Fetched.{listedName, Fetched, fetchedPoint, fetchedWay}
+use Rattle.fetched.specs.declared.FetchedPoi.{FetchedPoi}
+use Rattle.fetched.specs.declared.FetchedWay.{FetchedWay}
+use Rattle.fetch.specs.Fetch as fetch
 use Rattle.format.specs.Streamed.{streamedMaybe}
-use Rattle.format.specs.Tile as format
-use Rattle.types.specs.Types.{nodePosition, optionalPosition, optionalSpan}
+use Rattle.types.specs.Types.{optionalSpan}
 use Rattle.types.specs.declared.OptionalSpan.the-variants as span
 use Rattle.tag.specs.declared.Kind.{Kind}
-use Rattle.tagged.specs.TagIds.{tagIds}
-use Rattle.poi.specs.Poi.{optionalElevation}
 use Rattle.poi.specs.declared.Poi.{Poi}
 use Rattle.visit.specs.Visit.{shownPoint, shownHead, shownBody}
 use Rattle.visit.specs.declared.StreamedHead.{StreamedHead}
 use Rattle.visit.specs.declared.StreamedBody.{StreamedBody}
-use Rattle.agreement.specs.Collected.{Collection}
+use Rattle.agreement.specs.Collected.{Collection, Feature, aPoint, aWay, missing}
 use Rattle.agreement.specs.View.{View}
 use Rattle.agreement.specs.TileFormat.{TileEnd, tileFormat}
 
 pub record CollectedPoint : Type 0 where
-  pub fetched : FetchedPoint
+  pub fetched : Fetched FetchedPoi
   pub name : Maybe Part
   pub houseNumber : Maybe Part
 
 pub record CollectedWay : Type 0 where
-  pub fetched : FetchedWay
+  pub fetched : Fetched FetchedWay
   pub name : Maybe Part
   pub houseNumber : Maybe Part
   pub reference : Maybe Part
@@ -36,25 +36,29 @@ pub record CollectedWay : Type 0 where
 abbrev pub bookPoint : CollectedPoint → Poi
 bookPoint p = record {
   signature = span.Absent;
-  position = nodePosition (p .fetched .position);
-  layer = p .fetched .layer;
-  «tag_ids» = tagIds (p .fetched .ids);
+  position = p .fetched .value .position;
+  layer = p .fetched .value .layer;
+  «tag_ids» = p .fetched .value .«tag_ids»;
   name = optionalSpan (streamedMaybe (p .name));
   «house_number» = optionalSpan (streamedMaybe (p .houseNumber));
-  elevation = optionalElevation (p .fetched .elevation);
+  elevation = p .fetched .value .elevation;
 }
 
 abbrev pub bookHead : CollectedWay → StreamedHead
-bookHead w = record { bitmap = w .fetched .bitmap; layer = w .fetched .layer; «tag_ids» = tagIds (w .fetched .ids) }
+bookHead w = record {
+  bitmap = w .fetched .value .bitmap;
+  layer = w .fetched .value .layer;
+  «tag_ids» = w .fetched .value .«tag_ids»;
+}
 
 abbrev pub bookBody : CollectedWay → StreamedBody
 bookBody w = record {
   name = optionalSpan (streamedMaybe (w .name));
   «house_number» = optionalSpan (streamedMaybe (w .houseNumber));
   reference = optionalSpan (streamedMaybe (w .reference));
-  «label_position» = optionalPosition (w .fetched .label);
-  blocks = length (w .fetched .lists .counts);
-  nodes = length (w .fetched .lists .latitudes);
+  «label_position» = w .fetched .value .«label_position»;
+  blocks = w .fetched .value .blocks;
+  nodes = w .fetched .value .nodes;
 }
 
 abbrev pub tileCollection : Collection
@@ -68,7 +72,7 @@ tileCollection = record {
   point = bookPoint;
   head = bookHead;
   body = bookBody;
-  lists = λ w. w .fetched .lists;
+  lists = λ w. w .fetched .values .lists;
 }
 
 -- `poiNames` and `wayNames` are the header's tag names; what the stream shows is what the contracts of crate visit say
@@ -87,3 +91,9 @@ tileView debug rows poiKinds wayKinds poiNames wayNames = record {
   streamedBody = shownBody;
   streamedEnd = λ z. z;
 }
+
+-- what a fetch gives of a feature of the collected tile
+abbrev pub fetchGives : Feature tileCollection → Res (Fetched fetch.Feature)
+fetchGives (aPoint p) = answer (fetch.fetchedAs fetch.aPoi (p .fetched))
+fetchGives (aWay w) = answer (fetch.fetchedAs fetch.aWay (w .fetched))
+fetchGives missing = no 17 []

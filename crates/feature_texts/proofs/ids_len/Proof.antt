@@ -3,8 +3,7 @@ use mathlib.Core.Path.{_≡_}
 use lib.ListN.{length, drop}
 use Rattle.arithmetic.specs.Cut.{cut}
 use Rattle.tag_table.specs.Tables.{tableIn}
-use Rattle.fetched.specs.Fetched.{walkedName}
-use Rattle.feature_texts.specs.FeatureTexts.{idTexts}
+use Rattle.fetched.specs.Fetched.{walkedName, idTexts}
 use Rattle.feature_texts.proofs.TextLaws.{lengths}
 use Rattle.feature_texts.proofs.ids_len.Statement.{statement}
 use Rattle.feature_texts.proofs.ids_len.Tie as tie

@@ -1,0 +1,259 @@
+-- Where a feature stands, by what the readers answered.
+use Prim.Native.Nat.{ℕ, _+_, _-_, _^_, _≤_, _<_}
+use native.Mathlib.Omega.{arith}
+use mathlib.Core.Path.{_≡_, refl, sym, ap, _∙_}
+use mathlib.Core.Bool.{Bool, true, false, cond}
+use mathlib.Core.List.{List, [], _∷_}
+use lib.Dec.{ltb}
+use lib.ListN.{length}
+use borrow.Author.Needs.{needs}
+use borrow.Author.Tests.{ltb-true, lt-ltb, le-ltb, le-leb}
+use Rattle.parsing.specs.Parse.{Res, ok, no, andThen, mapRes, many}
+use Rattle.parsing.specs.Good.{ok-val, ok-at, no-ok}
+use Rattle.error.specs.Refusals.{refused}
+use Rattle.error.specs.declared.Refusal.{Refusal}
+use Rattle.error.specs.declared.Refusal.the-variants.{InvalidFeature}
+use Rattle.arithmetic.specs.Cut.{cut}
+use Rattle.arithmetic.proofs.CutLaws.{cut-fits, at-cut}
+use Rattle.byte_source.proofs.ReadLaws.{Taken, taken}
+use Rattle.format.specs.Index.{answer, answered, Grid, Located, locate}
+use Rattle.format.specs.Kinds.{tagKinds}
+use Rattle.format.specs.Rows.{rowsOfInterval, intervalHead}
+use Rattle.format.specs.Tile as format
+use Rattle.format.specs.Tile.{tileHead, Point, point}
+use Rattle.types.specs.Types.{endRes, endRefusal, intervalsOf, debugOf}
+use Rattle.types.specs.declared.End.{End}
+use Rattle.types.specs.declared.End.the-variants as end
+use Rattle.types.specs.declared.MapHeader.{MapHeader}
+use Rattle.tag_table.specs.Tables.{tableIn, passed}
+use Rattle.tile_head.specs.TileHead.{headAt, headRes, headRefusal}
+use Rattle.tile_head.specs.declared.TileHead.{TileHead}
+use Rattle.tile_head.specs.declared.TileHeadRead.{TileHeadRead}
+use Rattle.tile_head.specs.declared.TileHeadRead.the-variants as head-read
+use Rattle.tile_place.specs.Places as places
+use Rattle.tile_place.specs.Places.{placeOf}
+use Rattle.tile_place.specs.declared.TilePlace.{TilePlace}
+use Rattle.tile_place.specs.declared.PlaceRead.{PlaceRead}
+use Rattle.tile_place.specs.declared.PlaceRead.the-variants as place-read
+use Rattle.tile_place.proofs.PlaceLaws.{located-ordered}
+use Rattle.agreement.specs.Format.{Format, Laws}
+use Rattle.agreement.specs.Collected.{Way, way, allExact, StoredTile, collect}
+use Rattle.agreement.proofs.Chain.{Chain, stop, link}
+use Rattle.agreement.proofs.CollectLaws.{collect-end}
+use Rattle.agreement.proofs.TileAgrees.{way-good, way-strict, collected}
+use Rattle.agreement.proofs.TileFormatLaws.{tile-laws, tileHead-end}
+use Rattle.tile_layout.specs.TileLayout.{layoutOf, formatOf}
+use Rattle.tile_layout.specs.declared.TileLayout.{TileLayout}
+use Rattle.tile_walk.specs.TileWalk.{waysRes, waysRefusal, exactWays, ForAllRows}
+use Rattle.tile_walk.specs.declared.WaysRead.{WaysRead}
+use Rattle.tile_walk.specs.declared.WaysRead.the-variants as ways-read
+use Rattle.tile.specs.Tile.{tileOf, tileRes, collectAt, collectTile, TileIs}
+use Rattle.tile.specs.declared.Tile.{Tile}
+use Rattle.tile.specs.declared.TileAnswer.the-variants as tile-answer
+use Rattle.tile.specs.declared.TileRead.{TileRead}
+use Rattle.feature_place.specs.FeaturePlace.{Place, pointAt, wayAt, placeRes, placeRefusal, placeIn, featurePlace, pointPlace, wayPlace, WayPlace, behind, Behind, tileRefusal, tileStart}
+use Rattle.feature_place.specs.declared.FeaturePlace.{FeaturePlace}
+use Rattle.feature_place.specs.declared.FeaturePlace.the-variants as place
+
+pub feature-refused : Taken placeRefusal place.Refused
+feature-refused g e h = taken placeRefusal h refl
+
+pub tile-refused : Taken tileRefusal tile-answer.Refused
+tile-refused g e h = taken tileRefusal h refl
+
+pub ruleset refusals = (needs, feature-refused, tile-refused)
+
+-- behind n points
+module _ (l : TileLayout) (m : List ℕ) (at n : ℕ) (g : End) (q : endRes n g ≡ mapRes length (many (point (l .debug) (tagKinds (tableIn (l .«poi_tags»)) m)) n m at)) where
+  abbrev points : Res (List Point)
+  points = many (point (l .debug) (tagKinds (tableIn (l .«poi_tags»)) m)) n m at
+
+  pub points-stop : (x y : Refusal) → g ≡ end.Refused x → y ≡ endRefusal g → refused y ≡ pointPlace l m at n
+  points-stop x y h w = ap refused (w ∙ ap endRefusal h) ∙ go points (ap (endRes n) (sym h) ∙ q)
+    where
+      go : (r : Res (List Point)) → refused x ≡ mapRes length r → refused x ≡ andThen r (λ _ e. answer (pointAt e))
+      go (ok ps e) d = no-ok d
+      go (no k v) d = cc
+
+  pub points-end : (k : ℕ) → g ≡ end.At k → answer (pointAt k) ≡ pointPlace l m at n
+  points-end k h = go points (ap (endRes n) (sym h) ∙ q)
+    where
+      go : (r : Res (List Point)) → ok n k ≡ mapRes length r → answer (pointAt k) ≡ andThen r (λ _ e. answer (pointAt e))
+      go (ok ps e) d = ap (λ a. answer (pointAt a)) (ok-at d)
+      go (no k v) d = no-ok (sym d)
+
+-- behind n ways
+module _ (l : TileLayout) (m : List ℕ) (at n : ℕ) (g : WaysRead) (q : ForAllRows (exactWays l m n at) (waysRes g)) where
+  pub ways-stop : (x y : Refusal) → g ≡ ways-read.Refused x → y ≡ waysRefusal g → WayPlace l m at n (refused y)
+  ways-stop x y h w = record { each = λ rows. ap refused (w ∙ ap waysRefusal h) ∙ go rows (many (way (formatOf l rows m)) n m at) (ap waysRes (sym h) ∙ q .each rows) }
+    where
+      go : (rows : ℕ) (r : Res (List (Way (formatOf l rows m)))) → refused x ≡ mapRes allExact r → refused x ≡ andThen r (λ _ e. answer (wayAt e))
+      go rows (ok ps e) d = no-ok d
+      go rows (no k v) d = cc
+
+  pub ways-end : (b : Bool) (k : ℕ) → g ≡ ways-read.Value b k → WayPlace l m at n (answer (wayAt k))
+  ways-end b k h = record { each = λ rows. go rows (many (way (formatOf l rows m)) n m at) (ap waysRes (sym h) ∙ q .each rows) }
+    where
+      go : (rows : ℕ) (r : Res (List (Way (formatOf l rows m)))) → ok b k ≡ mapRes allExact r → answer (wayAt k) ≡ andThen r (λ _ e. answer (wayAt e))
+      go rows (ok ps e) d = ap (λ a. answer (wayAt a)) (ok-at d)
+      go rows (no k v) d = no-ok (sym d)
+
+pub ruleset walks = (needs, points-stop, points-end, ways-stop, ways-end)
+
+-- points from 0, ways behind them
+module _ (l : TileLayout) (m : List ℕ) (e points ways offset k : ℕ) (r : Res Place) where
+  pub a-point : k < points → r ≡ pointPlace l m e k → Behind l m e points ways offset k r
+  a-point h q = record { each = λ rows. q ∙ rw (lt-ltb k points h) }
+
+  pub a-way : (first : ℕ) → points ≤ k → k - points < ways → first ≡ cut (e + offset) → WayPlace l m first (k - points) r → Behind l m e points ways offset k r
+  a-way first h b w q = record { each = λ rows. q .each rows ∙ ap (λ a. wayPlace l m a (k - points) rows) w ∙ rw (le-ltb k points h, lt-ltb (k - points) ways b) }
+
+pub no-feature : (l : TileLayout) (m : List ℕ) (e points ways offset k : ℕ) → points ≤ k → ways ≤ k - points → Behind l m e points ways offset k (refused InvalidFeature)
+no-feature l m e points ways offset k h b = record { each = λ rows. rw (le-ltb k points h, le-ltb (k - points) ways b) }
+
+pub ruleset features = (needs, a-point, a-way, no-feature)
+
+-- ways that are there start inside the map
+starts-inside : (F : Format) (L : Laws F) (m : List ℕ) {i e : ℕ} {ws : List (Way F)} → Chain (way F) m i ws e → 0 < length ws → i < length m
+starts-inside F L m stop b = absurd (omega arith)
+starts-inside F L m (link {i = i} {x = x} {a = w} h c) b =
+    let u = way-strict F L .more m i w x h in
+    let v = way-good F L .bound m i w x h in
+    omega arith
+
+-- in a tile that collects
+module _ (l : TileLayout) (rows : ℕ) (m : List ℕ) (small : length m < 2 ^ 64) (i : ℕ) (t : StoredTile (formatOf l rows m)) (z : ℕ) (c : collect (formatOf l rows m) m i ≡ ok t z) where
+  abbrev F : Format
+  F = formatOf l rows m
+
+  abbrev L : Laws F
+  L = tile-laws (l .debug) rows (tagKinds (tableIn (l .«poi_tags»)) m) (tagKinds (tableIn (l .«way_tags»)) m)
+
+  uncut : (k : ℕ) (b : Bool) → ltb (k - length (t .points)) (length (t .ways)) ≡ b
+      → cond b (wayPlace l m (cut (t .start + t .head .offset)) (k - length (t .points)) rows) (no 17 [])
+      ≡ cond b (wayPlace l m (t .start + t .head .offset) (k - length (t .points)) rows) (no 17 [])
+  uncut k true h =
+      let b = ltb-true (k - length (t .points)) (length (t .ways)) h in
+      let u = starts-inside F L m (collected F m i t z c .ways .chain) (omega arith) in
+      ap (λ a. wayPlace l m a (k - length (t .points)) rows) (cut-fits (t .start + t .head .offset) (omega arith))
+  uncut k false h = refl
+
+  pub behind-is : (k : ℕ) → behind l m (t .start) (length (t .points)) (length (t .ways)) (t .head .offset) k rows ≡ placeIn F t k m
+  behind-is k =
+      ap (cond (ltb k (length (t .points))) (pointPlace l m (t .start) k))
+      (uncut k (ltb (k - length (t .points)) (length (t .ways))) refl)
+
+-- the place behind the head, which the tile's place leads to
+module _ (h : MapHeader) (s : ℕ) (grid : Grid) (number : ℕ) (m : List ℕ) (g : PlaceRead) (q : places.placeRes g ≡ mapRes placeOf (locate (debugOf h) (intervalsOf h) s grid number m)) where
+  abbrev place-found : Res Located
+  place-found = locate (debugOf h) (intervalsOf h) s grid number m
+
+  abbrev headOf : Located → Res format.TileHead
+  headOf a = tileHead (debugOf h) (rowsOfInterval (a .interval .min) (a .interval .max)) m (a .entry .absolute)
+
+  pub start-nowhere : (x y : Refusal) → g ≡ place-read.Refused x → y ≡ places.placeRefusal g → refused y ≡ tileStart h s grid number m
+  unfolding tileStart
+  start-nowhere x y e w = ap refused (w ∙ ap places.placeRefusal e) ∙ go place-found (ap places.placeRes (sym e) ∙ q)
+    where
+      go : (r : Res Located) → refused x ≡ mapRes placeOf r → refused {A = Unit} x ≡ andThen r (λ a _. passed (headOf a))
+      go (ok a z) d = no-ok d
+      go (no n v) d = cc
+
+  module _ (p : TilePlace) (e : g ≡ place-read.At p) (small : length m < 2 ^ 64) (b : Bool) (f : b ≡ debugOf h) (hd : TileHeadRead) (qh : headRes hd ≡ mapRes (headAt (p .«min_zoom») (p .«max_zoom») (p .«max_zoom»)) (intervalHead b (p .«min_zoom») (p .«max_zoom») m (p .at))) where
+    -- the head is that of the tile, whose place may be cut
+    seen : (a : Located) (z : ℕ) → place-found ≡ ok a z → p ≡ placeOf a → headRes hd ≡ mapRes (headAt (a .interval .min) (a .interval .max) (a .interval .max)) (headOf a)
+    unfolding intervalHead
+    seen a z o d =
+        qh
+        ∙ ap (λ c. mapRes (headAt (p .«min_zoom») (p .«max_zoom») (p .«max_zoom»)) (intervalHead c (p .«min_zoom») (p .«max_zoom») m (p .at))) f
+        ∙ ap (λ (c : TilePlace). mapRes (headAt (c .«min_zoom») (c .«max_zoom») (c .«max_zoom»)) (intervalHead (debugOf h) (c .«min_zoom») (c .«max_zoom») m (c .at))) d
+        ∙ rw (le-leb (a .interval .min) (a .interval .max) (located-ordered (debugOf h) (intervalsOf h) s grid number m a z o))
+        (ap (mapRes (headAt (a .interval .min) (a .interval .max) (a .interval .max))) (at-cut (tileHead-end (debugOf h) (rowsOfInterval (a .interval .min) (a .interval .max))) m (a .entry .absolute) small))
+
+    pub start-no : (x y : Refusal) → hd ≡ head-read.Refused x → y ≡ headRefusal hd → refused y ≡ tileStart h s grid number m
+    unfolding tileStart
+    start-no x y c w = ap refused (w ∙ ap headRefusal c) ∙ go place-found refl (ap places.placeRes (sym e) ∙ q)
+      where
+        on : {A : Type 0} (v : format.TileHead → A) (r : Res format.TileHead) → refused x ≡ mapRes v r → refused {A = Unit} x ≡ passed r
+        on v (ok y n) d = no-ok d
+        on v (no n y) d = cc
+
+        go : (r : Res Located) → place-found ≡ r → ok p 0 ≡ mapRes placeOf r → refused {A = Unit} x ≡ andThen r (λ a _. passed (headOf a))
+        go (ok a z) o d = on (headAt (a .interval .min) (a .interval .max) (a .interval .max)) (headOf a) (ap headRes (sym c) ∙ seen a z o (ok-val d))
+        go (no n v) o d = no-ok (sym d)
+
+    pub start-at : (v : TileHead) (n : ℕ) → hd ≡ head-read.Value v n → ok tt n ≡ tileStart h s grid number m
+    unfolding tileStart
+    start-at v n c = go place-found refl (ap places.placeRes (sym e) ∙ q)
+      where
+        on : (u : format.TileHead → TileHead) (r : Res format.TileHead) → ok v n ≡ mapRes u r → ok tt n ≡ passed r
+        on u (ok y k) d = ap (ok tt) (ok-at d)
+        on u (no k y) d = no-ok (sym d)
+
+        go : (r : Res Located) → place-found ≡ r → ok p 0 ≡ mapRes placeOf r → ok tt n ≡ andThen r (λ a _. passed (headOf a))
+        go (ok a z) o d = on (headAt (a .interval .min) (a .interval .max) (a .interval .max)) (headOf a) (ap headRes (sym c) ∙ seen a z o (ok-val d))
+        go (no k v) o d = no-ok (sym d)
+
+pub ruleset starts = (needs, start-nowhere, start-no, start-at)
+
+-- the feature, by what was read
+module _ (h : MapHeader) (s : ℕ) (grid : Grid) (number k : ℕ) (m : List ℕ) where
+  abbrev located : Res Located
+  located = locate (debugOf h) (intervalsOf h) s grid number m
+
+  abbrev rowsAt : Located → ℕ
+  rowsAt a = rowsOfInterval (a .interval .min) (a .interval .max)
+
+  abbrev formatAt : Located → Format
+  formatAt a = formatOf (layoutOf h) (rowsAt a) m
+
+  abbrev fromTile : Located → Res Place
+  fromTile a = andThen (collect (formatAt a) m (a .entry .absolute)) (λ t _. placeIn (formatAt a) t k m)
+
+  pub no-start : (g : End) (x y : Refusal) → endRes tt g ≡ tileStart h s grid number m → g ≡ end.Refused x → y ≡ endRefusal g → refused y ≡ featurePlace h s grid number k m
+  unfolding tileStart featurePlace
+  no-start g x y q e w = ap refused (w ∙ ap endRefusal e) ∙ go located (ap (endRes tt) (sym e) ∙ q)
+    where
+      on : (a : Located) (r : Res format.TileHead) → tileHead (debugOf h) (rowsAt a) m (a .entry .absolute) ≡ r → refused {A = Unit} x ≡ passed r → refused x ≡ fromTile a
+      on a (ok v n) f d = no-ok d
+      on a (no n v) f d = let i : refused {A = Place} x ≡ no n v = cc in rw f i
+
+      go : (r : Res Located) → refused {A = Unit} x ≡ andThen r (λ a _. passed (tileHead (debugOf h) (rowsAt a) m (a .entry .absolute))) → refused x ≡ andThen r (λ a _. fromTile a)
+      go (ok a z) d = on a (tileHead (debugOf h) (rowsAt a) m (a .entry .absolute)) refl d
+      go (no n v) d = cc
+
+  pub no-tile : (r : TileRead) (x y : Refusal) → TileIs (collectTile h s grid number m) r → r .answer ≡ tile-answer.Refused x → y ≡ tileRefusal (r .answer) → refused y ≡ featurePlace h s grid number k m
+  unfolding collectTile featurePlace
+  no-tile r x y b e w = ap refused (w ∙ ap tileRefusal e) ∙ go located (ap (λ a. tileRes a (r .tile)) (sym e) ∙ b .answer)
+    where
+      on : (a : Located) (c : Res (StoredTile (formatAt a))) → refused x ≡ answered (mapRes (tileOf (layoutOf h) (rowsAt a) m) c) → refused x ≡ andThen c (λ t _. placeIn (formatAt a) t k m)
+      on a (ok t z) d = no-ok d
+      on a (no n v) d = cc
+
+      go : (g : Res Located) → refused x ≡ andThen g (λ a _. collectAt (layoutOf h) (a .interval .min) (a .interval .max) (a .entry .absolute) m) → refused x ≡ andThen g (λ a _. fromTile a)
+      go (ok a z) d = on a (collect (formatAt a) m (a .entry .absolute)) d
+      go (no n v) d = cc
+
+  pub found : (g : End) (n : ℕ) (l : TileLayout) (t : TileRead) (r : Res Place) → endRes tt g ≡ tileStart h s grid number m → g ≡ end.At n → length m < 2 ^ 64 → l ≡ layoutOf h
+      → TileIs (collectTile h s grid number m) t → t .answer ≡ tile-answer.Collected → Behind l m n (t .tile .points) (t .tile .ways) (t .tile .«first_way_offset») k r → r ≡ featurePlace h s grid number k m
+  unfolding collectTile featurePlace tileStart
+  found g n l t r q e small lay b c w = go located (ap (endRes tt) (sym e) ∙ q) (ap (λ a. tileRes a (t .tile)) (sym c) ∙ b .answer)
+    where
+      on : (a : Located) → ok tt n ≡ passed (tileHead (debugOf h) (rowsAt a) m (a .entry .absolute)) → (y : Res (StoredTile (formatAt a))) → collect (formatAt a) m (a .entry .absolute) ≡ y
+          → answer (t .tile) ≡ answered (mapRes (tileOf (layoutOf h) (rowsAt a) m) y) → r ≡ andThen y (λ t _. placeIn (formatAt a) t k m)
+      on a d (ok st u) j i =
+          let C = collected (formatAt a) m (a .entry .absolute) st u j in
+          let start : n ≡ st .start = ok-at (d ∙ ap passed (C .head)) in
+          w .each (rowsAt a)
+          ∙ ap (λ x. behind x m n (t .tile .points) (t .tile .ways) (t .tile .«first_way_offset») k (rowsAt a)) lay
+          ∙ ap (λ (x : Tile). behind (layoutOf h) m n (x .points) (x .ways) (x .«first_way_offset») k (rowsAt a)) (ok-val i)
+          ∙ ap (λ x. behind (layoutOf h) m x (length (st .points)) (length (st .ways)) (st .head .offset) k (rowsAt a)) start
+          ∙ behind-is (layoutOf h) (rowsAt a) m small (a .entry .absolute) st u j k
+      on a d (no x y) j i = no-ok (sym i)
+
+      go : (y : Res Located) → ok tt n ≡ andThen y (λ a _. passed (tileHead (debugOf h) (rowsAt a) m (a .entry .absolute)))
+          → answer (t .tile) ≡ andThen y (λ a _. collectAt (layoutOf h) (a .interval .min) (a .interval .max) (a .entry .absolute) m) → r ≡ andThen y (λ a _. fromTile a)
+      go (ok a z) d i = on a d (collect (formatAt a) m (a .entry .absolute)) refl i
+      go (no x y) d i = no-ok (sym d)
+
+pub ruleset finds = (needs, no-start, no-tile, found)

@@ -1,0 +1,87 @@
+-- Where feature k of a collected tile stands (document 01: "points from 0, ways behind them"): behind k points; or behind the ways
+-- before it, which start where the first-way offset leads. That a read from there gives the fetched feature is a law of crate fetch.
+use Prim.Native.Nat.{ℕ, _+_, _-_}
+use mathlib.Core.Bool.{cond}
+use mathlib.Core.Path.{_≡_}
+use mathlib.Core.List.{List, []}
+use lib.Dec.{ltb}
+use lib.ListN.{length}
+use Rattle.parsing.specs.Parse.{Res, no, andThen, many}
+use Rattle.error.specs.Refusals.{refused}
+use Rattle.error.specs.declared.Refusal.{Refusal}
+use Rattle.error.specs.declared.Refusal.the-variants.{Source}
+use Rattle.arithmetic.specs.Cut.{cut}
+use Rattle.format.specs.Index.{answer, Grid, locate}
+use Rattle.format.specs.Kinds.{tagKinds}
+use Rattle.format.specs.Rows.{rowsOfInterval}
+use Rattle.format.specs.Tile.{tileHead, point}
+use Rattle.types.specs.Types.{intervalsOf, debugOf}
+use Rattle.types.specs.declared.MapHeader.{MapHeader}
+use Rattle.tag_table.specs.Tables.{tableIn, passed}
+use Rattle.agreement.specs.Format.{Format}
+use Rattle.agreement.specs.Collected.{way, StoredTile, collect}
+use Rattle.tile_layout.specs.TileLayout.{layoutOf, formatOf}
+use Rattle.tile_layout.specs.declared.TileLayout.{TileLayout}
+use Rattle.tile.specs.declared.TileAnswer.{TileAnswer}
+use Rattle.tile.specs.declared.TileAnswer.the-variants as tile-answer
+use Rattle.feature_place.specs.declared.FeaturePlace.{FeaturePlace}
+use Rattle.feature_place.specs.declared.FeaturePlace.the-variants as place
+
+pub data Place : Type 0 where
+  pointAt : ℕ → Place
+  wayAt : ℕ → Place
+
+abbrev pub placeRes : FeaturePlace → Res Place
+placeRes (place.Point n) = answer (pointAt n)
+placeRes (place.Way n) = answer (wayAt n)
+placeRes (place.Refused r) = refused r
+
+abbrev pub placeRefusal : FeaturePlace → Refusal
+placeRefusal (place.Point n) = Source
+placeRefusal (place.Way n) = Source
+placeRefusal (place.Refused r) = r
+
+-- of a collected tile; 17 for a number at or above the count
+abbrev pub placeIn : (F : Format) → StoredTile F → (k : ℕ) → List ℕ → Res Place
+placeIn F t k m =
+    cond (ltb k (length (t .points)))
+    (andThen (many (F .point) k m (t .start)) (λ _ x. answer (pointAt x)))
+    (cond (ltb (k - length (t .points)) (length (t .ways)))
+    (andThen (many (way F) (k - length (t .points)) m (t .start + F .offset (t .head))) (λ _ x. answer (wayAt x)))
+    (no 17 []))
+
+-- refused as collecting is, then 17
+unfoldable pub featurePlace : MapHeader → (subFile : ℕ) → Grid → (number k : ℕ) → List ℕ → Res Place
+featurePlace h s g n k m =
+    andThen (locate (debugOf h) (intervalsOf h) s g n m) (λ l _.
+    andThen (collect (formatOf (layoutOf h) (rowsOfInterval (l .interval .min) (l .interval .max)) m) m (l .entry .absolute)) (λ t _.
+    placeIn (formatOf (layoutOf h) (rowsOfInterval (l .interval .min) (l .interval .max)) m) t k m))
+
+-- What the private functions find: the place behind the tile's head
+unfoldable pub tileStart : MapHeader → (subFile : ℕ) → Grid → (number : ℕ) → List ℕ → Res Unit
+tileStart h s g n m =
+    andThen (locate (debugOf h) (intervalsOf h) s g n m) (λ l _.
+    passed (tileHead (debugOf h) (rowsOfInterval (l .interval .min) (l .interval .max)) m (l .entry .absolute)))
+
+-- behind n points
+abbrev pub pointPlace : TileLayout → List ℕ → (at n : ℕ) → Res Place
+pointPlace l m at n = andThen (many (point (l .debug) (tagKinds (tableIn (l .«poi_tags»)) m)) n m at) (λ _ x. answer (pointAt x))
+
+-- behind n ways, in a tile with any number of rows
+abbrev pub wayPlace : TileLayout → List ℕ → (at n rows : ℕ) → Res Place
+wayPlace l m at n rows = andThen (many (way (formatOf l rows m)) n m at) (λ _ x. answer (wayAt x))
+
+pub record WayPlace (l : TileLayout) (m : List ℕ) (at n : ℕ) (r : Res Place) : Type 0 where
+  pub each : (rows : ℕ) → r ≡ wayPlace l m at n rows
+
+-- behind a head that ends at e, in a tile with these counts and this first-way offset
+abbrev pub behind : TileLayout → List ℕ → (e points ways offset k rows : ℕ) → Res Place
+behind l m e points ways offset k rows =
+    cond (ltb k points) (pointPlace l m e k) (cond (ltb (k - points) ways) (wayPlace l m (cut (e + offset)) (k - points) rows) (no 17 []))
+
+pub record Behind (l : TileLayout) (m : List ℕ) (e points ways offset k : ℕ) (r : Res Place) : Type 0 where
+  pub each : (rows : ℕ) → r ≡ behind l m e points ways offset k rows
+
+abbrev pub tileRefusal : TileAnswer → Refusal
+tileRefusal tile-answer.Collected = Source
+tileRefusal (tile-answer.Refused r) = r

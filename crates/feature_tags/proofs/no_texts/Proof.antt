@@ -1,0 +1,10 @@
+use Rattle.feature_tags.proofs.TagLaws.{records}
+use Rattle.feature_tags.proofs.no_texts.Statement.{statement}
+use Rattle.feature_tags.proofs.no_texts.Tie as tie
+
+pub no-texts-spec : {M : Type 1} → statement M
+no-texts-spec =
+    tie.close
+    (tie.spec
+    (λ c κs. search records)
+    (λ c. search records))

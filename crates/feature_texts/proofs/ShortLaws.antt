@@ -1,0 +1,179 @@
+-- Texts that were read are parts of the map and short, and a feature has 15 tags at most: so all its texts together are short too.
+use Prim.Native.Nat.{ℕ, _+_, _-_, _*_, _%_, _^_, _≤_, _<_}
+use native.Mathlib.Omega.{arith}
+use mathlib.Core.Path.{_≡_, refl, sym, ap, _∙_, subst}
+use mathlib.Core.Bool.{Bool, true, false, cond}
+use mathlib.Core.List.{List, [], _∷_, _++_}
+use lib.Dec.{leb, ltb}
+use lib.ListN.{length, take, drop, replicate, length-append, length-take}
+use lib.Seq.{take-append-seam}
+use borrow.Author.Tests.{leb-true}
+use Rattle.parsing.specs.Parse.{Res, ok, no, andThen, Parser, many, chunk, Part, part, pick, fail, byte, optional, Maybe, none, some}
+use Rattle.parsing.specs.Good.{split, ok-val, no-ok}
+use Rattle.parsing.proofs.Loops.{many-count}
+use Rattle.text.specs.Utf8.{replaced}
+use Rattle.text.proofs.ReplacedLaws.{replaced-most}
+use Rattle.utils.specs.Vbe.{unsigned, signed, text}
+use Rattle.tag.specs.declared.Kind.{Kind}
+use Rattle.format.specs.Header.{bit}
+use Rattle.format.specs.TagTable.{Table, tagText}
+use Rattle.format.specs.WayData.{node, wayData}
+use Rattle.format.specs.Tile.{debugSignature, tagId, values, tagged, pointFields, Point, point, headRest, Head, head, WayFields, wayFields, dataBlockCount, Body, body}
+use Rattle.byte_source.specs.BigEndian.{bigEndian}
+use Rattle.types.specs.Types.{optionalSpan, maybePart}
+use Rattle.tagged.specs.TagIds.{filledIds}
+use Rattle.fields.proofs.StreamLaws.{Gives, any, gives-bind, gives-return, PartOf, text-within}
+use Rattle.fetched.specs.Fetched.{bytesOf, foundBytes, walkedName, idTexts, present, buffered}
+use Rattle.feature_texts.proofs.TextLaws.{present-bytes}
+
+-- a text that was read
+part-sized : (m : List ℕ) (n i : ℕ) (p : Part) (e : ℕ) → part n m i ≡ ok p e → p .size ≡ n
+unfolding part
+part-sized m n i p e h =
+    let s = split (chunk n m i) (λ b x. ok (record { start = i; size = n; bytes = b }) x) p e h in
+    ap (λ (q : Part). q .size) (sym (ok-val (s .second)))
+
+text-sized : (m : List ℕ) (i : ℕ) (p : Part) (e : ℕ) → text m i ≡ ok p e → p .size ≤ 2 ^ 20
+unfolding text
+text-sized m i p e h =
+    let s = split (unsigned m i) (λ n x. pick (leb n (2 ^ 20)) (part n) (fail 9 []) m x) p e h in
+    go (s .val) (s .mid) (leb (s .val) (2 ^ 20)) refl (s .second)
+  where
+    go : (n x : ℕ) (c : Bool) → leb n (2 ^ 20) ≡ c → pick c (part n) (fail 9 []) m x ≡ ok p e → p .size ≤ 2 ^ 20
+    go n x true q k = let l = leb-true n (2 ^ 20) q in let z = part-sized m n x p e k in omega arith
+    go n x false q k = no-ok k
+
+text-short : (m : List ℕ) (i : ℕ) (p : Part) (e : ℕ) → text m i ≡ ok p e → length (p .bytes) ≤ 2 ^ 20
+text-short m i p e h =
+    let b = text-within m .holds i p e h .bytes in
+    let n = ap length b ∙ length-take (p .size) (drop (p .start) m) in
+    let z = text-sized m i p e h in
+    omega arith
+
+-- a text as the code holds it is the stored one
+pub record Stored (m : List ℕ) (o : Maybe Part) : Type 0 where
+  pub same : maybePart m (optionalSpan o) ≡ o
+  pub short : length (bytesOf o) ≤ 2 ^ 20
+
+pub none-stored : (m : List ℕ) → Stored m none
+none-stored m = record { same = refl; short = omega arith }
+
+optional-stored : (m : List ℕ) (c : Bool) → Gives m (optional c text) (Stored m)
+unfolding optional
+optional-stored m true = record {
+  holds = λ i o e h.
+      let s = split (text m i) (λ p x. ok (some p) x) o e h in
+      subst (Stored m) (ok-val (s .second)) (record {
+        same = ap (λ (b : List ℕ). some (record { start = s .val .start; size = s .val .size; bytes = b })) (sym (text-within m .holds i (s .val) (s .mid) (s .first) .bytes));
+        short = text-short m i (s .val) (s .mid) (s .first);
+      });
+}
+optional-stored m false = gives-return m none (Stored m) (none-stored m)
+
+-- the ids as a record holds them
+pub count-in : (l : List ℕ) → length l ≤ length (filledIds l)
+unfolding filledIds
+count-in l = let e = length-append l (drop (length l) (replicate 15 0)) in omega arith
+
+pub ids-back : (l : List ℕ) → take (length l) (filledIds l) ≡ l
+unfolding filledIds
+ids-back l = take-append-seam l (drop (length l) (replicate 15 0))
+
+-- up to 15 ids
+few-ids : (m : List ℕ) (n k : ℕ) → Gives m (many (tagId n) (k % 16)) (λ ids. length ids ≤ 15)
+few-ids m n k = record { holds = λ i ids e h. let c = many-count (tagId n) m (k % 16) i ids e h in omega arith }
+
+tagged-few : (m : List ℕ) (kinds : List Kind) → Gives m (tagged kinds) (λ t. length (t .ids) ≤ 15)
+unfolding tagged
+tagged-few m kinds =
+    gives-bind m (any m byte) λ s _. gives-bind m (few-ids m (length kinds) s) λ ids few. gives-bind m (any m (values kinds ids)) λ v _. gives-return m _ _ few
+
+-- what is known of a point that was read
+pub record PointTexts (m : List ℕ) (p : Point) : Type 0 where
+  pub few : length (p .tagged .ids) ≤ 15
+  pub name : Stored m (p .name)
+  pub houseNumber : Stored m (p .houseNumber)
+
+record Both (m : List ℕ) (n h : Maybe Part) : Type 0 where
+  first : Stored m n
+  second : Stored m h
+
+point-both : (m : List ℕ) → Gives m pointFields (λ f. Both m (f .name) (f .houseNumber))
+unfolding pointFields
+point-both m =
+    gives-bind m (any m byte) λ f _. gives-bind m (optional-stored m (bit 7 f)) λ n a. gives-bind m (optional-stored m (bit 6 f)) λ h b. gives-bind m (any m (optional (bit 5 f) signed)) λ e _. gives-return m _ _ (record { first = a; second = b })
+
+pub point-texts : (m : List ℕ) (debug : Bool) (kinds : List Kind) → Gives m (point debug kinds) (PointTexts m)
+unfolding point
+point-texts m debug kinds =
+    gives-bind m (any m (debugSignature debug)) λ g _. gives-bind m (any m node) λ p _. gives-bind m (tagged-few m kinds) λ t few. gives-bind m (point-both m) λ f h. gives-return m _ (PointTexts m) (record { few = few; name = h .first; houseNumber = h .second })
+
+-- of a way's head and of its fields
+rest-few : (m : List ℕ) (kinds : List Kind) (g : Maybe Part) (n a : ℕ) → Gives m (headRest kinds g n a) (λ h. length (h .tagged .ids) ≤ 15)
+unfolding headRest
+rest-few m kinds g n a =
+    gives-bind m (any m (bigEndian 2)) λ b _. gives-bind m (tagged-few m kinds) λ t few. record { holds = λ i h e k. subst (λ (x : Head). length (x .tagged .ids) ≤ 15) (ok-val k) few }
+
+pub head-few : (m : List ℕ) (debug : Bool) (kinds : List Kind) → Gives m (head debug kinds) (λ h. length (h .tagged .ids) ≤ 15)
+unfolding head
+head-few m debug kinds =
+    gives-bind m (any m (debugSignature debug)) λ g _. gives-bind m (any m unsigned) λ n _. record { holds = λ i h e k. rest-few m kinds g n i .holds i h e k }
+
+pub record WayTexts (m : List ℕ) (f : WayFields) : Type 0 where
+  pub name : Stored m (f .name)
+  pub houseNumber : Stored m (f .houseNumber)
+  pub reference : Stored m (f .reference)
+
+fields-texts : (m : List ℕ) → Gives m wayFields (WayTexts m)
+unfolding wayFields
+fields-texts m =
+    gives-bind m (any m byte) λ f _. gives-bind m (optional-stored m (bit 7 f)) λ n a. gives-bind m (optional-stored m (bit 6 f)) λ h b. gives-bind m (optional-stored m (bit 5 f)) λ r c. gives-bind m (any m (optional (bit 4 f) node)) λ l _. gives-return m _ (WayTexts m) (record { name = a; houseNumber = b; reference = c })
+
+pub body-texts : (m : List ℕ) → Gives m body (λ b. WayTexts m (b .fields))
+unfolding body
+body-texts m =
+    gives-bind m (fields-texts m) λ f h. gives-bind m (any m (dataBlockCount (f .flags))) λ k _. gives-bind m (any m (wayData k)) λ d _. gives-return m _ _ h
+
+-- a tag's name
+name-short : (t : Table) (m : List ℕ) (i : ℕ) → length (walkedName t m i) ≤ 2 ^ 20
+unfolding tagText
+name-short t m i = tested (ltb i (t .count))
+  where
+    read : (e : ℕ) (r : Res Part) → text m e ≡ r → length (foundBytes r) ≤ 2 ^ 20
+    read e (ok p x) h = text-short m e p x h
+    read e (no n v) h = omega arith
+
+    skipped : (r : Res (List Part)) → length (foundBytes (andThen r (λ _ e. text m e))) ≤ 2 ^ 20
+    skipped (ok l e) = read e (text m e) refl
+    skipped (no n v) = omega arith
+
+    tested : (c : Bool) → length (foundBytes (cond c (andThen (many text i m (t .start)) (λ _ e. text m e)) (no 7 (i ∷ [])))) ≤ 2 ^ 20
+    tested true = skipped (many text i m (t .start))
+    tested false = omega arith
+
+ids-short : (t : Table) (m ids : List ℕ) → length (idTexts (walkedName t m) ids) ≤ length ids * 3145728
+ids-short t m [] = omega arith
+ids-short t m (i ∷ ids) =
+    let a = length-append (replaced (walkedName t m i)) (idTexts (walkedName t m) ids) in
+    let b = replaced-most (walkedName t m i) in
+    let c = name-short t m i in
+    let d = ids-short t m ids in
+    omega arith
+
+present-short : (m : List ℕ) (o : Maybe Part) → Stored m o → length (present o) ≤ 3145728
+present-short m o s =
+    let a = ap length (present-bytes o) in
+    let b = replaced-most (bytesOf o) in
+    let c = s .short in
+    omega arith
+
+pub texts-short : (t : Table) (m ids : List ℕ) (n h r : Maybe Part) → length ids ≤ 15 → Stored m n → Stored m h → Stored m r → length (buffered (walkedName t m) ids n h r) < 2 ^ 64 - 1
+texts-short t m ids n h r few a b c =
+    let l = length-append (idTexts (walkedName t m) ids ++ present n ++ present h) (present r) in
+    let k = length-append (idTexts (walkedName t m) ids ++ present n) (present h) in
+    let j = length-append (idTexts (walkedName t m) ids) (present n) in
+    let w = ids-short t m ids in
+    let x = present-short m n a in
+    let y = present-short m h b in
+    let z = present-short m r c in
+    omega arith

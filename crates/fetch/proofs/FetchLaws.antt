@@ -1,0 +1,262 @@
+-- A fetched feature, by where it stands and what was read there.
+use Prim.Native.Nat.{ℕ, zero, suc, _+_, _-_, _≤_, _<_, zero-le}
+use native.Mathlib.Nat.{le-of-suc-le-suc, not-suc-le-zero}
+use native.Mathlib.Omega.{arith}
+use mathlib.Core.Path.{_≡_, refl, sym, ap, _∙_, subst}
+use mathlib.Core.Bool.{Bool, true, false, cond}
+use mathlib.Core.List.{List, [], _∷_}
+use lib.Dec.{leb, ltb}
+use lib.Ieee.{Float}
+use lib.ListN.{length}
+use borrow.Author.Needs.{needs}
+use borrow.Author.Tests.{ltb-true, ltb-false, le-leb}
+use Rattle.parsing.specs.Parse.{Res, ok, no, andThen, mapRes, Parser, many, Part, Maybe, none, some, nth}
+use Rattle.parsing.specs.Good.{ok-val, ok-at, no-ok}
+use Rattle.parsing.proofs.Lists.{nth-past}
+use Rattle.error.specs.Refusals.{refused}
+use Rattle.error.specs.declared.Refusal.{Refusal}
+use Rattle.format.specs.Index.{answer, answered, Grid, Located, locate}
+use Rattle.format.specs.Kinds.{tagKinds}
+use Rattle.format.specs.Rows.{rowsOfInterval}
+use Rattle.format.specs.Tile.{Point, point, Head, head, Body, body}
+use Rattle.types.specs.Types.{endRes, intervalsOf, debugOf}
+use Rattle.types.specs.Beside.{viewOr}
+use Rattle.types.specs.declared.End.{End}
+use Rattle.types.specs.declared.End.the-variants as end
+use Rattle.types.specs.declared.MapHeader.{MapHeader}
+use Rattle.types.specs.declared.TagTable.{TagTable}
+use Rattle.tag_table.specs.Tables.{tableIn}
+use Rattle.agreement.specs.Format.{Format}
+use Rattle.agreement.specs.Collected as collected
+use Rattle.agreement.specs.Collected.{Way, way, StoredTile, storedTile, collect}
+use Rattle.agreement.proofs.Chain.{Chain, stop, link}
+use Rattle.agreement.proofs.TileAgrees as tile
+use Rattle.tile_layout.specs.TileLayout.{layoutOf, formatOf}
+use Rattle.tile_layout.specs.declared.TileLayout.{TileLayout}
+use Rattle.feature_place.specs.FeaturePlace.{Place, pointAt, wayAt, placeRes, placeIn, featurePlace}
+use Rattle.feature_place.specs.declared.FeaturePlace.{FeaturePlace}
+use Rattle.feature_place.specs.declared.FeaturePlace.the-variants as place
+use Rattle.fetched.specs.Fetched.{walkedName, buffered, FetchLists, Fetched, fetchedPoint, poiLists, fetchedWay, fitsAll, FetchReply, deliverAll, FetchIs}
+use Rattle.fetched.specs.declared.FetchedPoi.{FetchedPoi}
+use Rattle.fetched.specs.declared.FetchedWay.{FetchedWay}
+use Rattle.fetch_poi.specs.FetchPoi.{emptyPoi, poiStored, bufferOnly, PoiFetchIs}
+use Rattle.fetch_poi.specs.declared.PoiFetch.{PoiFetch}
+use Rattle.fetch_way.specs.FetchWay.{lent, emptyWay, wayStored, WayFetchIs}
+use Rattle.fetch_way.specs.declared.WayFetch.{WayFetch}
+use Rattle.fetch.specs.Fetch.{Feature, aPoi, aWay, fetchedAs, given, fetchAt, fetchTile, featureRes, poiIn, wayIn, FeatureIs, answerAt, ofPoi, ofWay, noFetch, readAt, FetchedAt}
+use Rattle.fetch.specs.declared.FetchAnswer.{FetchAnswer}
+use Rattle.fetch.specs.declared.FetchAnswer.the-variants as fetch-answer
+use Rattle.fetch.specs.declared.Fetch.{Fetch}
+
+-- what is made of an answer
+pub refused-there : (a : FetchAnswer) (e : End) (x : Refusal) → e ≡ end.Refused x → fetch-answer.Refused x ≡ answerAt a e
+refused-there a e x h = rw h
+
+pub kept-there : (a : FetchAnswer) (e : End) (n : ℕ) → e ≡ end.At n → a ≡ answerAt a e
+kept-there a e n h = rw h
+
+pub poi-made : (g : PoiFetch) (a : FetchAnswer) (w : FetchedWay) → a ≡ answerAt fetch-answer.Point (g .end) → w ≡ emptyWay → _≡_ {A = Fetch} (record { answer = a; poi = g .poi; way = w }) (ofPoi g)
+poi-made g a w h k = rw (h, k)
+
+pub way-made : (g : WayFetch) (a : FetchAnswer) (p : FetchedPoi) → a ≡ answerAt fetch-answer.Way (g .end) → p ≡ emptyPoi → _≡_ {A = Fetch} (record { answer = a; poi = p; way = g .way }) (ofWay g)
+way-made g a p h k = rw (h, k)
+
+pub none-made : (x : Refusal) (p : FetchedPoi) (w : FetchedWay) → p ≡ emptyPoi → w ≡ emptyWay → _≡_ {A = Fetch} (record { answer = fetch-answer.Refused x; poi = p; way = w }) (noFetch x)
+none-made x p w h k = rw (h, k)
+
+pub ruleset makes = (needs, refused-there, kept-there, poi-made, way-made, none-made)
+
+-- delivering a point or a way is delivering a feature
+delivered-as : {A : Type 0} (f : A → Feature) (stored : Res (Fetched A)) (l : FetchLists)
+    → _≡_ {A = FetchReply Feature} (record { answer = answered (mapRes f (deliverAll stored l .answer)); lists = deliverAll stored l .lists }) (deliverAll (answered (mapRes (fetchedAs f) stored)) l)
+delivered-as f (ok x e) l = go (fitsAll (x .values) l) refl
+  where
+    go : (b : Bool) → fitsAll (x .values) l ≡ b → _≡_ {A = FetchReply Feature} (record { answer = answered (mapRes f (deliverAll (ok x e) l .answer)); lists = deliverAll (ok x e) l .lists }) (deliverAll (ok (fetchedAs f x) 0) l)
+    go true h = rw h
+    go false h = rw h
+delivered-as f (no n v) l = refl
+
+module _ {A : Type 0} (f : A → Feature) (empty : A) (stored : Res (Fetched A)) (l left : FetchLists) (v : A) (g : End) (q : FetchIs empty stored l v g left) where
+  replied : _≡_ {A = FetchReply Feature} (record { answer = answered (mapRes f (endRes v g)); lists = left }) (deliverAll (answered (mapRes (fetchedAs f) stored)) l)
+  replied = ap (λ (r : FetchReply A). record { answer = answered (mapRes f (r .answer)); lists = r .lists }) (q .reply) ∙ delivered-as f stored l
+
+  answered-as : answered (mapRes f (endRes v g)) ≡ deliverAll (answered (mapRes (fetchedAs f) stored)) l .answer
+  answered-as = ap (λ (r : FetchReply Feature). r .answer) replied
+
+  value-is : v ≡ viewOr (λ x. x) empty (endRes v g)
+  value-is = q .whole ∙ ap (λ (r : FetchReply A). viewOr (λ x. x) empty (r .answer)) (sym (q .reply))
+
+way-is : (stored : Res (Fetched FetchedWay)) (l left : FetchLists) (g : WayFetch) → WayFetchIs stored l g left → FeatureIs (answered (mapRes (fetchedAs aWay) stored)) l (ofWay g) left
+way-is stored l left g q = record {
+  reply = ap (λ (a : Res Feature). record { answer = a; lists = left }) (same (g .end)) ∙ replied aWay emptyWay stored l left (g .way) (g .end) q;
+  poi = none-there (endRes (g .way) (g .end)) ∙ ap poiIn (answered-as aWay emptyWay stored l left (g .way) (g .end) q);
+  way = value-is aWay emptyWay stored l left (g .way) (g .end) q ∙ it (endRes (g .way) (g .end)) ∙ ap wayIn (answered-as aWay emptyWay stored l left (g .way) (g .end) q);
+}
+  where
+    same : (e : End) → featureRes (answerAt fetch-answer.Way e) emptyPoi (g .way) ≡ answered (mapRes aWay (endRes (g .way) e))
+    same (end.At n) = refl
+    same (end.Refused x) = refl
+
+    none-there : (r : Res FetchedWay) → emptyPoi ≡ poiIn (answered (mapRes aWay r))
+    none-there (ok w e) = refl
+    none-there (no n v) = refl
+
+    it : (r : Res FetchedWay) → viewOr (λ x. x) emptyWay r ≡ wayIn (answered (mapRes aWay r))
+    it (ok w e) = refl
+    it (no n v) = refl
+
+poi-is : (stored : Res (Fetched FetchedPoi)) (l left : FetchLists) (g : PoiFetch) → FetchIs emptyPoi stored l (g .poi) (g .end) left → FeatureIs (answered (mapRes (fetchedAs aPoi) stored)) l (ofPoi g) left
+poi-is stored l left g q = record {
+  reply = ap (λ (a : Res Feature). record { answer = a; lists = left }) (same (g .end)) ∙ replied aPoi emptyPoi stored l left (g .poi) (g .end) q;
+  poi = value-is aPoi emptyPoi stored l left (g .poi) (g .end) q ∙ it (endRes (g .poi) (g .end)) ∙ ap poiIn (answered-as aPoi emptyPoi stored l left (g .poi) (g .end) q);
+  way = none-there (endRes (g .poi) (g .end)) ∙ ap wayIn (answered-as aPoi emptyPoi stored l left (g .poi) (g .end) q);
+}
+  where
+    same : (e : End) → featureRes (answerAt fetch-answer.Point e) (g .poi) emptyWay ≡ answered (mapRes aPoi (endRes (g .poi) e))
+    same (end.At n) = refl
+    same (end.Refused x) = refl
+
+    none-there : (r : Res FetchedPoi) → emptyWay ≡ wayIn (answered (mapRes aPoi r))
+    none-there (ok w e) = refl
+    none-there (no n v) = refl
+
+    it : (r : Res FetchedPoi) → viewOr (λ x. x) emptyPoi r ≡ poiIn (answered (mapRes aPoi r))
+    it (ok w e) = refl
+    it (no n v) = refl
+
+-- a point's fetch leaves the lists alone
+module _ (debug : Bool) (t : TagTable) (m : List ℕ) (i : ℕ) (c : List ℕ) (la lo il io : List Float) where
+  abbrev full : List ℕ → FetchLists
+  full b = lent c la lo il io b
+
+  room : (s : Point) (b : List ℕ) → fitsAll (poiLists (walkedName (tableIn t) m) s) (full b) ≡ leb (length (buffered (walkedName (tableIn t) m) (s .tagged .ids) (s .name) (s .houseNumber) none)) (length b)
+  room s b = rw (le-leb 0 (length c) zero-le, le-leb 0 (length la) zero-le, le-leb 0 (length lo) zero-le, le-leb 0 (length il) zero-le, le-leb 0 (length io) zero-le) refl
+
+  abbrev widened : List ℕ → FetchReply FetchedPoi → FetchReply FetchedPoi
+  widened b r = record { answer = r .answer; lists = full (r .lists .buffer) }
+
+  wide : (b : List ℕ) → widened b (deliverAll (poiStored debug t m i) (bufferOnly b)) ≡ deliverAll (poiStored debug t m i) (full b)
+  wide b = go (point debug (tagKinds (tableIn t) m) m i)
+    where
+      tested : (s : Point) (e : ℕ) (x : Bool) → leb (length (buffered (walkedName (tableIn t) m) (s .tagged .ids) (s .name) (s .houseNumber) none)) (length b) ≡ x
+          → widened b (deliverAll (ok (fetchedPoint (walkedName (tableIn t) m) s) e) (bufferOnly b)) ≡ deliverAll (ok (fetchedPoint (walkedName (tableIn t) m) s) e) (full b)
+      tested s e true h = rw (room s b, h) refl
+      tested s e false h = rw (room s b, h) refl
+
+      go : (r : Res Point) → widened b (deliverAll (mapRes (fetchedPoint (walkedName (tableIn t) m)) r) (bufferOnly b)) ≡ deliverAll (mapRes (fetchedPoint (walkedName (tableIn t) m)) r) (full b)
+      go (ok s e) = tested s e (leb (length (buffered (walkedName (tableIn t) m) (s .tagged .ids) (s .name) (s .houseNumber) none)) (length b)) refl
+      go (no n v) = refl
+
+  poi-wide : (b left : List ℕ) (g : PoiFetch) → PoiFetchIs (poiStored debug t m i) b g left → FetchIs emptyPoi (poiStored debug t m i) (full b) (g .poi) (g .end) (full left)
+  poi-wide b left g q = record {
+    reply = ap (widened b) (q .reply) ∙ wide b;
+    whole = q .whole ∙ ap (λ (r : FetchReply FetchedPoi). viewOr (λ x. x) emptyPoi (r .answer)) (wide b);
+  }
+
+-- at a place
+module _ (l : TileLayout) (p : FeaturePlace) (m c : List ℕ) (la lo il io : List Float) (b : List ℕ) (r : Fetch) where
+  pub at-point : (i : ℕ) (g : PoiFetch) (left : List ℕ) → p ≡ place.Point i → PoiFetchIs (poiStored (l .debug) (l .«poi_tags») m i) b g left → r ≡ ofPoi g → FetchedAt l (placeRes p) m (lent c la lo il io b) r (lent c la lo il io left)
+  at-point i g left h q e = record {
+    is = rw (h, e) (poi-is (poiStored (l .debug) (l .«poi_tags») m i) (lent c la lo il io b) (lent c la lo il io left) g (poi-wide (l .debug) (l .«poi_tags») m i c la lo il io b left g q));
+  }
+
+  pub at-way : (i : ℕ) (g : WayFetch) (left : FetchLists) → p ≡ place.Way i → WayFetchIs (wayStored (l .debug) (l .«way_tags») m i) (lent c la lo il io b) g left → r ≡ ofWay g → FetchedAt l (placeRes p) m (lent c la lo il io b) r left
+  at-way i g left h q e = record { is = rw (h, e) (way-is (wayStored (l .debug) (l .«way_tags») m i) (lent c la lo il io b) left g q) }
+
+  pub at-none : (x : Refusal) → p ≡ place.Refused x → r ≡ noFetch x → FetchedAt l (placeRes p) m (lent c la lo il io b) r (lent c la lo il io b)
+  at-none x h e = record { is = rw (h, e) (record { reply = refl; poi = refl; way = refl }) }
+
+pub ruleset places = (needs, at-point, at-way, at-none)
+
+-- value k of a run, and where it stands
+module _ {A : Type 0} (p : Parser A) (m : List ℕ) where
+  record Stands (l : List A) (k i : ℕ) : Type 0 where
+    before : List A
+    at : ℕ
+    value : A
+    end : ℕ
+    reached : many p k m i ≡ ok before at
+    read : p m at ≡ ok value end
+    kth : nth l k ≡ some value
+
+  stands : {i e : ℕ} {l : List A} → Chain p m i l e → (k : ℕ) → k < length l → Stands l k i
+  stands stop k b = absurd (not-suc-le-zero b)
+  stands (link {i = i} {x = x} {a = a} h c) zero b = record { before = []; at = i; value = a; end = x; reached = refl; read = h; kth = refl }
+  stands (link {i = i} {x = x} {a = a} h c) (suc k) b =
+      let s = stands c k (le-of-suc-le-suc b) in
+      record { before = a ∷ s .before; at = s .at; value = s .value; end = s .end; reached = rw (h, s .reached) refl; read = s .read; kth = s .kth }
+
+-- in a tile that collects, a read from where feature k stands gives what the fetch gives
+module _ (l : TileLayout) (rows : ℕ) (m : List ℕ) (i : ℕ) (t : StoredTile (formatOf l rows m)) (z : ℕ) (c : collect (formatOf l rows m) m i ≡ ok t z) (e : formatOf l rows m .End) (k : ℕ) where
+  abbrev F : Format
+  F = formatOf l rows m
+
+  abbrev reads : Res Place → Res (Fetched Feature)
+  reads r = answered (andThen r (λ p _. readAt l p m))
+
+  abbrev gives : collected.Feature (collected.storedCollection F) → Res (Fetched Feature)
+  gives f = given l rows m f
+
+  -- a way is its head and its body
+  way-stored : (x : ℕ) → wayStored (l .debug) (l .«way_tags») m x ≡ mapRes (λ w. fetchedWay (walkedName (tableIn (l .«way_tags»)) m) (w .head) (w .body)) (way F m x)
+  way-stored x = headed (head (l .debug) (tagKinds (tableIn (l .«way_tags»)) m) m x)
+    where
+      bodied : (h : Head) (r : Res Body) → mapRes (fetchedWay (walkedName (tableIn (l .«way_tags»)) m) h) r
+          ≡ mapRes (λ w. fetchedWay (walkedName (tableIn (l .«way_tags»)) m) (w .head) (w .body)) (andThen {B = Way F} r (λ b y. ok (record { head = h; body = b; end = y }) y))
+      bodied h (ok b y) = refl
+      bodied h (no n v) = refl
+
+      headed : (r : Res Head) → andThen r (λ h y. mapRes (fetchedWay (walkedName (tableIn (l .«way_tags»)) m) h) (body m y))
+          ≡ mapRes (λ w. fetchedWay (walkedName (tableIn (l .«way_tags»)) m) (w .head) (w .body)) (andThen {B = Way F} r (λ h y. andThen (body m y) (λ b u. ok (record { head = h; body = b; end = u }) u)))
+      headed (ok h y) = bodied h (body m y)
+      headed (no n v) = refl
+
+  a-point : k < length (t .points) → reads (andThen (many (F .point) k m (t .start)) (λ _ x. answer (pointAt x))) ≡ gives (collected.pointOr (nth (t .points) k))
+  a-point b =
+      let s = stands (F .point) m (tile.collected F m i t z c .points .chain) k b in
+      rw (s .reached, s .read, s .kth)
+
+  a-way : k - length (t .points) < length (t .ways) → reads (andThen (many (way F) (k - length (t .points)) m (t .start + t .head .offset)) (λ _ x. answer (wayAt x))) ≡ gives (collected.wayOr (nth (t .ways) (k - length (t .points))))
+  a-way b =
+      let s = stands (way F) m (tile.collected F m i t z c .ways .chain) (k - length (t .points)) b in
+      rw (s .reached, way-stored (s .at), s .read, s .kth)
+
+  place-gives : reads (placeIn F t k m) ≡ gives (collected.fetch (storedTile t e) k)
+  place-gives = points (ltb k (length (t .points))) refl
+    where
+      ways : (b : Bool) → ltb (k - length (t .points)) (length (t .ways)) ≡ b
+          → reads (cond b (andThen (many (way F) (k - length (t .points)) m (t .start + t .head .offset)) (λ _ x. answer (wayAt x))) (no 17 [])) ≡ gives (collected.wayOr (nth (t .ways) (k - length (t .points))))
+      ways true h = a-way (ltb-true (k - length (t .points)) (length (t .ways)) h)
+      ways false h = rw (nth-past (t .ways) (k - length (t .points)) (ltb-false (k - length (t .points)) (length (t .ways)) h))
+
+      points : (b : Bool) → ltb k (length (t .points)) ≡ b
+          → reads (cond b (andThen (many (F .point) k m (t .start)) (λ _ x. answer (pointAt x))) (cond (ltb (k - length (t .points)) (length (t .ways))) (andThen (many (way F) (k - length (t .points)) m (t .start + t .head .offset)) (λ _ x. answer (wayAt x))) (no 17 [])))
+          ≡ gives (cond b (collected.pointOr (nth (t .points) k)) (collected.wayOr (nth (t .ways) (k - length (t .points)))))
+      points true h = a-point (ltb-true k (length (t .points)) h)
+      points false h = ways (ltb (k - length (t .points)) (length (t .ways))) refl
+
+-- fetching is reading from there
+module _ (h : MapHeader) (s : ℕ) (grid : Grid) (number k : ℕ) (m : List ℕ) where
+  fetched-is : answered (andThen (featurePlace h s grid number k m) (λ p _. readAt (layoutOf h) p m)) ≡ fetchTile h s grid number k m
+  unfolding featurePlace fetchTile
+  fetched-is = located (locate (debugOf h) (intervalsOf h) s grid number m)
+    where
+      rowsAt : Located → ℕ
+      rowsAt a = rowsOfInterval (a .interval .min) (a .interval .max)
+
+      collects : (a : Located) (r : Res (StoredTile (formatOf (layoutOf h) (rowsAt a) m))) → collect (formatOf (layoutOf h) (rowsAt a) m) m (a .entry .absolute) ≡ r
+          → answered (andThen (andThen r (λ t _. placeIn (formatOf (layoutOf h) (rowsAt a) m) t k m)) (λ p _. readAt (layoutOf h) p m))
+          ≡ andThen r (λ t _. given (layoutOf h) (rowsAt a) m (collected.fetch (storedTile t (record { subFile = s; water = a .entry .water })) k))
+      collects a (ok t z) c = place-gives (layoutOf h) (rowsAt a) m (a .entry .absolute) t z c (record { subFile = s; water = a .entry .water }) k
+      collects a (no n v) c = refl
+
+      located : (r : Res Located) → answered (andThen (andThen r (λ a _. andThen (collect (formatOf (layoutOf h) (rowsAt a) m) m (a .entry .absolute)) (λ t _. placeIn (formatOf (layoutOf h) (rowsAt a) m) t k m))) (λ p _. readAt (layoutOf h) p m)) ≡ andThen r (λ a _. fetchAt (layoutOf h) k s a m)
+      located (ok a z) = collects a (collect (formatOf (layoutOf h) (rowsAt a) m) m (a .entry .absolute)) refl
+      located (no n v) = refl
+
+  pub feature-is : (g : FeaturePlace) (l : TileLayout) (lent left : FetchLists) (r : Fetch) → placeRes g ≡ featurePlace h s grid number k m → l ≡ layoutOf h → FetchedAt l (placeRes g) m lent r left → FeatureIs (fetchTile h s grid number k m) lent r left
+  feature-is g l lent left r q e f =
+      subst (λ (x : Res (Fetched Feature)). FeatureIs x lent r left)
+      (ap (λ x. answered (andThen (placeRes g) (λ p _. readAt x p m))) e ∙ ap (λ x. answered (andThen x (λ p _. readAt (layoutOf h) p m))) q ∙ fetched-is) (f .is)
+
+pub ruleset fetches = (needs, feature-is)

@@ -1,0 +1,107 @@
+-- Fetching: document 01, "The stream and the collected tile": "Feature k of a collected tile can then be fetched, points from 0, ways
+-- behind them". Which feature that is says `fetch` of crate agreement; what is given of it, crate fetched.
+use Prim.Native.Nat.{ℕ}
+use mathlib.Core.Bool.{Bool}
+use mathlib.Core.Path.{_≡_}
+use mathlib.Core.List.{List, []}
+use Rattle.parsing.specs.Parse.{Res, ok, no, andThen, mapRes}
+use Rattle.error.specs.Refusals.{refused}
+use Rattle.error.specs.declared.Refusal.{Refusal}
+use Rattle.format.specs.Index.{answer, answered, Grid, Located, locate}
+use Rattle.format.specs.Kinds.{tagKinds}
+use Rattle.format.specs.Rows.{rowsOfInterval}
+use Rattle.types.specs.Types.{intervalsOf, debugOf}
+use Rattle.types.specs.declared.End.{End}
+use Rattle.types.specs.declared.End.the-variants as end
+use Rattle.types.specs.declared.MapHeader.{MapHeader}
+use Rattle.tag_table.specs.Tables.{tableIn}
+use Rattle.tag.specs.declared.Kind.{Kind}
+use Rattle.agreement.specs.TileFormat.{tileFormat}
+use Rattle.agreement.specs.Collected as collected
+use Rattle.agreement.specs.Collected.{storedCollection, storedTile, collect}
+use Rattle.tile_layout.specs.TileLayout.{layoutOf, formatOf}
+use Rattle.tile_layout.specs.declared.TileLayout.{TileLayout}
+use Rattle.feature_place.specs.FeaturePlace.{Place, pointAt, wayAt}
+use Rattle.fetched.specs.Fetched.{walkedName, FetchLists, Fetched, fetchedPoint, fetchedWay, FetchReply, deliverAll}
+use Rattle.fetched.specs.declared.FetchedPoi.{FetchedPoi}
+use Rattle.fetched.specs.declared.FetchedWay.{FetchedWay}
+use Rattle.fetch_poi.specs.FetchPoi.{emptyPoi, poiStored}
+use Rattle.fetch_poi.specs.declared.PoiFetch.{PoiFetch}
+use Rattle.fetch_way.specs.FetchWay.{emptyWay, wayStored}
+use Rattle.fetch_way.specs.declared.WayFetch.{WayFetch}
+use Rattle.fetch.specs.declared.FetchAnswer.{FetchAnswer}
+use Rattle.fetch.specs.declared.FetchAnswer.the-variants as fetch-answer
+use Rattle.fetch.specs.declared.Fetch.{Fetch}
+
+pub data Feature : Type 0 where
+  aPoi : FetchedPoi → Feature
+  aWay : FetchedWay → Feature
+
+abbrev pub fetchedAs : {A : Type 0} → (A → Feature) → Fetched A → Fetched Feature
+fetchedAs f x = record { value = f (x .value); values = x .values }
+
+-- a stored feature as it is given, by the names of the tags; 17 for a number at or above the count
+abbrev pub givenBy : (debug : Bool) (rows : ℕ) (poiKinds wayKinds : List Kind) → (poiName wayName : ℕ → List ℕ) → collected.Feature (storedCollection (tileFormat debug rows poiKinds wayKinds)) → Res (Fetched Feature)
+givenBy debug rows poiKinds wayKinds poiName wayName (collected.aPoint p) = answer (fetchedAs aPoi (fetchedPoint poiName p))
+givenBy debug rows poiKinds wayKinds poiName wayName (collected.aWay w) = answer (fetchedAs aWay (fetchedWay wayName (w .head) (w .body)))
+givenBy debug rows poiKinds wayKinds poiName wayName collected.missing = no 17 []
+
+abbrev pub given : (l : TileLayout) (rows : ℕ) (m : List ℕ) → collected.Feature (storedCollection (formatOf l rows m)) → Res (Fetched Feature)
+given l rows m f =
+    givenBy (l .debug) rows (tagKinds (tableIn (l .«poi_tags»)) m) (tagKinds (tableIn (l .«way_tags»)) m) (walkedName (tableIn (l .«poi_tags»)) m)
+    (walkedName (tableIn (l .«way_tags»)) m) f
+
+-- feature k of the tile at a place
+abbrev pub fetchAt : TileLayout → (k subFile : ℕ) → Located → List ℕ → Res (Fetched Feature)
+fetchAt l k s a m =
+    andThen (collect (formatOf l (rowsOfInterval (a .interval .min) (a .interval .max)) m) m (a .entry .absolute)) (λ t _.
+    given l (rowsOfInterval (a .interval .min) (a .interval .max)) m (collected.fetch (storedTile t (record { subFile = s; water = a .entry .water })) k))
+
+-- refused as collecting is (sub file, grid, tile, entry, interval, the tile's bytes), then 17
+unfoldable pub fetchTile : MapHeader → (subFile : ℕ) → Grid → (number k : ℕ) → List ℕ → Res (Fetched Feature)
+fetchTile h s g n k m = andThen (locate (debugOf h) (intervalsOf h) s g n m) (λ a _. fetchAt (layoutOf h) k s a m)
+
+-- the answer of the code
+abbrev pub featureRes : FetchAnswer → FetchedPoi → FetchedWay → Res Feature
+featureRes fetch-answer.Point p w = answer (aPoi p)
+featureRes fetch-answer.Way p w = answer (aWay w)
+featureRes (fetch-answer.Refused r) p w = refused r
+
+-- the point and the way beside it: empty where it is none
+abbrev pub poiIn : Res Feature → FetchedPoi
+poiIn (ok (aPoi p) e) = p
+poiIn (ok (aWay w) e) = emptyPoi
+poiIn (no n v) = emptyPoi
+
+abbrev pub wayIn : Res Feature → FetchedWay
+wayIn (ok (aPoi p) e) = emptyWay
+wayIn (ok (aWay w) e) = w
+wayIn (no n v) = emptyWay
+
+-- the answer to a call, where the definition says `stored`: 15, if a list or the buffer is too short, comes last
+pub record FeatureIs (stored : Res (Fetched Feature)) (lent : FetchLists) (r : Fetch) (left : FetchLists) : Type 0 where
+  pub reply : _≡_ {A = FetchReply Feature} (record { answer = featureRes (r .answer) (r .poi) (r .way); lists = left }) (deliverAll stored lent)
+  pub poi : r .poi ≡ poiIn (deliverAll stored lent .answer)
+  pub way : r .way ≡ wayIn (deliverAll stored lent .answer)
+
+-- what the private functions make
+abbrev pub answerAt : FetchAnswer → End → FetchAnswer
+answerAt a (end.At n) = a
+answerAt a (end.Refused r) = fetch-answer.Refused r
+
+abbrev pub ofPoi : PoiFetch → Fetch
+ofPoi g = record { answer = answerAt fetch-answer.Point (g .end); poi = g .poi; way = emptyWay }
+
+abbrev pub ofWay : WayFetch → Fetch
+ofWay g = record { answer = answerAt fetch-answer.Way (g .end); poi = emptyPoi; way = g .way }
+
+abbrev pub noFetch : Refusal → Fetch
+noFetch r = record { answer = fetch-answer.Refused r; poi = emptyPoi; way = emptyWay }
+
+-- the feature that is read from a place, and what is delivered of it
+abbrev pub readAt : TileLayout → Place → List ℕ → Res (Fetched Feature)
+readAt l (pointAt i) m = mapRes (fetchedAs aPoi) (poiStored (l .debug) (l .«poi_tags») m i)
+readAt l (wayAt i) m = mapRes (fetchedAs aWay) (wayStored (l .debug) (l .«way_tags») m i)
+
+pub record FetchedAt (l : TileLayout) (place : Res Place) (m : List ℕ) (lent : FetchLists) (r : Fetch) (left : FetchLists) : Type 0 where
+  pub is : FeatureIs (answered (andThen place (λ p _. readAt l p m))) lent r left

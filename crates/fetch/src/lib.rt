@@ -1,0 +1,145 @@
+// tile.rs: a feature of a collected tile, by its number: points from 0, ways behind them.
+use error::Refusal;
+use feature_place::FeaturePlace;
+use fetch_poi::PoiFetch;
+use fetch_way::WayFetch;
+use fetched::FetchedPoi;
+use fetched::FetchedWay;
+use tile_layout::TileLayout;
+use types::End;
+use types::Grid;
+use types::MapHeader;
+ghost use mathlib.Core.Path.{_≡_};
+ghost use Rattle.types.specs.Types.{gridOf};
+ghost use Rattle.feature_place.specs.FeaturePlace.{placeRes};
+ghost use Rattle.fetch_way.specs.FetchWay.{lent};
+ghost use Rattle.fetch.specs.Fetch.{answerAt, ofPoi, ofWay, noFetch, fetchTile, FeatureIs, FetchedAt};
+
+pub enum FetchAnswer {
+    Point,
+    Way,
+    Refused(Refusal),
+}
+
+// The point and the way stand beside the answer; each is empty where it is not the answer.
+pub struct Fetch {
+    pub answer: FetchAnswer,
+    pub poi: FetchedPoi,
+    pub way: FetchedWay,
+}
+
+// An answer that came from a place, or the refusal there.
+fn answer_at(answer: FetchAnswer, end: End) -> FetchAnswer
+    ensures { λ r. ⌜ r ≡ answerAt answer end ⌝ }
+{
+    let End::Refused(refusal) = end else {
+        return answer;
+    };
+    FetchAnswer::Refused(refusal)
+}
+
+fn of_poi(got: PoiFetch) -> Fetch
+    ensures { λ r. ⌜ r ≡ ofPoi got ⌝ }
+{
+    let end = got.end;
+    let poi = got.poi;
+    Fetch {
+        answer: answer_at(FetchAnswer::Point, end),
+        poi,
+        way: fetch_way::empty_way(),
+    }
+}
+
+fn of_way(got: WayFetch) -> Fetch
+    ensures { λ r. ⌜ r ≡ ofWay got ⌝ }
+{
+    let end = got.end;
+    let way = got.way;
+    Fetch {
+        answer: answer_at(FetchAnswer::Way, end),
+        poi: fetch_poi::empty_poi(),
+        way,
+    }
+}
+
+fn no_fetch(refusal: Refusal) -> Fetch
+    ensures { λ r. ⌜ r ≡ noFetch refusal ⌝ }
+{
+    Fetch {
+        answer: FetchAnswer::Refused(refusal),
+        poi: fetch_poi::empty_poi(),
+        way: fetch_way::empty_way(),
+    }
+}
+
+// The feature at a place that was found.
+fn fetch_at(
+    map: &[u8],
+    place: FeaturePlace,
+    layout: TileLayout,
+    node_counts: &mut [u64],
+    latitudes: &mut [f64],
+    longitudes: &mut [f64],
+    initial_latitudes: &mut [f64],
+    initial_longitudes: &mut [f64],
+    buffer: &mut [u8],
+) -> Fetch
+    ensures { λ r. ⌜ FetchedAt layout (placeRes place) (now (map .entry)) (lent (now («node_counts» .entry)) (now (latitudes .entry)) (now (longitudes .entry)) (now («initial_latitudes» .entry)) (now («initial_longitudes» .entry)) (now (buffer .entry))) r (lent (now («node_counts» .exit)) (now (latitudes .exit)) (now (longitudes .exit)) (now («initial_latitudes» .exit)) (now («initial_longitudes» .exit)) (now (buffer .exit))) ⌝ }
+{
+    match place {
+        FeaturePlace::Point(at) => {
+            let table = layout.poi_tags;
+            of_poi(fetch_poi::fetch_poi(map, at, layout.debug, table, buffer))
+        }
+        FeaturePlace::Way(at) => {
+            let table = layout.way_tags;
+            of_way(fetch_way::fetch_way(
+                map,
+                at,
+                layout.debug,
+                table,
+                node_counts,
+                latitudes,
+                longitudes,
+                initial_latitudes,
+                initial_longitudes,
+                buffer,
+            ))
+        }
+        FeaturePlace::Refused(r) => no_fetch(r),
+    }
+}
+
+// Refused as collecting is; then 17 for a number at or above the count of features; then 15, with every length needed, if a list or the
+// buffer is too short. A point's texts go to the buffer; a way's node counts, latitudes and longitudes go to the first three lists, its
+// blocks' initial latitudes and longitudes to the others. A refusal leaves them all alone.
+pub fn fetch_feature(
+    map: &[u8],
+    header: MapHeader,
+    sub_file: usize,
+    grid: Grid,
+    tile: usize,
+    feature: u64,
+    node_counts: &mut [u64],
+    latitudes: &mut [f64],
+    longitudes: &mut [f64],
+    initial_latitudes: &mut [f64],
+    initial_longitudes: &mut [f64],
+    buffer: &mut [u8],
+) -> Fetch
+    ensures { λ r. ⌜ FeatureIs (fetchTile header «sub_file» (gridOf grid) tile feature (now (map .entry))) (lent (now («node_counts» .entry)) (now (latitudes .entry)) (now (longitudes .entry)) (now («initial_latitudes» .entry)) (now («initial_longitudes» .entry)) (now (buffer .entry))) r (lent (now («node_counts» .exit)) (now (latitudes .exit)) (now (longitudes .exit)) (now («initial_latitudes» .exit)) (now («initial_longitudes» .exit)) (now (buffer .exit))) ⌝ }
+{
+    let layout = tile_layout::layout_of(header);
+    let place = feature_place::find_feature(map, header, sub_file, grid, tile, feature);
+    fetch_at(
+        map,
+        place,
+        layout,
+        node_counts,
+        latitudes,
+        longitudes,
+        initial_latitudes,
+        initial_longitudes,
+        buffer,
+    )
+}

@@ -1,0 +1,143 @@
+-- A point as it is fetched, by what the readers answered.
+use Prim.Native.Nat.{ℕ, _-_, _^_, _≤_, _<_}
+use native.Mathlib.Omega.{arith}
+use mathlib.Core.Path.{_≡_, refl, sym, ap, _∙_, subst}
+use mathlib.Core.Bool.{Bool, cond}
+use mathlib.Core.List.{List, [], _∷_, _++_}
+use lib.Dec.{leb}
+use lib.ListN.{length, take}
+use lib.Seq.{take-all, length-take-le}
+use borrow.Author.Needs.{needs}
+use borrow.Author.Tests.{lt-ltb, le-leb, lt-leb}
+use Rattle.parsing.specs.Parse.{Res, ok, no, mapRes, none}
+use Rattle.parsing.specs.Good.{ok-val, ok-at, no-ok}
+use Rattle.error.specs.Refusals.{refused, shortBuffer}
+use Rattle.error.specs.declared.Refusal.{Refusal}
+use Rattle.arithmetic.specs.Cut.{cut}
+use Rattle.arithmetic.proofs.CutLaws.{cut-fits}
+use Rattle.format.specs.Kinds.{tagKinds}
+use Rattle.format.specs.Lent.{front}
+use Rattle.format.specs.Tile.{Point, point}
+use Rattle.types.specs.Types.{endRes, endRefusal, maybePart}
+use Rattle.types.specs.declared.End.{End}
+use Rattle.types.specs.declared.End.the-variants as end
+use Rattle.types.specs.declared.TagTable.{TagTable}
+use Rattle.tag_table.specs.Tables.{tableIn}
+use Rattle.poi.specs.Poi as poi
+use Rattle.poi.specs.Poi.{poiOf, PoiIs}
+use Rattle.poi.specs.declared.Poi.{Poi}
+use Rattle.poi.specs.declared.PoiRead.{PoiRead}
+use Rattle.fetched.specs.Fetched.{walkedName, buffered, featureTexts, noTexts, Fetched, fetchedPoint, FetchReply, deliverAll}
+use Rattle.fetched.specs.declared.FeatureTexts.{FeatureTexts}
+use Rattle.fetched.specs.declared.FetchedPoi.{FetchedPoi}
+use Rattle.fetched.proofs.FetchLaws.{is-refused, is-done}
+use Rattle.feature_texts.specs.FeatureTexts.{textsIn, writeTexts}
+use Rattle.feature_texts.specs.declared.TextParts.{TextParts}
+use Rattle.feature_texts.proofs.ShortLaws.{PointTexts, point-texts, none-stored, texts-short, count-in, ids-back}
+use Rattle.feature_tags.specs.FeatureTags.{textsOf}
+use Rattle.fetch_poi.specs.FetchPoi.{poiParts, poiWith, emptyPoi, poiStored, bufferOnly, PoiFetchIs, PoiWritten}
+use Rattle.fetch_poi.specs.declared.PoiFetch.{PoiFetch}
+
+-- where there is no point
+pub nothing : (t : FeatureTexts) → t ≡ noTexts → poiWith poi.emptyPoi t ≡ emptyPoi
+nothing t h = rw h
+
+pub ruleset empties = (needs, nothing)
+
+-- an answer
+abbrev Reply : Type 0
+Reply = FetchReply FetchedPoi
+
+-- the texts, measured and written
+module _ (t : TagTable) (p : Poi) (ids : List ℕ) (next : ℕ) (m b : List ℕ) (pr : TextParts) (k : pr ≡ poiParts p t) (len : ℕ) (l : len ≡ cut (length (textsIn pr m ids))) where
+  abbrev name : ℕ → List ℕ
+  name = walkedName (tableIn t) m
+
+  module _ (s : Point) (e : p ≡ poiOf s) (i : ids ≡ s .tagged .ids) (w : PointTexts m s) where
+    abbrev bytes : List ℕ
+    bytes = buffered name (s .tagged .ids) (s .name) (s .houseNumber) none
+
+    texts-are : textsIn pr m ids ≡ bytes
+    texts-are =
+        ap (λ x. textsIn x m ids) k ∙ ap (λ x. textsIn (poiParts x t) m ids) e ∙ ap (textsIn (poiParts (poiOf s) t) m) i
+        ∙ ap (λ x. buffered name (s .tagged .ids) x (maybePart m (poiOf s .«house_number»)) none) (w .name .same)
+        ∙ ap (λ x. buffered name (s .tagged .ids) (s .name) x none) (w .houseNumber .same)
+
+    few-bytes : length bytes < 2 ^ 64 - 1
+    few-bytes = texts-short (tableIn t) m (s .tagged .ids) (s .name) (s .houseNumber) none (w .few) (w .name) (w .houseNumber) (none-stored m)
+
+    measured : len ≡ length bytes
+    measured = let f = few-bytes in l ∙ ap (λ x. cut (length x)) texts-are ∙ cut-fits (length bytes) (omega arith)
+
+    described : (tx : FeatureTexts) → tx ≡ textsOf pr m ids → tx ≡ featureTexts name (s .tagged .ids) (s .name) (s .houseNumber) none
+    described tx h =
+        h ∙ ap (λ x. textsOf x m ids) k ∙ ap (λ x. textsOf (poiParts x t) m ids) e ∙ ap (textsOf (poiParts (poiOf s) t) m) i
+        ∙ ap (λ x. featureTexts name (take 15 (s .tagged .ids)) x (maybePart m (poiOf s .«house_number»)) none) (w .name .same)
+        ∙ ap (λ x. featureTexts name (take 15 (s .tagged .ids)) (s .name) x none) (w .houseNumber .same)
+        ∙ ap (λ x. featureTexts name x (s .name) (s .houseNumber) none) (take-all 15 (s .tagged .ids) (w .few))
+
+    short-reply : length b < len → _≡_ {A = Reply} (record { answer = refused (shortBuffer len); lists = bufferOnly b }) (deliverAll (ok (fetchedPoint name s) next) (bufferOnly b))
+    short-reply h =
+        let x = measured in
+        let y : length b < length bytes = omega arith in
+        ap (λ n. record { answer = refused (shortBuffer n); lists = bufferOnly b }) x ∙ rw (lt-leb (length bytes) (length b) y)
+
+    done-reply : (left : List ℕ) (tx : FeatureTexts) (v : FetchedPoi) → len ≤ length b → left ≡ writeTexts (textsIn pr m ids) b → tx ≡ textsOf pr m ids → v ≡ poiWith p tx
+        → _≡_ {A = Reply} (record { answer = ok v next; lists = bufferOnly left }) (deliverAll (ok (fetchedPoint name s) next) (bufferOnly b))
+    done-reply left tx v h u d a =
+        let x = measured in
+        let y : length bytes ≤ length b = omega arith in
+        let z : left ≡ front bytes b = u ∙ ap (λ c. writeTexts c b) texts-are ∙ rw (lt-ltb (length bytes) (2 ^ 64 - 1) few-bytes, le-leb (length bytes) (length b) y) in
+        ap (λ c. record { answer = ok v next; lists = bufferOnly c }) z
+        ∙ ap (λ c. record { answer = ok c next; lists = bufferOnly (front bytes b) }) (a ∙ ap (λ c. poiWith c tx) e ∙ ap (poiWith (poiOf s)) (described tx d))
+        ∙ rw (le-leb (length bytes) (length b) y)
+
+  pub poi-short : (r : PoiFetch) (x : Refusal) → length b < len → x ≡ shortBuffer len → r .poi ≡ emptyPoi → r .end ≡ end.Refused x → PoiWritten t p ids next m b r b
+  poi-short r x h d v c = record { each = λ s e i w. is-refused emptyPoi _ (bufferOnly b) (r .poi) (r .end) (shortBuffer len) v (c ∙ ap end.Refused d) (short-reply s e i w h) }
+
+  pub poi-done : (left : List ℕ) (tx : FeatureTexts) (v : FetchedPoi) → len ≤ length b → left ≡ writeTexts (textsIn pr m ids) b → tx ≡ textsOf pr m ids → v ≡ poiWith p tx
+      → PoiWritten t p ids next m b (record { poi = v; end = end.At next }) left
+  poi-done left tx v h u d a = record { each = λ s e i w. is-done emptyPoi _ (bufferOnly b) v next (bufferOnly left) (done-reply s e i w left tx v h u d a) }
+
+pub ruleset texts = (needs, poi-short, poi-done)
+
+-- the point, read from its place
+module _ (debug : Bool) (t : TagTable) (m : List ℕ) (at : ℕ) (g : PoiRead) (q : PoiIs (point debug (tagKinds (tableIn t) m) m at) g) where
+  abbrev stored : Res Point
+  stored = point debug (tagKinds (tableIn t) m) m at
+
+  pub fetch-no : (b : List ℕ) (r : PoiFetch) (x y : Refusal) → g .end ≡ end.Refused x → y ≡ endRefusal (g .end) → r .poi ≡ emptyPoi → r .end ≡ end.Refused y → PoiFetchIs (poiStored debug t m at) b r b
+  fetch-no b r x y h w v e = is-refused emptyPoi (poiStored debug t m at) (bufferOnly b) (r .poi) (r .end) x v (e ∙ ap end.Refused (w ∙ ap endRefusal h)) (go stored (ap (endRes (g .poi)) (sym h) ∙ q .answer))
+    where
+      go : (s : Res Point) → refused x ≡ mapRes poiOf s → _≡_ {A = Reply} (record { answer = refused x; lists = bufferOnly b }) (deliverAll (mapRes (fetchedPoint (walkedName (tableIn t) m)) s) (bufferOnly b))
+      go (ok s e) d = no-ok d
+      go (no n v) d = let i : refused {A = FetchedPoi} x ≡ no n v = cc in rw i
+
+  module _ (n : ℕ) (h : g .end ≡ end.At n) where
+    record Known : Type 0 where
+      value : Point
+      same : stored ≡ ok value n
+      shown : g .poi ≡ poiOf value
+
+    known : Known
+    known = go stored refl (ap (endRes (g .poi)) (sym h) ∙ q .answer)
+      where
+        go : (r : Res Point) → stored ≡ r → ok (g .poi) n ≡ mapRes poiOf r → Known
+        go (ok s e) f d = record { value = s; same = f ∙ ap (ok s) (sym (ok-at d)); shown = ok-val d }
+        go (no k v) f d = no-ok (sym d)
+
+    facts : PointTexts m (known .value)
+    facts = point-texts m debug (tagKinds (tableIn t) m) .holds at (known .value) n (known .same)
+
+    pub ids-in : g .poi .«tag_ids» .count ≤ length (g .poi .«tag_ids» .ids)
+    ids-in = rw (known .shown) (count-in (known .value .tagged .ids))
+
+    pub ids-sized : g .poi .«tag_ids» .count ≡ length (take (g .poi .«tag_ids» .count) (g .poi .«tag_ids» .ids))
+    ids-sized = sym (length-take-le (g .poi .«tag_ids» .count) (g .poi .«tag_ids» .ids) ids-in)
+
+    pub fetch-on : (b left : List ℕ) (r : PoiFetch) → PoiWritten t (g .poi) (take (g .poi .«tag_ids» .count) (g .poi .«tag_ids» .ids)) n m b r left → PoiFetchIs (poiStored debug t m at) b r left
+    fetch-on b left r w =
+        let i : take (g .poi .«tag_ids» .count) (g .poi .«tag_ids» .ids) ≡ known .value .tagged .ids = ap (λ (x : Poi). take (x .«tag_ids» .count) (x .«tag_ids» .ids)) (known .shown) ∙ ids-back (known .value .tagged .ids) in
+        subst (λ (s : Res Point). PoiFetchIs (mapRes (fetchedPoint (walkedName (tableIn t) m)) s) b r left) (sym (known .same)) (w .each (known .value) (known .shown) i facts)
+
+pub ruleset fetches = (needs, fetch-no, ids-in, ids-sized, fetch-on)
