@@ -15,6 +15,7 @@ use Rattle.parsing.specs.Good.{ok-val, ok-at, no-ok}
 use Rattle.parsing.proofs.Lists.{nth-past}
 use Rattle.error.specs.Refusals.{refused}
 use Rattle.error.specs.declared.Refusal.{Refusal}
+use Rattle.error.specs.declared.Refusal.the-variants.{Source}
 use Rattle.format.specs.Index.{answer, answered, Grid, Located, locate}
 use Rattle.format.specs.Kinds.{tagKinds}
 use Rattle.format.specs.Rows.{rowsOfInterval}
@@ -41,9 +42,10 @@ use Rattle.fetched.specs.declared.FetchedPoi.{FetchedPoi}
 use Rattle.fetched.specs.declared.FetchedWay.{FetchedWay}
 use Rattle.fetch_poi.specs.FetchPoi.{emptyPoi, poiStored, bufferOnly, PoiFetchIs}
 use Rattle.fetch_poi.specs.declared.PoiFetch.{PoiFetch}
-use Rattle.fetch_way.specs.FetchWay.{lent, emptyWay, wayStored, WayFetchIs}
+use Rattle.measured_way.specs.MeasuredWay.{emptyWay, wayStored}
+use Rattle.fetch_way.specs.FetchWay.{lent, WayFetchIs}
 use Rattle.fetch_way.specs.declared.WayFetch.{WayFetch}
-use Rattle.fetch.specs.Fetch.{Feature, aPoi, aWay, fetchedAs, given, fetchAt, fetchTile, featureRes, poiIn, wayIn, FeatureIs, answerAt, ofPoi, ofWay, noFetch, readAt, FetchedAt}
+use Rattle.fetch.specs.Fetch.{Feature, aPoi, aWay, fetchedAs, given, fetchAt, fetchTile, featureRes, poiIn, wayIn, FeatureIs, answerAt, ofPoi, ofWay, noFetch, readAt, FetchedAt, wayEnd, OtherAt}
 use Rattle.fetch.specs.declared.FetchAnswer.{FetchAnswer}
 use Rattle.fetch.specs.declared.FetchAnswer.the-variants as fetch-answer
 use Rattle.fetch.specs.declared.Fetch.{Fetch}
@@ -153,20 +155,39 @@ module _ (debug : Bool) (t : TagTable) (m : List ℕ) (i : ℕ) (c : List ℕ) (
     whole = q .whole ∙ ap (λ (r : FetchReply FetchedPoi). viewOr (λ x. x) emptyPoi (r .answer)) (wide b);
   }
 
--- at a place
-module _ (l : TileLayout) (p : FeaturePlace) (m c : List ℕ) (la lo il io : List Float) (b : List ℕ) (r : Fetch) where
-  pub at-point : (i : ℕ) (g : PoiFetch) (left : List ℕ) → p ≡ place.Point i → PoiFetchIs (poiStored (l .debug) (l .«poi_tags») m i) b g left → r ≡ ofPoi g → FetchedAt l (placeRes p) m (lent c la lo il io b) r (lent c la lo il io left)
+-- where a way starts, if it is one
+pub a-way-there : (p : FeaturePlace) (i : ℕ) → p ≡ place.Way i → end.At i ≡ wayEnd p
+a-way-there p i h = rw h
+
+pub no-way-there : (p : FeaturePlace) (i : ℕ) → p ≡ place.Point i → end.Refused Source ≡ wayEnd p
+no-way-there p i h = rw h
+
+pub nothing-there : (p : FeaturePlace) (x : Refusal) → p ≡ place.Refused x → end.Refused Source ≡ wayEnd p
+nothing-there p x h = rw h
+
+pub ruleset ways = (needs, a-way-there, no-way-there, nothing-there)
+
+-- at a place that is no way's
+module _ (l : TileLayout) (p : FeaturePlace) (m b : List ℕ) (r : Fetch) where
+  pub at-point : (i : ℕ) (g : PoiFetch) (left : List ℕ) → p ≡ place.Point i → PoiFetchIs (poiStored (l .debug) (l .«poi_tags») m i) b g left → r ≡ ofPoi g → OtherAt l p m b r left
   at-point i g left h q e = record {
-    is = rw (h, e) (poi-is (poiStored (l .debug) (l .«poi_tags») m i) (lent c la lo il io b) (lent c la lo il io left) g (poi-wide (l .debug) (l .«poi_tags») m i c la lo il io b left g q));
+    each = λ x w c la lo il io. rw (h, e) (poi-is (poiStored (l .debug) (l .«poi_tags») m i) (lent c la lo il io b) (lent c la lo il io left) g (poi-wide (l .debug) (l .«poi_tags») m i c la lo il io b left g q));
   }
 
-  pub at-way : (i : ℕ) (g : WayFetch) (left : FetchLists) → p ≡ place.Way i → WayFetchIs (wayStored (l .debug) (l .«way_tags») m i) (lent c la lo il io b) g left → r ≡ ofWay g → FetchedAt l (placeRes p) m (lent c la lo il io b) r left
-  at-way i g left h q e = record { is = rw (h, e) (way-is (wayStored (l .debug) (l .«way_tags») m i) (lent c la lo il io b) left g q) }
+  pub at-none : (x : Refusal) → p ≡ place.Refused x → r ≡ noFetch x → OtherAt l p m b r b
+  at-none x h e = record { each = λ y w c la lo il io. rw (h, e) (record { reply = refl; poi = refl; way = refl }) }
 
-  pub at-none : (x : Refusal) → p ≡ place.Refused x → r ≡ noFetch x → FetchedAt l (placeRes p) m (lent c la lo il io b) r (lent c la lo il io b)
-  at-none x h e = record { is = rw (h, e) (record { reply = refl; poi = refl; way = refl }) }
+  pub at-way : (i : ℕ) → p ≡ place.Way i → OtherAt l p m b r b
+  at-way i h = record { each = λ y w c la lo il io. absurd (never (sym (ap wayEnd h) ∙ w)) }
+    where
+      isAt : End → ℕ
+      isAt (end.At n) = 0
+      isAt (end.Refused x) = 1
 
-pub ruleset places = (needs, at-point, at-way, at-none)
+      never : {x : Refusal} → end.At i ≡ end.Refused x → ⊥
+      never e = let z = ap isAt e in omega arith
+
+pub ruleset others = (needs, at-point, at-none, at-way)
 
 -- value k of a run, and where it stands
 module _ {A : Type 0} (p : Parser A) (m : List ℕ) where
@@ -254,9 +275,31 @@ module _ (h : MapHeader) (s : ℕ) (grid : Grid) (number k : ℕ) (m : List ℕ)
       located (ok a z) = collects a (collect (formatOf (layoutOf h) (rowsAt a) m) m (a .entry .absolute)) refl
       located (no n v) = refl
 
-  pub feature-is : (g : FeaturePlace) (l : TileLayout) (lent left : FetchLists) (r : Fetch) → placeRes g ≡ featurePlace h s grid number k m → l ≡ layoutOf h → FetchedAt l (placeRes g) m lent r left → FeatureIs (fetchTile h s grid number k m) lent r left
-  feature-is g l lent left r q e f =
-      subst (λ (x : Res (Fetched Feature)). FeatureIs x lent r left)
-      (ap (λ x. answered (andThen (placeRes g) (λ p _. readAt x p m))) e ∙ ap (λ x. answered (andThen x (λ p _. readAt (layoutOf h) p m))) q ∙ fetched-is) (f .is)
+  feature-is : (p : Res Place) (l : TileLayout) (lists left : FetchLists) (r : Fetch) → p ≡ featurePlace h s grid number k m → l ≡ layoutOf h → FetchedAt l p m lists r left → FeatureIs (fetchTile h s grid number k m) lists r left
+  feature-is p l lists left r q e f =
+      subst (λ (x : Res (Fetched Feature)). FeatureIs x lists r left)
+      (ap (λ x. answered (andThen p (λ p _. readAt x p m))) e ∙ ap (λ x. answered (andThen x (λ p _. readAt (layoutOf h) p m))) q ∙ fetched-is) f
 
-pub ruleset fetches = (needs, feature-is)
+  module _ (g : FeaturePlace) (l : TileLayout) (r : Fetch) (q : placeRes g ≡ featurePlace h s grid number k m) (e : l ≡ layoutOf h) (w : End) (f : w ≡ wayEnd g) (c : List ℕ) (la lo il io : List Float) (b : List ℕ) where
+    pub other-fetched : (x : Refusal) (left : List ℕ) → w ≡ end.Refused x → OtherAt l g m b r left → FeatureIs (fetchTile h s grid number k m) (lent c la lo il io b) r (lent c la lo il io left)
+    other-fetched x left d o = feature-is (placeRes g) l (lent c la lo il io b) (lent c la lo il io left) r q e (o .each x (sym f ∙ d) c la lo il io)
+
+    pub way-fetched : (i : ℕ) (y : WayFetch) (left : FetchLists) → w ≡ end.At i → WayFetchIs (wayStored (l .debug) (l .«way_tags») m i) (lent c la lo il io b) y left → r ≡ ofWay y
+        → FeatureIs (fetchTile h s grid number k m) (lent c la lo il io b) r left
+    way-fetched i y left d o v =
+        feature-is (answer (wayAt i)) l (lent c la lo il io b) left r (sym (there g (sym f ∙ d)) ∙ q) e (rw v (way-is (wayStored (l .debug) (l .«way_tags») m i) (lent c la lo il io b) left y o))
+      where
+        isAt : End → ℕ
+        isAt (end.At n) = 0
+        isAt (end.Refused x) = 1
+
+        placeAt : End → ℕ
+        placeAt (end.At n) = n
+        placeAt (end.Refused x) = 0
+
+        there : (p : FeaturePlace) → wayEnd p ≡ end.At i → placeRes p ≡ answer (wayAt i)
+        there (place.Point n) d = let z = ap isAt d in absurd (omega arith)
+        there (place.Way n) d = ap (λ a. answer (wayAt a)) (ap placeAt d)
+        there (place.Refused x) d = let z = ap isAt d in absurd (omega arith)
+
+pub ruleset fetches = (needs, other-fetched, way-fetched)

@@ -4,9 +4,11 @@ use Prim.Native.Nat.{ℕ}
 use mathlib.Core.Bool.{Bool}
 use mathlib.Core.Path.{_≡_}
 use mathlib.Core.List.{List, []}
+use lib.Ieee.{Float}
 use Rattle.parsing.specs.Parse.{Res, ok, no, andThen, mapRes}
 use Rattle.error.specs.Refusals.{refused}
 use Rattle.error.specs.declared.Refusal.{Refusal}
+use Rattle.error.specs.declared.Refusal.the-variants.{Source}
 use Rattle.format.specs.Index.{answer, answered, Grid, Located, locate}
 use Rattle.format.specs.Kinds.{tagKinds}
 use Rattle.format.specs.Rows.{rowsOfInterval}
@@ -21,13 +23,16 @@ use Rattle.agreement.specs.Collected as collected
 use Rattle.agreement.specs.Collected.{storedCollection, storedTile, collect}
 use Rattle.tile_layout.specs.TileLayout.{layoutOf, formatOf}
 use Rattle.tile_layout.specs.declared.TileLayout.{TileLayout}
-use Rattle.feature_place.specs.FeaturePlace.{Place, pointAt, wayAt}
+use Rattle.feature_place.specs.FeaturePlace.{Place, pointAt, wayAt, placeRes}
+use Rattle.feature_place.specs.declared.FeaturePlace.{FeaturePlace}
+use Rattle.feature_place.specs.declared.FeaturePlace.the-variants as place
 use Rattle.fetched.specs.Fetched.{walkedName, FetchLists, Fetched, fetchedPoint, fetchedWay, FetchReply, deliverAll}
 use Rattle.fetched.specs.declared.FetchedPoi.{FetchedPoi}
 use Rattle.fetched.specs.declared.FetchedWay.{FetchedWay}
 use Rattle.fetch_poi.specs.FetchPoi.{emptyPoi, poiStored}
 use Rattle.fetch_poi.specs.declared.PoiFetch.{PoiFetch}
-use Rattle.fetch_way.specs.FetchWay.{emptyWay, wayStored}
+use Rattle.measured_way.specs.MeasuredWay.{emptyWay, wayStored}
+use Rattle.fetch_way.specs.FetchWay.{lent}
 use Rattle.fetch_way.specs.declared.WayFetch.{WayFetch}
 use Rattle.fetch.specs.declared.FetchAnswer.{FetchAnswer}
 use Rattle.fetch.specs.declared.FetchAnswer.the-variants as fetch-answer
@@ -103,5 +108,15 @@ abbrev pub readAt : TileLayout → Place → List ℕ → Res (Fetched Feature)
 readAt l (pointAt i) m = mapRes (fetchedAs aPoi) (poiStored (l .debug) (l .«poi_tags») m i)
 readAt l (wayAt i) m = mapRes (fetchedAs aWay) (wayStored (l .debug) (l .«way_tags») m i)
 
-pub record FetchedAt (l : TileLayout) (place : Res Place) (m : List ℕ) (lent : FetchLists) (r : Fetch) (left : FetchLists) : Type 0 where
-  pub is : FeatureIs (answered (andThen place (λ p _. readAt l p m))) lent r left
+abbrev pub FetchedAt : TileLayout → Res Place → List ℕ → (lent : FetchLists) → Fetch → (left : FetchLists) → Type 0
+FetchedAt l p m lists r left = FeatureIs (answered (andThen p (λ q _. readAt l q m))) lists r left
+
+-- where a way starts, if it is one
+abbrev pub wayEnd : FeaturePlace → End
+wayEnd (place.Point n) = end.Refused Source
+wayEnd (place.Way n) = end.At n
+wayEnd (place.Refused r) = end.Refused Source
+
+-- a place that is no way's: the lists keep their values
+pub record OtherAt (l : TileLayout) (p : FeaturePlace) (m buffer : List ℕ) (r : Fetch) (left : List ℕ) : Type 0 where
+  pub each : (x : Refusal) → wayEnd p ≡ end.Refused x → (c : List ℕ) (la lo il io : List Float) → FetchedAt l (placeRes p) m (lent c la lo il io buffer) r (lent c la lo il io left)

@@ -11,9 +11,8 @@ use types::Grid;
 use types::MapHeader;
 ghost use mathlib.Core.Path.{_≡_};
 ghost use Rattle.types.specs.Types.{gridOf};
-ghost use Rattle.feature_place.specs.FeaturePlace.{placeRes};
 ghost use Rattle.fetch_way.specs.FetchWay.{lent};
-ghost use Rattle.fetch.specs.Fetch.{answerAt, ofPoi, ofWay, noFetch, fetchTile, FeatureIs, FetchedAt};
+ghost use Rattle.fetch.specs.Fetch.{answerAt, ofPoi, ofWay, noFetch, fetchTile, wayEnd, OtherAt, FeatureIs};
 
 pub enum FetchAnswer {
     Point,
@@ -46,7 +45,7 @@ fn of_poi(got: PoiFetch) -> Fetch
     Fetch {
         answer: answer_at(FetchAnswer::Point, end),
         poi,
-        way: fetch_way::empty_way(),
+        way: measured_way::empty_way(),
     }
 }
 
@@ -68,45 +67,32 @@ fn no_fetch(refusal: Refusal) -> Fetch
     Fetch {
         answer: FetchAnswer::Refused(refusal),
         poi: fetch_poi::empty_poi(),
-        way: fetch_way::empty_way(),
+        way: measured_way::empty_way(),
     }
 }
 
-// The feature at a place that was found.
-fn fetch_at(
-    map: &[u8],
-    place: FeaturePlace,
-    layout: TileLayout,
-    node_counts: &mut [u64],
-    latitudes: &mut [f64],
-    longitudes: &mut [f64],
-    initial_latitudes: &mut [f64],
-    initial_longitudes: &mut [f64],
-    buffer: &mut [u8],
-) -> Fetch
-    ensures { λ r. ⌜ FetchedAt layout (placeRes place) (now (map .entry)) (lent (now («node_counts» .entry)) (now (latitudes .entry)) (now (longitudes .entry)) (now («initial_latitudes» .entry)) (now («initial_longitudes» .entry)) (now (buffer .entry))) r (lent (now («node_counts» .exit)) (now (latitudes .exit)) (now (longitudes .exit)) (now («initial_latitudes» .exit)) (now («initial_longitudes» .exit)) (now (buffer .exit))) ⌝ }
+// Where a way starts, if it is one.
+fn way_end(place: FeaturePlace) -> End
+    ensures { λ r. ⌜ r ≡ wayEnd place ⌝ }
+{
+    match place {
+        FeaturePlace::Way(at) => End::At(at),
+        FeaturePlace::Point(_) => End::Refused(Refusal::Source),
+        FeaturePlace::Refused(_) => End::Refused(Refusal::Source),
+    }
+}
+
+// The point at a place, or why there is no feature. A way is not read here: it needs more lists.
+fn of_place(map: &[u8], place: FeaturePlace, layout: TileLayout, buffer: &mut [u8]) -> Fetch
+    ensures { λ r. ⌜ OtherAt layout place (now (map .entry)) (now (buffer .entry)) r (now (buffer .exit)) ⌝ }
 {
     match place {
         FeaturePlace::Point(at) => {
             let table = layout.poi_tags;
             of_poi(fetch_poi::fetch_poi(map, at, layout.debug, table, buffer))
         }
-        FeaturePlace::Way(at) => {
-            let table = layout.way_tags;
-            of_way(fetch_way::fetch_way(
-                map,
-                at,
-                layout.debug,
-                table,
-                node_counts,
-                latitudes,
-                longitudes,
-                initial_latitudes,
-                initial_longitudes,
-                buffer,
-            ))
-        }
         FeaturePlace::Refused(r) => no_fetch(r),
+        FeaturePlace::Way(_) => no_fetch(Refusal::Source),
     }
 }
 
@@ -131,15 +117,21 @@ pub fn fetch_feature(
 {
     let layout = tile_layout::layout_of(header);
     let place = feature_place::find_feature(map, header, sub_file, grid, tile, feature);
-    fetch_at(
+    let end = way_end(place);
+    let End::At(at) = end else {
+        return of_place(map, place, layout, buffer);
+    };
+    let table = layout.way_tags;
+    of_way(fetch_way::fetch_way(
         map,
-        place,
-        layout,
+        at,
+        layout.debug,
+        table,
         node_counts,
         latitudes,
         longitudes,
         initial_latitudes,
         initial_longitudes,
         buffer,
-    )
+    ))
 }

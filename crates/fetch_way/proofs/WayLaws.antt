@@ -1,111 +1,37 @@
--- A way as it is fetched, by what the readers answered.
-use Prim.Native.Nat.{ℕ, _+_, _-_, _^_, _≤_, _<_}
+-- A way's nodes and its blocks' initial positions, written to the lists.
+use Prim.Native.Nat.{ℕ, _≤_}
 use native.Mathlib.Omega.{arith}
-use mathlib.Core.Path.{_≡_, refl, sym, ap, _∙_, subst}
-use mathlib.Core.Bool.{Bool, true, false, not, _&&_, cond}
-use mathlib.Core.List.{List, [], _∷_, _++_}
-use lib.Dec.{leb, ltb}
+use mathlib.Core.Path.{_≡_, refl, sym, ap, _∙_}
+use mathlib.Core.Bool.{Bool, true, false, _&&_, cond}
+use mathlib.Core.List.{List}
+use lib.Dec.{leb}
 use lib.Ieee.{Float}
-use lib.ListN.{length, take, drop, length-map, length-append}
-use lib.Seq.{take-all, take-at, length-take-le, length-front}
+use lib.ListN.{length, take, drop, length-map}
+use lib.Seq.{take-at, length-take-le, length-front}
 use borrow.Author.Needs.{needs}
-use borrow.Author.Tests.{leb-true, leb-false, lt-ltb, le-ltb, le-leb, lt-leb}
-use Rattle.parsing.specs.Parse.{Res, ok, no, andThen, mapRes}
-use Rattle.parsing.specs.Good.{ok-val, ok-at, no-ok}
-use Rattle.error.specs.Refusals.{refused}
-use Rattle.error.specs.declared.Refusal.{Refusal}
-use Rattle.arithmetic.specs.Cut.{cut}
-use Rattle.arithmetic.proofs.CutLaws.{cut-fits}
-use Rattle.format.specs.Kinds.{tagKinds}
+use borrow.Author.Tests.{leb-true, le-leb}
+use Rattle.parsing.specs.Parse.{Res, ok, no}
 use Rattle.format.specs.Lent.{front, LentLists, Reply, fits, written, needed, deliver}
-use Rattle.format.specs.WayData.{Node, concat, nodeCount}
+use Rattle.format.specs.WayData.{Node, concat}
 use Rattle.format.specs.Nodes.{latitudeOf, longitudeOf, nodeCounts, latitudes, longitudes, initialLatitudes, initialLongitudes}
 use Rattle.format.specs.BodyLists.{bodyLists}
-use Rattle.format.specs.Tile.{Head, head, Body, body, doubleDelta}
-use Rattle.types.specs.declared.TagTable.{TagTable}
-use Rattle.tag_table.specs.Tables.{tableIn}
-use Rattle.way.specs.Way.{bodyOf, bodyRes, bodyReply, bodyRefusal}
+use Rattle.format.specs.Tile.{Body, body, doubleDelta}
+use Rattle.way.specs.Way.{bodyOf, bodyReply}
 use Rattle.way.specs.declared.WayBody.{WayBody}
 use Rattle.way.specs.declared.WayBodyRead.{WayBodyRead}
-use Rattle.way.specs.declared.WayBodyRead.the-variants as body-read
 use Rattle.way_data.specs.Reply as lists
-use Rattle.way_data.proofs.BlockLaws.{length-along}
 use Rattle.initial_positions.specs.Initial.{initials, writeInitials}
 use Rattle.initial_positions.proofs.InitialLaws.{initials-are}
-use Rattle.fetched.specs.Fetched.{FetchLists, noTexts}
-use Rattle.fetched.specs.declared.FeatureTexts.{FeatureTexts}
-use Rattle.fetch_way.specs.FetchWay.{lent, listsOf, emptyWay, roomy, ListsWritten}
-use Rattle.way_head.specs.WayHead.{emptyHead}
-use Rattle.types.specs.declared.OptionalPosition.the-variants as position
-use Rattle.fetched.specs.declared.FetchedWay.{FetchedWay}
+use Rattle.fetch_way.specs.FetchWay.{lent, listsOf, ListsWritten}
 
--- where there is no way
-pub nothing : (t : FeatureTexts) → t ≡ noTexts
-    → _≡_ {A = FetchedWay} (record { signature = emptyHead .signature; bitmap = 0; layer = emptyHead .layer; «tag_ids» = emptyHead .«tag_ids»; texts = t; «label_position» = position.Absent; «double_delta» = false; blocks = 0; nodes = 0 }) emptyWay
-nothing t h = rw h
-
-pub ruleset empties = (needs, nothing)
-
--- the test of the lengths
-and-first : (a b : Bool) → (a && b) ≡ true → a ≡ true
+-- tests joined
+pub and-first : (a b : Bool) → (a && b) ≡ true → a ≡ true
 and-first true b h = refl
 and-first false b h = h
 
-and-second : (a b : Bool) → (a && b) ≡ true → b ≡ true
+pub and-second : (a b : Bool) → (a && b) ≡ true → b ≡ true
 and-second true b h = h
 and-second false b h = absurd (let z : _≡_ {A = ℕ} 0 1 = cc in omega arith)
-
-pub record Room (blocks texts c il io b : ℕ) : Type 0 where
-  pub counts : blocks ≤ c
-  pub initialLatitudes : blocks ≤ il
-  pub initialLongitudes : blocks ≤ io
-  pub buffer : texts ≤ b
-
-pub room : (blocks nodes texts c la lo il io b : ℕ) → roomy blocks nodes texts c la lo il io b ≡ true → Room blocks texts c il io b
-room blocks nodes texts c la lo il io b h =
-    let p = leb blocks c in
-    let q = leb nodes la in
-    let r = leb nodes lo in
-    let s = leb blocks il in
-    let t = leb blocks io in
-    let u = leb texts b in
-    let x = and-first ((p && q && r) && s && t) u h in
-    let y = and-first ((p && q && r) && s) t x in
-    let z = and-first (p && q && r) s y in
-    record {
-      counts = leb-true blocks c (and-first p q (and-first (p && q) r z));
-      initialLatitudes = leb-true blocks il (and-second (p && q && r) s y);
-      initialLongitudes = leb-true blocks io (and-second ((p && q && r) && s) t x);
-      buffer = leb-true texts b (and-second ((p && q && r) && s && t) u h);
-    }
-
-pub lists-first : (p s t u : Bool) → (p && s && t && u) ≡ true → p ≡ true
-lists-first p s t u h = and-first p s (and-first (p && s) t (and-first (p && s && t) u h))
-
-module _ (blocks nodes texts c la lo il io b : ℕ) where
-  pub short-counts : c < blocks → true ≡ not (roomy blocks nodes texts c la lo il io b)
-  short-counts h = rw (lt-leb blocks c h)
-
-  pub short-lats : blocks ≤ c → la < nodes → true ≡ not (roomy blocks nodes texts c la lo il io b)
-  short-lats g h = rw (le-leb blocks c g, lt-leb nodes la h)
-
-  pub short-lons : blocks ≤ c → nodes ≤ la → lo < nodes → true ≡ not (roomy blocks nodes texts c la lo il io b)
-  short-lons g k h = rw (le-leb blocks c g, le-leb nodes la k, lt-leb nodes lo h)
-
-  pub short-initial : blocks ≤ c → nodes ≤ la → nodes ≤ lo → il < blocks → true ≡ not (roomy blocks nodes texts c la lo il io b)
-  short-initial g k l h = rw (le-leb blocks c g, le-leb nodes la k, le-leb nodes lo l, lt-leb blocks il h)
-
-  pub short-last : blocks ≤ c → nodes ≤ la → nodes ≤ lo → blocks ≤ il → io < blocks → true ≡ not (roomy blocks nodes texts c la lo il io b)
-  short-last g k l n h = rw (le-leb blocks c g, le-leb nodes la k, le-leb nodes lo l, le-leb blocks il n, lt-leb blocks io h)
-
-  pub all-but-one : blocks ≤ c → nodes ≤ la → nodes ≤ lo → blocks ≤ il → blocks ≤ io → ltb b texts ≡ not (roomy blocks nodes texts c la lo il io b)
-  all-but-one g k l n h = rw (le-leb blocks c g, le-leb nodes la k, le-leb nodes lo l, le-leb blocks il n, le-leb blocks io h) (other (leb texts b) refl)
-    where
-      other : (t : Bool) → leb texts b ≡ t → ltb b texts ≡ not t
-      other true q = le-ltb b texts (leb-true texts b q)
-      other false q = lt-ltb b texts (leb-false texts b q)
-
-pub ruleset tests = (needs, short-counts, short-lats, short-lons, short-initial, short-last, all-but-one)
 
 -- the lists
 front-length : (xs l : List ℕ) → length xs ≤ length l → length (front xs l) ≡ length l

@@ -1,0 +1,251 @@
+-- A way as a fetch tells of it, by what the readers answered.
+use Prim.Native.Nat.{ℕ, _-_, _^_, _≤_, _<_}
+use native.Mathlib.Omega.{arith}
+use mathlib.Core.Path.{_≡_, refl, sym, ap, _∙_, subst}
+use mathlib.Core.Bool.{Bool, true, false, not, _&&_, cond}
+use mathlib.Core.List.{List}
+use lib.Dec.{leb, ltb}
+use lib.ListN.{length, take, length-map}
+use lib.Seq.{take-all, length-take-le}
+use borrow.Author.Needs.{needs}
+use borrow.Author.Tests.{leb-true, leb-false, not-true, not-false, lt-ltb, le-ltb, le-leb, lt-leb}
+use Rattle.parsing.specs.Parse.{Res, ok, no, andThen, mapRes}
+use Rattle.parsing.specs.Good.{ok-val, ok-at, no-ok}
+use Rattle.error.specs.Refusals.{refused, lengths}
+use Rattle.error.specs.declared.Lengths.{Lengths}
+use Rattle.error.specs.declared.Refusal.{Refusal}
+use Rattle.arithmetic.specs.Cut.{cut}
+use Rattle.arithmetic.proofs.CutLaws.{cut-fits}
+use Rattle.format.specs.Kinds.{tagKinds}
+use Rattle.format.specs.WayData.{Node, concat, nodeCount}
+use Rattle.format.specs.Nodes.{latitudeOf, longitudeOf, nodeCounts, latitudes, longitudes, initialLatitudes, initialLongitudes}
+use Rattle.format.specs.Tile.{Head, head, Body, body, doubleDelta}
+use Rattle.types.specs.Types.{endRes, endRefusal, maybePart}
+use Rattle.types.specs.Beside.{Beside}
+use Rattle.types.specs.declared.End.the-variants as end
+use Rattle.types.specs.declared.TagTable.{TagTable}
+use Rattle.types.proofs.BesideLaws.{beside-done, beside-no}
+use Rattle.tag_table.specs.Tables.{tableIn}
+use Rattle.way.specs.Way.{bodyOf, bodyRes, bodyRefusal}
+use Rattle.way.specs.declared.WayBody.{WayBody}
+use Rattle.way.specs.declared.WayBodyRead.{WayBodyRead}
+use Rattle.way.specs.declared.WayBodyRead.the-variants as body-read
+use Rattle.way_data.proofs.BlockLaws.{length-along}
+use Rattle.way_head.specs.WayHead.{headOf, HeadIs}
+use Rattle.way_head.specs.declared.WayHead.{WayHead}
+use Rattle.way_head.specs.declared.WayHeadRead.{WayHeadRead}
+use Rattle.fetched.specs.Fetched.{walkedName, buffered, featureTexts, noTexts, wayLists, wayRecord, neededAll}
+use Rattle.fetched.specs.declared.FeatureTexts.{FeatureTexts}
+use Rattle.fetched.specs.declared.FetchedWay.{FetchedWay}
+use Rattle.feature_texts.specs.FeatureTexts.{textsIn}
+use Rattle.feature_texts.specs.declared.TextParts.{TextParts}
+use Rattle.feature_texts.proofs.ShortLaws.{WayTexts, body-texts, head-few, texts-short, count-in, ids-back}
+use Rattle.feature_tags.specs.FeatureTags.{textsOf}
+use Rattle.measured_way.specs.MeasuredWay.{wayParts, Told, toldOf, toldWay, fitsIn, measured, wayWith, emptyWay, emptyParts, noWay, Shown, shownOf, nothing, shown, MeasuredIs, roomy, tooShort, WayTold, BodyMeasured}
+use Rattle.measured_way.specs.declared.MeasuredWay.{MeasuredWay}
+
+-- where there is no way
+pub no-texts-there : (t : FeatureTexts) → t ≡ noTexts
+    → _≡_ {A = FetchedWay} (record { signature = emptyWay .signature; bitmap = 0; layer = emptyWay .layer; «tag_ids» = emptyWay .«tag_ids»; texts = t; «label_position» = emptyWay .«label_position»; «double_delta» = false; blocks = 0; nodes = 0 }) emptyWay
+no-texts-there t h = rw h
+
+pub none-made : (w : FetchedWay) (x : Refusal) → w ≡ emptyWay → _≡_ {A = MeasuredWay} (record { way = w; start = 0; parts = emptyParts; end = end.Refused x }) (noWay x)
+none-made w x h = rw h
+
+pub ruleset empties = (needs, no-texts-there, none-made)
+
+-- the test of the lengths
+module _ (blocks nodes texts : ℕ) (l : Lengths) where
+  pub short-1 : l .list1 < blocks → true ≡ not (roomy blocks nodes texts l)
+  short-1 h = rw (lt-leb blocks (l .list1) h)
+
+  pub short-2 : blocks ≤ l .list1 → l .list2 < nodes → true ≡ not (roomy blocks nodes texts l)
+  short-2 a h = rw (le-leb blocks (l .list1) a, lt-leb nodes (l .list2) h)
+
+  pub short-3 : blocks ≤ l .list1 → nodes ≤ l .list2 → l .list3 < nodes → true ≡ not (roomy blocks nodes texts l)
+  short-3 a b h = rw (le-leb blocks (l .list1) a, le-leb nodes (l .list2) b, lt-leb nodes (l .list3) h)
+
+  pub short-4 : blocks ≤ l .list1 → nodes ≤ l .list2 → nodes ≤ l .list3 → l .list4 < blocks → true ≡ not (roomy blocks nodes texts l)
+  short-4 a b c h = rw (le-leb blocks (l .list1) a, le-leb nodes (l .list2) b, le-leb nodes (l .list3) c, lt-leb blocks (l .list4) h)
+
+  pub short-5 : blocks ≤ l .list1 → nodes ≤ l .list2 → nodes ≤ l .list3 → blocks ≤ l .list4 → l .list5 < blocks → true ≡ not (roomy blocks nodes texts l)
+  short-5 a b c d h = rw (le-leb blocks (l .list1) a, le-leb nodes (l .list2) b, le-leb nodes (l .list3) c, le-leb blocks (l .list4) d, lt-leb blocks (l .list5) h)
+
+  pub short-6 : blocks ≤ l .list1 → nodes ≤ l .list2 → nodes ≤ l .list3 → blocks ≤ l .list4 → blocks ≤ l .list5 → ltb (l .buffer) texts ≡ not (roomy blocks nodes texts l)
+  short-6 a b c d h = rw (le-leb blocks (l .list1) a, le-leb nodes (l .list2) b, le-leb nodes (l .list3) c, le-leb blocks (l .list4) d, le-leb blocks (l .list5) h) (other (leb texts (l .buffer)) refl)
+    where
+      other : (t : Bool) → leb texts (l .buffer) ≡ t → ltb (l .buffer) texts ≡ not t
+      other true q = le-ltb (l .buffer) texts (leb-true texts (l .buffer) q)
+      other false q = lt-ltb (l .buffer) texts (leb-false texts (l .buffer) q)
+
+pub ruleset tests = (needs, short-1, short-2, short-3, short-4, short-5, short-6)
+
+-- a way that was read
+module _ (t : TagTable) (m : List ℕ) (s : Head) (d : Body) (start next : ℕ) (few : length (s .tagged .ids) ≤ 15) (rd : body m start ≡ ok d next) where
+  abbrev pub name : ℕ → List ℕ
+  name = walkedName (tableIn t) m
+
+  abbrev pub bytes : List ℕ
+  bytes = buffered name (s .tagged .ids) (d .fields .name) (d .fields .houseNumber) (d .fields .reference)
+
+  abbrev pub parts : TextParts
+  parts = wayParts (bodyOf d) t
+
+  abbrev pub all : List (List Node)
+  all = concat (d .dataBlocks)
+
+  texts-in : WayTexts m (d .fields)
+  texts-in = body-texts m .holds start d next rd
+
+  pub texts-are : textsIn parts m (s .tagged .ids) ≡ bytes
+  texts-are =
+      ap (λ x. buffered name (s .tagged .ids) x (maybePart m (bodyOf d .«house_number»)) (maybePart m (bodyOf d .reference))) (texts-in .name .same)
+      ∙ ap (λ x. buffered name (s .tagged .ids) (d .fields .name) x (maybePart m (bodyOf d .reference))) (texts-in .houseNumber .same)
+      ∙ ap (λ x. buffered name (s .tagged .ids) (d .fields .name) (d .fields .houseNumber) x) (texts-in .reference .same)
+
+  pub few-bytes : length bytes < 2 ^ 64 - 1
+  few-bytes = texts-short (tableIn t) m (s .tagged .ids) (d .fields .name) (d .fields .houseNumber) (d .fields .reference) few (texts-in .name) (texts-in .houseNumber) (texts-in .reference)
+
+  described : textsOf parts m (s .tagged .ids) ≡ featureTexts name (s .tagged .ids) (d .fields .name) (d .fields .houseNumber) (d .fields .reference)
+  described =
+      ap (λ x. featureTexts name (take 15 (s .tagged .ids)) x (maybePart m (bodyOf d .«house_number»)) (maybePart m (bodyOf d .reference))) (texts-in .name .same)
+      ∙ ap (λ x. featureTexts name (take 15 (s .tagged .ids)) (d .fields .name) x (maybePart m (bodyOf d .reference))) (texts-in .houseNumber .same)
+      ∙ ap (λ x. featureTexts name (take 15 (s .tagged .ids)) (d .fields .name) (d .fields .houseNumber) x) (texts-in .reference .same)
+      ∙ ap (λ x. featureTexts name x (d .fields .name) (d .fields .houseNumber) (d .fields .reference)) (take-all 15 (s .tagged .ids) few)
+
+  -- the lengths of what goes to the lists
+  pub counts-length : length (nodeCounts all) ≡ length all
+  counts-length = length-map all length
+
+  lats-length : length (latitudes (doubleDelta (d .fields)) all) ≡ nodeCount all
+  lats-length = length-along (doubleDelta (d .fields)) latitudeOf all
+
+  lons-length : length (longitudes (doubleDelta (d .fields)) all) ≡ nodeCount all
+  lons-length = length-along (doubleDelta (d .fields)) longitudeOf all
+
+  initial-lats-length : length (initialLatitudes all) ≡ length all
+  initial-lats-length = length-map all _
+
+  initial-lons-length : length (initialLongitudes all) ≡ length all
+  initial-lons-length = length-map all _
+
+  fits-is : (room : Lengths) → fitsIn (wayLists name s d) room ≡ roomy (length all) (nodeCount all) (length bytes) room
+  fits-is room = rw (counts-length, lats-length, lons-length, initial-lats-length, initial-lons-length) refl
+
+  needed-is : neededAll (wayLists name s d) ≡ lengths (length all) (nodeCount all) (nodeCount all) (length all) (length all) (length bytes)
+  needed-is = rw (counts-length, lats-length, lons-length, initial-lats-length, initial-lons-length) refl
+
+  measured-short : (room : Lengths) → roomy (length all) (nodeCount all) (length bytes) room ≡ false → refused (tooShort (length all) (nodeCount all) (length bytes)) ≡ measured room (ok (toldOf t m s start d) next)
+  measured-short room q = ap (no 15) (sym needed-is) ∙ rw (fits-is room, q) refl
+
+  measured-done : (room : Lengths) → roomy (length all) (nodeCount all) (length bytes) room ≡ true → ok (toldOf t m s start d) next ≡ measured room (ok (toldOf t m s start d) next)
+  measured-done room q = rw (fits-is room, q) refl
+
+-- told by what was measured
+module _ (t : TagTable) (h : WayHead) (b : WayBody) (ids : List ℕ) (start next : ℕ) (room : Lengths) (m : List ℕ) (pr : TextParts) (k : pr ≡ wayParts b t) (len : ℕ) (l : len ≡ cut (length (textsIn pr m ids)))
+    (g : Bool) (j : g ≡ not (roomy (b .blocks) (b .nodes) len room)) where
+  module _ (s : Head) (d : Body) (hs : h ≡ headOf s) (is : ids ≡ s .tagged .ids) (few : length ids ≤ 15) (bd : b ≡ bodyOf d) (rd : body m start ≡ ok d next) where
+    few-ids : length (s .tagged .ids) ≤ 15
+    few-ids = let e = ap length is in omega arith
+
+    measured-bytes : len ≡ length (bytes t m s d start next few-ids rd)
+    measured-bytes =
+        let f = few-bytes t m s d start next few-ids rd in
+        l ∙ ap (λ x. cut (length (textsIn x m ids))) k ∙ ap (λ x. cut (length (textsIn (wayParts x t) m ids))) bd ∙ ap (λ x. cut (length (textsIn (wayParts (bodyOf d) t) m x))) is
+        ∙ ap (λ x. cut (length x)) (texts-are t m s d start next few-ids rd) ∙ cut-fits (length (bytes t m s d start next few-ids rd)) (omega arith)
+
+    tested : (c : Bool) → roomy (b .blocks) (b .nodes) len room ≡ c → roomy (length (concat (d .dataBlocks))) (nodeCount (concat (d .dataBlocks))) (length (bytes t m s d start next few-ids rd)) room ≡ c
+    tested c q = ap (λ x. roomy (length (concat (d .dataBlocks))) (nodeCount (concat (d .dataBlocks))) x room) (sym measured-bytes) ∙ ap (λ (x : WayBody). roomy (x .blocks) (x .nodes) len room) (sym bd) ∙ q
+
+    refused-as : (x : Refusal) → x ≡ tooShort (b .blocks) (b .nodes) len → x ≡ tooShort (length (concat (d .dataBlocks))) (nodeCount (concat (d .dataBlocks))) (length (bytes t m s d start next few-ids rd))
+    refused-as x q = q ∙ ap (λ (y : WayBody). tooShort (y .blocks) (y .nodes) len) bd ∙ ap (tooShort (length (concat (d .dataBlocks))) (nodeCount (concat (d .dataBlocks)))) measured-bytes
+
+    shown-as : (tx : FeatureTexts) (v : FetchedWay) → tx ≡ textsOf pr m ids → v ≡ wayWith h b tx → _≡_ {A = Shown} (record { way = v; start = start; parts = pr }) (shownOf (toldOf t m s start d))
+    shown-as tx v q w =
+        let x : tx ≡ featureTexts (walkedName (tableIn t) m) (s .tagged .ids) (d .fields .name) (d .fields .houseNumber) (d .fields .reference) =
+        q ∙ ap (λ x. textsOf x m ids) k ∙ ap (λ x. textsOf (wayParts x t) m ids) bd ∙ ap (textsOf (wayParts (bodyOf d) t) m) is ∙ described t m s d start next few-ids rd in
+        let y : v ≡ wayRecord (walkedName (tableIn t) m) s d = w ∙ ap (λ x. wayWith x b tx) hs ∙ ap (λ x. wayWith (headOf s) x tx) bd ∙ ap (wayWith (headOf s) (bodyOf d)) x in
+        ap (λ x. record { way = x; start = start; parts = pr }) y ∙ ap (λ x. record { way = wayRecord (walkedName (tableIn t) m) s d; start = start; parts = x }) (k ∙ ap (λ x. wayParts x t) bd)
+
+  pub told-short : (x : Refusal) (r : MeasuredWay) → g ≡ true → x ≡ tooShort (b .blocks) (b .nodes) len → r ≡ noWay x → WayTold t h b ids start next room m r
+  told-short x r q e v = record {
+    each = λ s d hs is few bd rd.
+        beside-no shownOf nothing (measured room (ok (toldOf t m s start d) next)) (shown r) (r .end) x (ap shown v) (ap (λ (y : MeasuredWay). y .end) v)
+        (ap refused (refused-as s d hs is few bd rd x e) ∙ measured-short t m s d start next (few-ids s d hs is few bd rd) rd room (tested s d hs is few bd rd false (not-true _ (sym j ∙ q))));
+  }
+
+  pub told-done : (tx : FeatureTexts) (v : FetchedWay) → g ≡ false → tx ≡ textsOf pr m ids → v ≡ wayWith h b tx → WayTold t h b ids start next room m (record { way = v; start = start; parts = pr; end = end.At next })
+  told-done tx v q e w = record {
+    each = λ s d hs is few bd rd.
+        beside-done shownOf nothing (measured room (ok (toldOf t m s start d) next)) (record { way = v; start = start; parts = pr }) next
+        (ap (λ x. ok x next) (shown-as s d hs is few bd rd tx v e w) ∙ ap (mapRes shownOf) (measured-done t m s d start next (few-ids s d hs is few bd rd) rd room (tested s d hs is few bd rd true (not-false _ (sym j ∙ q)))));
+  }
+
+pub ruleset tells = (needs, told-short, told-done)
+
+-- the body, behind the head
+module _ (t : TagTable) (h : WayHead) (ids : List ℕ) (start : ℕ) (room : Lengths) (m : List ℕ) (g : WayBodyRead) (q : bodyRes g ≡ mapRes bodyOf (body m start)) where
+  pub body-no : (x y : Refusal) (r : MeasuredWay) → g ≡ body-read.Refused x → y ≡ bodyRefusal g → r ≡ noWay y → BodyMeasured t h ids start room m r
+  body-no x y r e w v = record {
+    each = λ s hs is few.
+        beside-no shownOf nothing (measured room (mapRes (toldOf t m s start) (body m start))) (shown r) (r .end) y (ap shown v) (ap (λ (z : MeasuredWay). z .end) v)
+        (ap refused (w ∙ ap bodyRefusal e) ∙ go s (body m start) (ap bodyRes (sym e) ∙ q));
+  }
+    where
+      go : (s : Head) (d : Res Body) → refused x ≡ mapRes bodyOf d → refused x ≡ measured room (mapRes (toldOf t m s start) d)
+      go s (ok d e) f = no-ok f
+      go s (no n v) f = cc
+
+  pub body-on : (b : WayBody) (n : ℕ) (r : MeasuredWay) → g ≡ body-read.Value b n → WayTold t h b ids start n room m r → BodyMeasured t h ids start room m r
+  body-on b n r e w = record { each = λ s hs is few. go s hs is few (body m start) refl (ap bodyRes (sym e) ∙ q) }
+    where
+      go : (s : Head) → h ≡ headOf s → ids ≡ s .tagged .ids → length ids ≤ 15 → (d : Res Body) → body m start ≡ d → ok b n ≡ mapRes bodyOf d → Beside shownOf nothing (measured room (mapRes (toldOf t m s start) d)) (shown r) (r .end)
+      go s hs is few (ok d x) f i =
+          subst (λ (y : ℕ). Beside shownOf nothing (measured room (ok (toldOf t m s start d) y)) (shown r) (r .end)) (ok-at i)
+          (w .each s d hs is few (ok-val i) (f ∙ ap (ok d) (sym (ok-at i))))
+      go s hs is few (no k v) f i = no-ok (sym i)
+
+pub ruleset bodies = (needs, body-no, body-on)
+
+-- the way, read from its place
+module _ (debug : Bool) (t : TagTable) (room : Lengths) (m : List ℕ) (at : ℕ) (g : WayHeadRead) (q : HeadIs (head debug (tagKinds (tableIn t) m) m at) g) where
+  abbrev stored : Res Head
+  stored = head debug (tagKinds (tableIn t) m) m at
+
+  pub head-no : (r : MeasuredWay) (x y : Refusal) → g .end ≡ end.Refused x → y ≡ endRefusal (g .end) → r ≡ noWay y → MeasuredIs debug t room m at r
+  head-no r x y e w v =
+      beside-no shownOf nothing (measured room (toldWay debug t m at)) (shown r) (r .end) y (ap shown v) (ap (λ (z : MeasuredWay). z .end) v)
+      (ap refused (w ∙ ap endRefusal e) ∙ go stored (ap (endRes (g .head)) (sym e) ∙ q .answer))
+    where
+      go : (s : Res Head) → refused x ≡ mapRes headOf s → refused x ≡ measured room (andThen s (λ h e. mapRes (toldOf t m h e) (body m e)))
+      go (ok s e) d = no-ok d
+      go (no n v) d = cc
+
+  module _ (n : ℕ) (e : g .end ≡ end.At n) where
+    record Known : Type 0 where
+      value : Head
+      same : stored ≡ ok value n
+      shown : g .head ≡ headOf value
+
+    known : Known
+    known = go stored refl (ap (endRes (g .head)) (sym e) ∙ q .answer)
+      where
+        go : (r : Res Head) → stored ≡ r → ok (g .head) n ≡ mapRes headOf r → Known
+        go (ok s x) f d = record { value = s; same = f ∙ ap (ok s) (sym (ok-at d)); shown = ok-val d }
+        go (no k v) f d = no-ok (sym d)
+
+    pub ids-in : g .head .«tag_ids» .count ≤ length (g .head .«tag_ids» .ids)
+    ids-in = rw (known .shown) (count-in (known .value .tagged .ids))
+
+    pub ids-sized : g .head .«tag_ids» .count ≡ length (take (g .head .«tag_ids» .count) (g .head .«tag_ids» .ids))
+    ids-sized = sym (length-take-le (g .head .«tag_ids» .count) (g .head .«tag_ids» .ids) ids-in)
+
+    pub head-on : (r : MeasuredWay) → BodyMeasured t (g .head) (take (g .head .«tag_ids» .count) (g .head .«tag_ids» .ids)) n room m r → MeasuredIs debug t room m at r
+    head-on r w =
+        let i : take (g .head .«tag_ids» .count) (g .head .«tag_ids» .ids) ≡ known .value .tagged .ids = ap (λ (x : WayHead). take (x .«tag_ids» .count) (x .«tag_ids» .ids)) (known .shown) ∙ ids-back (known .value .tagged .ids) in
+        let few = head-few m debug (tagKinds (tableIn t) m) .holds at (known .value) n (known .same) in
+        let j = ap length i in
+        subst (λ (s : Res Head). Beside shownOf nothing (measured room (andThen s (λ h e. mapRes (toldOf t m h e) (body m e)))) (shown r) (r .end)) (sym (known .same))
+        (w .each (known .value) (known .shown) i (omega arith))
+
+pub ruleset heads = (needs, head-no, ids-in, ids-sized, head-on)

@@ -1,0 +1,10 @@
+use Rattle.measured_way.proofs.MeasureLaws.{empties}
+use Rattle.measured_way.proofs.refused_way.Statement.{statement}
+use Rattle.measured_way.proofs.refused_way.Tie as tie
+
+pub refused-way-spec : {M : Type 1} → statement M
+refused-way-spec =
+    tie.close
+    (tie.spec
+    (λ c κs. search empties)
+    (λ c. search empties))

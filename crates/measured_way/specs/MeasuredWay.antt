@@ -1,0 +1,127 @@
+-- A way as a fetch tells of it from its place (crate fetched), for lists of given lengths.
+use Prim.Native.Nat.{ℕ, _≤_}
+use mathlib.Core.Bool.{Bool, false, _&&_, cond}
+use mathlib.Core.Path.{_≡_}
+use mathlib.Core.List.{List}
+use lib.Dec.{leb}
+use lib.ListN.{length}
+use Rattle.parsing.specs.Parse.{Res, ok, no, andThen, mapRes}
+use Rattle.error.specs.declared.Lengths.{Lengths}
+use Rattle.error.specs.declared.Refusal.{Refusal}
+use Rattle.error.specs.declared.Refusal.the-variants.{TooShort}
+use Rattle.format.specs.Kinds.{tagKinds}
+use Rattle.format.specs.Tile.{Head, head, Body, body}
+use Rattle.types.specs.Beside.{Beside}
+use Rattle.types.specs.declared.End.the-variants as end
+use Rattle.types.specs.declared.OptionalPosition.the-variants as position
+use Rattle.types.specs.declared.OptionalSpan.the-variants as span
+use Rattle.types.specs.declared.TagTable.{TagTable}
+use Rattle.tag_table.specs.Tables.{tableIn}
+use Rattle.way.specs.Way.{bodyOf}
+use Rattle.way.specs.declared.WayBody.{WayBody}
+use Rattle.way_head.specs.WayHead.{headOf, emptyHead}
+use Rattle.way_head.specs.declared.WayHead.{WayHead}
+use Rattle.fetched.specs.Fetched.{walkedName, noTexts, FetchLists, Fetched, wayRecord, wayLists, fetchedWay, neededAll}
+use Rattle.fetched.specs.declared.FeatureTexts.{FeatureTexts}
+use Rattle.fetched.specs.declared.FetchedWay.{FetchedWay}
+use Rattle.feature_texts.specs.declared.TextParts.{TextParts}
+use Rattle.measured_way.specs.declared.MeasuredWay.{MeasuredWay}
+
+-- the way at a place
+abbrev pub wayStored : Bool → TagTable → List ℕ → ℕ → Res (Fetched FetchedWay)
+wayStored debug t m at = andThen (head debug (tagKinds (tableIn t) m) m at) (λ h e. mapRes (fetchedWay (walkedName (tableIn t) m) h) (body m e))
+
+-- what the texts of a way are made of
+abbrev pub wayParts : WayBody → TagTable → TextParts
+wayParts b t = record { table = t; name = b .name; «house_number» = b .«house_number»; reference = b .reference }
+
+-- the same with where its body starts, and what its texts are made of
+pub record Told : Type 0 where
+  pub fetched : Fetched FetchedWay
+  pub start : ℕ
+  pub parts : TextParts
+
+abbrev pub toldOf : TagTable → List ℕ → Head → ℕ → Body → Told
+toldOf t m h e b = record { fetched = fetchedWay (walkedName (tableIn t) m) h b; start = e; parts = wayParts (bodyOf b) t }
+
+abbrev pub toldWay : Bool → TagTable → List ℕ → ℕ → Res Told
+toldWay debug t m at = andThen (head debug (tagKinds (tableIn t) m) m at) (λ h e. mapRes (toldOf t m h e) (body m e))
+
+-- lists of these lengths have room for what goes to them (`fitsAll`)
+abbrev pub fitsIn : FetchLists → Lengths → Bool
+fitsIn v l =
+    (leb (length (v .lists .counts)) (l .list1) && leb (length (v .lists .latitudes)) (l .list2) && leb (length (v .lists .longitudes)) (l .list3))
+    && leb (length (v .initialLatitudes)) (l .list4) && leb (length (v .initialLongitudes)) (l .list5) && leb (length (v .buffer)) (l .buffer)
+
+-- 15, with every length needed, comes last
+abbrev pub measured : Lengths → Res Told → Res Told
+measured room (ok x n) = cond (fitsIn (x .fetched .values) room) (ok x n) (no 15 (neededAll (x .fetched .values)))
+measured room (no n v) = no n v
+
+-- a way with its texts
+abbrev pub wayWith : WayHead → WayBody → FeatureTexts → FetchedWay
+wayWith h b t = record {
+  signature = h .signature;
+  bitmap = h .bitmap;
+  layer = h .layer;
+  «tag_ids» = h .«tag_ids»;
+  texts = t;
+  «label_position» = b .«label_position»;
+  «double_delta» = b .«double_delta»;
+  blocks = b .blocks;
+  nodes = b .nodes;
+}
+
+-- where it is refused
+abbrev pub emptyWay : FetchedWay
+emptyWay = record {
+  signature = emptyHead .signature;
+  bitmap = 0;
+  layer = emptyHead .layer;
+  «tag_ids» = emptyHead .«tag_ids»;
+  texts = noTexts;
+  «label_position» = position.Absent;
+  «double_delta» = false;
+  blocks = 0;
+  nodes = 0;
+}
+
+abbrev pub emptyParts : TextParts
+emptyParts = record { table = record { start = 0; count = 0 }; name = span.Absent; «house_number» = span.Absent; reference = span.Absent }
+
+abbrev pub noWay : Refusal → MeasuredWay
+noWay r = record { way = emptyWay; start = 0; parts = emptyParts; end = end.Refused r }
+
+-- what is handed out, but for the end
+pub record Shown : Type 0 where
+  pub way : FetchedWay
+  pub start : ℕ
+  pub parts : TextParts
+
+abbrev pub shownOf : Told → Shown
+shownOf x = record { way = x .fetched .value; start = x .start; parts = x .parts }
+
+abbrev pub nothing : Shown
+nothing = record { way = emptyWay; start = 0; parts = emptyParts }
+
+abbrev pub shown : MeasuredWay → Shown
+shown r = record { way = r .way; start = r .start; parts = r .parts }
+
+abbrev pub MeasuredIs : Bool → TagTable → Lengths → List ℕ → (at : ℕ) → MeasuredWay → Type 0
+MeasuredIs debug t room m at r = Beside shownOf nothing (measured room (toldWay debug t m at)) (shown r) (r .end)
+
+-- what the private functions test and tell
+abbrev pub roomy : (blocks nodes texts : ℕ) → Lengths → Bool
+roomy blocks nodes texts l = (leb blocks (l .list1) && leb nodes (l .list2) && leb nodes (l .list3)) && leb blocks (l .list4) && leb blocks (l .list5) && leb texts (l .buffer)
+
+abbrev pub tooShort : (blocks nodes texts : ℕ) → Refusal
+tooShort blocks nodes texts = TooShort (record { list1 = blocks; list2 = nodes; list3 = nodes; list4 = blocks; list5 = blocks; buffer = texts })
+
+-- a way that was read, with this head, body and ids, its body from `start` to `next`
+pub record WayTold (t : TagTable) (h : WayHead) (b : WayBody) (ids : List ℕ) (start next : ℕ) (room : Lengths) (m : List ℕ) (r : MeasuredWay) : Type 0 where
+  pub each : (s : Head) (d : Body) → h ≡ headOf s → ids ≡ s .tagged .ids → length ids ≤ 15 → b ≡ bodyOf d → body m start ≡ ok d next
+      → Beside shownOf nothing (measured room (ok (toldOf t m s start d) next)) (shown r) (r .end)
+
+-- the rest of a way with this head and these ids
+pub record BodyMeasured (t : TagTable) (h : WayHead) (ids : List ℕ) (start : ℕ) (room : Lengths) (m : List ℕ) (r : MeasuredWay) : Type 0 where
+  pub each : (s : Head) → h ≡ headOf s → ids ≡ s .tagged .ids → length ids ≤ 15 → Beside shownOf nothing (measured room (mapRes (toldOf t m s start) (body m start))) (shown r) (r .end)

@@ -1,0 +1,199 @@
+// way.rs and tag.rs: a way as a fetch tells of it, and whether lists of given lengths have room for it. Nothing is written yet.
+use error::Lengths;
+use error::Refusal;
+use feature_texts::TextParts;
+use fetched::FeatureTexts;
+use fetched::FetchedWay;
+use tagged::TagIds;
+use types::End;
+use types::OptionalPosition;
+use types::OptionalSpan;
+use types::TagTable;
+use way::WayBody;
+use way::WayBodyRead;
+use way_head::WayHead;
+ghost use mathlib.Core.Path.{_≡_};
+ghost use mathlib.Core.Bool.{not};
+ghost use Rattle.measured_way.specs.MeasuredWay.{emptyWay, emptyParts, wayParts, wayWith, roomy, tooShort, noWay, MeasuredIs, BodyMeasured, WayTold};
+
+// `start` is where the way's body starts; `parts` are what its texts are made of. Where it is refused, they are empty.
+pub struct MeasuredWay {
+    pub way: FetchedWay,
+    pub start: usize,
+    pub parts: TextParts,
+    pub end: End,
+}
+
+// What stands where there is no way.
+pub fn empty_way() -> FetchedWay
+    ensures { λ r. ⌜ r ≡ emptyWay ⌝ }
+{
+    FetchedWay {
+        signature: OptionalSpan::Absent,
+        bitmap: 0,
+        layer: 0,
+        tag_ids: TagIds {
+            ids: [0u64; 15],
+            count: 0,
+        },
+        texts: feature_tags::no_texts(),
+        label_position: OptionalPosition::Absent,
+        double_delta: false,
+        blocks: 0,
+        nodes: 0,
+    }
+}
+
+fn refused_way(refusal: Refusal) -> MeasuredWay
+    ensures { λ r. ⌜ r ≡ noWay refusal ⌝ }
+{
+    MeasuredWay {
+        way: empty_way(),
+        start: 0,
+        parts: TextParts {
+            table: TagTable { start: 0, count: 0 },
+            name: OptionalSpan::Absent,
+            house_number: OptionalSpan::Absent,
+            reference: OptionalSpan::Absent,
+        },
+        end: End::Refused(refusal),
+    }
+}
+
+// What the texts of a way are made of.
+fn way_parts(body: WayBody, table: TagTable) -> TextParts
+    ensures { λ r. ⌜ r ≡ wayParts body table ⌝ }
+{
+    let name = body.name;
+    let house_number = body.house_number;
+    let reference = body.reference;
+    TextParts {
+        table,
+        name,
+        house_number,
+        reference,
+    }
+}
+
+fn way_with(head: WayHead, body: WayBody, texts: FeatureTexts) -> FetchedWay
+    ensures { λ r. ⌜ r ≡ wayWith head body texts ⌝ }
+{
+    let signature = head.signature;
+    let tag_ids = head.tag_ids;
+    let label_position = body.label_position;
+    FetchedWay {
+        signature,
+        bitmap: head.bitmap,
+        layer: head.layer,
+        tag_ids,
+        texts,
+        label_position,
+        double_delta: body.double_delta,
+        blocks: body.blocks,
+        nodes: body.nodes,
+    }
+}
+
+// Whether a list, or the buffer, is shorter than what goes to it.
+fn is_short(blocks: u64, nodes: u64, texts: u64, room: Lengths) -> bool
+    ensures { λ r. ⌜ r ≡ not (roomy blocks nodes texts room) ⌝ }
+{
+    if room.list1 < blocks {
+        return true;
+    }
+    if room.list2 < nodes {
+        return true;
+    }
+    if room.list3 < nodes {
+        return true;
+    }
+    if room.list4 < blocks {
+        return true;
+    }
+    if room.list5 < blocks {
+        return true;
+    }
+    room.buffer < texts
+}
+
+// The refusal that gives every length needed.
+fn too_short(blocks: u64, nodes: u64, texts: u64) -> Refusal
+    ensures { λ r. ⌜ r ≡ tooShort blocks nodes texts ⌝ }
+{
+    Refusal::TooShort(Lengths {
+        list1: blocks,
+        list2: nodes,
+        list3: nodes,
+        list4: blocks,
+        list5: blocks,
+        buffer: texts,
+    })
+}
+
+// A way with this head, these tag ids and this body, which starts at `start` and ends at `next`.
+fn tell_way(
+    map: &[u8],
+    head: WayHead,
+    body: WayBody,
+    ids: &[u64],
+    start: usize,
+    next: usize,
+    table: TagTable,
+    room: Lengths,
+) -> MeasuredWay
+    ensures { λ r. ⌜ WayTold table head body (now (ids .entry)) start next room (now (map .entry)) r ⌝ }
+{
+    let parts = way_parts(body, table);
+    let len = feature_texts::texts_len(map, ids, parts);
+    let short = is_short(body.blocks, body.nodes, len as u64, room);
+    if short {
+        return refused_way(too_short(body.blocks, body.nodes, len as u64));
+    }
+    let texts = feature_tags::texts_of(map, ids, parts);
+    MeasuredWay {
+        way: way_with(head, body, texts),
+        start,
+        parts,
+        end: End::At(next),
+    }
+}
+
+// The rest of a way with this head and these tag ids, whose body starts at `start`.
+fn measure_body(
+    map: &[u8],
+    head: WayHead,
+    ids: &[u64],
+    start: usize,
+    table: TagTable,
+    room: Lengths,
+) -> MeasuredWay
+    ensures { λ r. ⌜ BodyMeasured table head (now (ids .entry)) start room (now (map .entry)) r ⌝ }
+{
+    let got = way::measure_way_body(map, start);
+    let WayBodyRead::Value(body, next) = got else {
+        return refused_way(way::way_body_refusal(got));
+    };
+    tell_way(map, head, body, ids, start, next, table, room)
+}
+
+// The way at a place. Refused as it is read; then 15, with every length needed, if one of these lengths is too short.
+pub fn measure_way(
+    map: &[u8],
+    at: usize,
+    debug: bool,
+    table: TagTable,
+    room: Lengths,
+) -> MeasuredWay
+    ensures { λ r. ⌜ MeasuredIs debug table room (now (map .entry)) at r ⌝ }
+{
+    let got = way_head::read_way_head(map, at, debug, table);
+    let end = got.end;
+    let End::At(start) = end else {
+        return refused_way(types::end_refusal(end));
+    };
+    let head = got.head;
+    let tag_ids = head.tag_ids;
+    let ids = tag_ids.ids;
+    let count = tag_ids.count;
+    measure_body(map, head, &ids[..count], start, table, room)
+}
