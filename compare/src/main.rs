@@ -29,7 +29,8 @@ compare/run [--rust FOLDER] COMMAND ARGS...
                       the same two files for crafted tiles and the maps of maps/, collected and streamed, or collected alone
   tiles-records FILE DIR [collected]
                       the same two files for all tiles of one map
-  streams-sample DIR  the same two files for crafted tiles and the maps of maps/: their streams in lines, and what collecting counts
+  streams-sample DIR  the same two files for crafted tiles and the maps of maps/: their streams in lines
+  counts-sample DIR   the same two files for the same tiles and maps: what collecting counts
   turns-sample DIR    the same two files for calls out of turn and lists that are too short, which the Rust does not have
   streams-records FILE DIR
                       the same two files for all tiles of one map
@@ -64,6 +65,7 @@ fn run(arguments: &[&str]) -> io::Result<ExitCode> {
             tiles::sample::write(Path::new(folder), Form::Collected)?;
         }
         ["streams-sample", folder] => tiles::sample::write(Path::new(folder), Form::Streams)?,
+        ["counts-sample", folder] => tiles::sample::write(Path::new(folder), Form::Counts)?,
         ["turns-sample", folder] => tiles::sample::write(Path::new(folder), Form::Turns)?,
         ["tiles-records", file, folder] => {
             tiles::file::write(Path::new(file), Path::new(folder), Form::Features)?;

@@ -61,10 +61,11 @@ impl Records {
         let kept = |(operation, input): &Record| match (form, operation) {
             (_, b'M') => true,
             (Form::Turns, operation) => *operation == b'T',
+            (Form::Streams, b'E' | b'B') => input.last() != Some(&0),
+            (Form::Streams, operation) => matches!(operation, b'S' | b'Z' | b'L'),
             (_, b'A') => true,
             (Form::Features, b'F' | b'S' | b'Z' | b'E' | b'B') => true,
-            (Form::Collected, b'E' | b'B') => input.last() == Some(&0),
-            (Form::Streams, b'S' | b'Z' | b'E' | b'B' | b'L') => true,
+            (Form::Collected | Form::Counts, b'E' | b'B') => input.last() == Some(&0),
             _ => false,
         };
         let mut records = Vec::<Record>::new();

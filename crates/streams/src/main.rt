@@ -1,69 +1,45 @@
-// Replays the Rust's streams and collected counts without any Rust. Standard input is a list of records: a letter for what is asked, the
-// length of the question in 4 bytes, the question. Each answer is a line, or one for each feature and a line behind them;
+// Replays the Rust's streams without any Rust. Standard input is a list of records: a letter for what is asked, the
+// length of the question in 4 bytes, the question. Each answer is a line of words, or one for each feature and a line behind them;
 // `compare/run streams-sample` writes both sides.
-mod answers;
-mod collected;
 mod damage;
-mod lists;
-mod out;
-mod place;
 mod streamed;
 
 use byte_source::Span;
-use header::HeaderRead;
 use report::RecordRead;
+use report::Words;
 use types::End;
 use types::MapHeader;
 
-fn say(text: &[u8]) {
-    out::say(out::start(true), text);
+fn print(letter: u8, words: Words) {
+    lines::line(0, true, letter, words);
 }
 
-fn print_digest(letter: &[u8], digest: u64) {
-    let to = out::say(out::say(out::start(true), letter), b" ");
-    out::say(out::hex(to, digest, 16), b"\n");
+fn print_digest(letter: u8, digest: u64) {
+    print(letter, report::push(report::no_words(), digest));
 }
 
-fn print_collected(map: &[u8], h: MapHeader, question: &[u8]) {
-    say(b"A ");
-    collected::tile(true, map, h, place::place_of(question));
-}
-
-fn print_stream(letter: &[u8], shown: bool, map: &[u8], h: MapHeader, question: &[u8]) {
+fn stream(shown: bool, map: &[u8], h: MapHeader, question: &[u8]) -> u64 {
     let zoom = questions::byte_at(question, 32);
     let policy = questions::byte_at(question, 33);
-    let told = streamed::tile(shown, map, h, place::place_of(question), zoom, policy);
-    streamed::print(letter, told);
+    streamed::tile(shown, map, h, question, zoom, policy)
 }
 
-// A collected counts, S a stream, L a stream with its lines, E cuts, B damages, Z zooms.
+// S a stream, L a stream with its lines, E cuts, B damages, Z zooms.
 fn answer(letter: u8, map: &[u8], h: MapHeader, question: &[u8]) {
     match letter {
-        b'A' => print_collected(map, h, question),
-        b'S' => print_stream(b"S", false, map, h, question),
-        b'L' => print_stream(b"L", true, map, h, question),
-        b'E' => print_digest(b"E", damage::all_cuts(map, h, question)),
-        b'B' => print_digest(b"B", damage::all_damages(map, h, question)),
-        b'Z' => print_digest(b"Z", damage::all_zooms(map, h, question)),
-        _ => say(b"?\n"),
+        b'S' => print_digest(letter, stream(false, map, h, question)),
+        b'L' => print_digest(letter, stream(true, map, h, question)),
+        b'E' => print_digest(letter, damage::cuts(map, h, question)),
+        b'B' => print_digest(letter, damage::damages(map, h, question)),
+        b'Z' => print_digest(letter, damage::zooms(map, h, question)),
+        _ => print(letter, report::no_words()),
     }
 }
 
-fn print_opening(end: End) {
+fn open_words(end: End) -> Words {
     match end {
-        End::At(_) => say(b"M open\n"),
-        End::Refused(r) => {
-            out::refused(out::say(out::start(true), b"M "), r);
-        }
-    }
-}
-
-fn answer_opened(letter: u8, map: &[u8], opened: HeaderRead, question: &[u8]) {
-    let end = opened.end;
-    let h = opened.header;
-    match end {
-        End::At(_) => answer(letter, map, h, question),
-        End::Refused(_) => say(b"not open\n"),
+        End::At(_) => questions::zero(),
+        End::Refused(r) => questions::refusal_words(r),
     }
 }
 
@@ -73,11 +49,17 @@ fn next_base(input: &[u8], base: Span, letter: u8, span: Span) -> Span {
     if letter == b'M' {
         let opened = opening::from_source(question);
         let end = opened.end;
-        print_opening(end);
+        print(letter, open_words(end));
         return span;
     }
     let map = byte_source::span_bytes(input, base);
-    answer_opened(letter, map, opening::from_source(map), question);
+    let opened = opening::from_source(map);
+    let end = opened.end;
+    let h = opened.header;
+    match end {
+        End::At(_) => answer(letter, map, h, question),
+        End::Refused(_) => print(letter, report::no_words()),
+    }
     base
 }
 
