@@ -4,7 +4,6 @@ use tile::Tile;
 use tile::TileAnswer;
 use tile::TileRead;
 use types::Grid;
-use types::MapHeader;
 
 // The grid of the sub file that a question is about.
 fn grid_of(question: &[u8]) -> Grid {
@@ -48,7 +47,11 @@ fn answer_words(map: &[u8], got: TileRead) -> Words {
     }
 }
 
-pub(crate) fn tile(shown: bool, map: &[u8], h: MapHeader, question: &[u8]) -> u64 {
+// The header is that of the base map, of which the map is a copy. It is not passed down: it is large, and every proof that sees it is
+// slow.
+pub(crate) fn tile(shown: bool, map: &[u8], base: &[u8], question: &[u8]) -> u64 {
+    let opened = opening::from_source(base);
+    let h = opened.header;
     let sub_file = questions::number_at(question, 0) as usize;
     let number = questions::number_at(question, 24) as usize;
     let got = tile::read_tile(map, h, sub_file, grid_of(question), number);

@@ -8,7 +8,6 @@ use byte_source::Span;
 use report::RecordRead;
 use report::Words;
 use types::End;
-use types::MapHeader;
 
 fn print(letter: u8, words: Words) {
     lines::line(0, true, letter, words);
@@ -19,13 +18,13 @@ fn print_digest(letter: u8, digest: u64) {
 }
 
 // A collected counts, E cuts, B damages.
-fn answer(letter: u8, map: &[u8], h: MapHeader, question: &[u8]) {
+fn answer(letter: u8, map: &[u8], question: &[u8]) {
     match letter {
         b'A' => {
-            counted::tile(true, map, h, question);
+            counted::tile(true, map, map, question);
         }
-        b'E' => print_digest(letter, damage::cuts(map, h, question)),
-        b'B' => print_digest(letter, damage::damages(map, h, question)),
+        b'E' => print_digest(letter, damage::cuts(map, question)),
+        b'B' => print_digest(letter, damage::damages(map, question)),
         _ => print(letter, report::no_words()),
     }
 }
@@ -49,9 +48,8 @@ fn next_base(input: &[u8], base: Span, letter: u8, span: Span) -> Span {
     let map = byte_source::span_bytes(input, base);
     let opened = opening::from_source(map);
     let end = opened.end;
-    let h = opened.header;
     match end {
-        End::At(_) => answer(letter, map, h, question),
+        End::At(_) => answer(letter, map, question),
         End::Refused(_) => print(letter, report::no_words()),
     }
     base

@@ -8,7 +8,6 @@ use byte_source::Span;
 use report::RecordRead;
 use report::Words;
 use types::End;
-use types::MapHeader;
 
 fn print(letter: u8, words: Words) {
     lines::line(0, true, letter, words);
@@ -18,20 +17,20 @@ fn print_digest(letter: u8, digest: u64) {
     print(letter, report::push(report::no_words(), digest));
 }
 
-fn stream(shown: bool, map: &[u8], h: MapHeader, question: &[u8]) -> u64 {
+fn stream(shown: bool, map: &[u8], question: &[u8]) -> u64 {
     let zoom = questions::byte_at(question, 32);
     let policy = questions::byte_at(question, 33);
-    streamed::tile(shown, map, h, question, zoom, policy)
+    streamed::tile(shown, map, map, question, zoom, policy)
 }
 
 // S a stream, L a stream with its lines, E cuts, B damages, Z zooms.
-fn answer(letter: u8, map: &[u8], h: MapHeader, question: &[u8]) {
+fn answer(letter: u8, map: &[u8], question: &[u8]) {
     match letter {
-        b'S' => print_digest(letter, stream(false, map, h, question)),
-        b'L' => print_digest(letter, stream(true, map, h, question)),
-        b'E' => print_digest(letter, damage::cuts(map, h, question)),
-        b'B' => print_digest(letter, damage::damages(map, h, question)),
-        b'Z' => print_digest(letter, damage::zooms(map, h, question)),
+        b'S' => print_digest(letter, stream(false, map, question)),
+        b'L' => print_digest(letter, stream(true, map, question)),
+        b'E' => print_digest(letter, damage::cuts(map, question)),
+        b'B' => print_digest(letter, damage::damages(map, question)),
+        b'Z' => print_digest(letter, damage::zooms(map, question)),
         _ => print(letter, report::no_words()),
     }
 }
@@ -55,9 +54,8 @@ fn next_base(input: &[u8], base: Span, letter: u8, span: Span) -> Span {
     let map = byte_source::span_bytes(input, base);
     let opened = opening::from_source(map);
     let end = opened.end;
-    let h = opened.header;
     match end {
-        End::At(_) => answer(letter, map, h, question),
+        End::At(_) => answer(letter, map, question),
         End::Refused(_) => print(letter, report::no_words()),
     }
     base

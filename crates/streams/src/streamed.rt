@@ -4,7 +4,6 @@ use poi::Poi;
 use report::Words;
 use tile_layout::TileLayout;
 use types::Grid;
-use types::MapHeader;
 use visit::AcceptAnswer;
 use visit::DeclineAnswer;
 use visit::NextAnswer;
@@ -298,15 +297,18 @@ fn grid_of(question: &[u8]) -> Grid {
     }
 }
 
-// The stream of a tile, as far as it goes.
+// The stream of a tile, as far as it goes. The header is that of the base map, of which the map is a copy. It is not passed down: it is
+// large, and every proof that sees it is slow.
 pub(crate) fn tile(
     shown: bool,
     map: &[u8],
-    h: MapHeader,
+    base: &[u8],
     question: &[u8],
     zoom: u8,
     policy: u8,
 ) -> u64 {
+    let read = opening::from_source(base);
+    let h = read.header;
     let sub_file = questions::number_at(question, 0) as usize;
     let number = questions::number_at(question, 24) as usize;
     let got = visit::open(map, h, sub_file, grid_of(question), number, zoom);

@@ -6,10 +6,10 @@ use Rattle.collected.proofs.damage.damages_of.Statement.{statement}
 use Rattle.collected.proofs.damage.damages_of.Tie as tie
 
 abbrev Inv-loop : tie.InvT-loop
-Inv-loop copy₀ size h question end n₀ digest₀ copy n digest = length copy ≡ length copy₀
+Inv-loop copy₀ map question end n₀ digest₀ copy n digest = length copy ≡ length copy₀
 
 abbrev μ-loop : tie.MeasureT-loop
-μ-loop copy₀ size h question end n₀ digest₀ copy n digest = end - n
+μ-loop copy₀ map question end n₀ digest₀ copy n digest = end - n
 
 pub damages-of-spec : {M : Type 1} → statement M
 damages-of-spec =

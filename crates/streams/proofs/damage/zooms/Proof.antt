@@ -6,10 +6,10 @@ use Rattle.streams.proofs.damage.zooms.Statement.{statement}
 use Rattle.streams.proofs.damage.zooms.Tie as tie
 
 abbrev Inv-loop : tie.InvT-loop
-Inv-loop map h question end zoom₀ digest₀ zoom digest = Unit {0}
+Inv-loop map question end zoom₀ digest₀ zoom digest = Unit {0}
 
 abbrev μ-loop : tie.MeasureT-loop
-μ-loop map h question end zoom₀ digest₀ zoom digest = end - zoom
+μ-loop map question end zoom₀ digest₀ zoom digest = end - zoom
 
 pub zooms-spec : {M : Type 1} → statement M
 zooms-spec =

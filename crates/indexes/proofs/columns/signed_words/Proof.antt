@@ -1,7 +1,7 @@
 use borrow.Author.Needs.{needs}
 use Rattle.report.proofs.WordLaws.{wide-fits}
-use Rattle.headers.proofs.columns.signed_words.Statement.{statement}
-use Rattle.headers.proofs.columns.signed_words.Tie as tie
+use Rattle.indexes.proofs.columns.signed_words.Statement.{statement}
+use Rattle.indexes.proofs.columns.signed_words.Tie as tie
 
 pub signed-words-spec : {M : Type 1} → statement M
 signed-words-spec =
