@@ -165,14 +165,13 @@ impl Run {
         answer
     }
 
-    /// Streams under every policy, at each zoom from one to before another.
+    /// Streams under a policy, at each zoom from one to before another.
     fn zoomed(&mut self, address: &Address, input: &mut Source) -> Answer {
-        let (from, to) = (given(input.read_u8()), given(input.read_u8()));
+        let [from, to, policy] = [(); 3].map(|()| given(input.read_u8()));
+        let policy = POLICIES[usize::from(policy)];
         let mut fold = Fold::new();
         for zoom in from..to {
-            for policy in POLICIES {
-                fold.answer(&self.ask(address, Question::Stream(zoom, policy)));
-            }
+            fold.answer(&self.ask(address, Question::Stream(zoom, policy)));
         }
         vec![0, fold.value()]
     }

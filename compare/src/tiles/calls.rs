@@ -4,6 +4,7 @@ use std::io;
 use std::ops::Range;
 use std::path::Path;
 
+use super::tally::POLICIES;
 use super::{Address, Form, Run};
 use crate::maps::calls::on_grid;
 use crate::records::{self, Record};
@@ -51,9 +52,11 @@ impl Records {
         self.add(b'T', address, &[]);
     }
 
-    /// Streams under every policy, at each zoom from one to before another.
+    /// Streams at each zoom from one to before another, a record for each policy.
     pub fn zooms(&mut self, address: Address, zooms: Range<u8>) {
-        self.add(b'Z', address, &[zooms.start, zooms.end]);
+        for policy in 0..POLICIES.len() as u8 {
+            self.add(b'Z', address, &[zooms.start, zooms.end, policy]);
+        }
     }
 
     /// Keeps what is asked of the program.

@@ -24,9 +24,7 @@ impl Run {
     pub fn lines(&mut self, operation: u8, input: &[u8]) -> String {
         let letter = char::from(operation);
         if operation == b'M' {
-            return lines::line(letter, &self.open(input));
-        }
-        if self.header.is_none() {
+            self.open(input);
             return lines::line(letter, &[]);
         }
         let mut parts = Source::new(input);
@@ -46,7 +44,11 @@ impl Run {
         lines::line(letter, &[number])
     }
 
+    /// A map that does not open has no sub files (8).
     fn text(&mut self, length: usize, address: &Address, question: Question) -> String {
+        if self.header.is_none() {
+            return question.refused(&[8]);
+        }
         let text = self.of_cut(length, |file| question.text(file, address));
         self.sources.features += lines::features(&text);
         text
@@ -99,14 +101,12 @@ impl Run {
     }
 
     fn zooms(&mut self, address: &Address, input: &mut Source) -> u64 {
-        let (from, to) = (given(input.read_u8()), given(input.read_u8()));
+        let [from, to, policy] = [(); 3].map(|()| given(input.read_u8()));
+        let policy = POLICIES[usize::from(policy)];
         let mut fold = Fold::new();
         for zoom in from..to {
-            for policy in POLICIES {
-                let question = Question::Stream(zoom, policy);
-                let text = self.text(self.map.len(), address, question);
-                fold.word(lines::digest(&text));
-            }
+            let text = self.text(self.map.len(), address, Question::Stream(zoom, policy));
+            fold.word(lines::digest(&text));
         }
         fold.value()
     }
@@ -118,6 +118,13 @@ impl Question {
         match given(input.read_u8()) {
             0 => Question::Count,
             policy => Question::Stream(u8::MAX, POLICIES[usize::from(policy) - 1]),
+        }
+    }
+
+    fn refused(self, refusal: &[u64]) -> String {
+        match self {
+            Question::Count => lines::collected(&Err(refusal.to_vec())),
+            Question::Stream(..) => lines::end(refusal),
         }
     }
 

@@ -6,15 +6,9 @@ mod damage;
 
 use byte_source::Span;
 use report::RecordRead;
-use report::Words;
-use types::End;
-
-fn print(letter: u8, words: Words) {
-    lines::line(0, true, letter, words);
-}
 
 fn print_digest(letter: u8, digest: u64) {
-    print(letter, report::push(report::no_words(), digest));
+    lines::line(0, true, letter, report::push(report::no_words(), digest));
 }
 
 // A collected counts, E cuts, B damages.
@@ -25,33 +19,18 @@ fn answer(letter: u8, map: &[u8], question: &[u8]) {
         }
         b'E' => print_digest(letter, damage::cuts(map, question)),
         b'B' => print_digest(letter, damage::damages(map, question)),
-        _ => print(letter, report::no_words()),
+        _ => print_digest(letter, 0),
     }
 }
 
-fn open_words(end: End) -> Words {
-    match end {
-        End::At(_) => questions::zero(),
-        End::Refused(r) => questions::refusal_words(r),
-    }
-}
-
-// The question is answered; the base map of the next one, which an M changes.
+// The question is answered; the base map of the next one, which an M changes. A map that does not open has no sub files.
 fn next_base(input: &[u8], base: Span, letter: u8, span: Span) -> Span {
     let question = byte_source::span_bytes(input, span);
     if letter == b'M' {
-        let opened = opening::from_source(question);
-        let end = opened.end;
-        print(letter, open_words(end));
+        lines::line(0, true, letter, report::no_words());
         return span;
     }
-    let map = byte_source::span_bytes(input, base);
-    let opened = opening::from_source(map);
-    let end = opened.end;
-    match end {
-        End::At(_) => answer(letter, map, question),
-        End::Refused(_) => print(letter, report::no_words()),
-    }
+    answer(letter, byte_source::span_bytes(input, base), question);
     base
 }
 

@@ -45,16 +45,17 @@ pub(crate) fn damages(map: &[u8], question: &[u8]) -> u64 {
     damages_of(&mut copy, map, question)
 }
 
-// Every policy at each zoom from one up to before another.
+// Each zoom from one up to before another, under the policy behind them.
 pub(crate) fn zooms(map: &[u8], question: &[u8]) -> u64 {
+    let policy = questions::byte_at(question, 34);
     let end = questions::byte_at(question, 33);
     let mut zoom = questions::byte_at(question, 32);
     let mut digest = 14695981039346656037;
     while zoom < end {
-        digest = report::mix(digest, streamed::tile(false, map, map, question, zoom, 0));
-        digest = report::mix(digest, streamed::tile(false, map, map, question, zoom, 1));
-        digest = report::mix(digest, streamed::tile(false, map, map, question, zoom, 2));
-        digest = report::mix(digest, streamed::tile(false, map, map, question, zoom, 3));
+        digest = report::mix(
+            digest,
+            streamed::tile(false, map, map, question, zoom, policy),
+        );
         zoom += 1;
     }
     digest

@@ -27,29 +27,20 @@ struct BodyRead {
     nodes: u64,
 }
 
-// How many blocks and nodes a body has, and whether its accept was refused for lists that are too short.
+// How many blocks and nodes a body has.
 struct Sizes {
     blocks: u64,
     nodes: u64,
-    short: bool,
 }
 
-// The lists that a way's nodes go to, each in a function of its own, so that no proof looks into it. Most ways fit the short ones; a
-// damaged way may take the rest of the map.
-fn counts() -> [u64; 300] {
-    [0; 300]
+// The lists that a way's nodes go to: long enough for every way that is asked about. Each in a function of its own, so that no proof
+// looks into it.
+fn counts() -> [u64; 20000] {
+    [0; 20000]
 }
 
-fn coordinates() -> [f64; 300] {
-    [0.0; 300]
-}
-
-fn long_counts() -> [u64; 100000] {
-    [0; 100000]
-}
-
-fn long_coordinates() -> [f64; 200000] {
-    [0.0; 200000]
+fn coordinates() -> [f64; 20000] {
+    [0.0; 20000]
 }
 
 // All ways, none, those not numbered 2, 5, 8 and so on, or those with an odd bitmap.
@@ -76,12 +67,10 @@ fn sizes_of(answer: AcceptAnswer) -> Sizes {
         AcceptAnswer::Body(b) => Sizes {
             blocks: b.blocks,
             nodes: b.nodes,
-            short: false,
         },
-        AcceptAnswer::Refused(r) => Sizes {
+        AcceptAnswer::Refused(_) => Sizes {
             blocks: 0,
             nodes: 0,
-            short: error::number_of(r) == 15,
         },
     }
 }
@@ -103,7 +92,7 @@ fn nodes_digest(
     )
 }
 
-fn accept_short(shown: bool, map: &[u8], waiting: Stream) -> BodyRead {
+fn accept(shown: bool, map: &[u8], waiting: Stream) -> BodyRead {
     let mut counts = counts();
     let mut latitudes = coordinates();
     let mut longitudes = coordinates();
@@ -116,32 +105,6 @@ fn accept_short(shown: bool, map: &[u8], waiting: Stream) -> BodyRead {
         stream,
         nodes,
     }
-}
-
-fn accept_long(shown: bool, map: &[u8], waiting: Stream) -> BodyRead {
-    let mut counts = long_counts();
-    let mut latitudes = long_coordinates();
-    let mut longitudes = long_coordinates();
-    let got = visit::accept(map, waiting, &mut counts, &mut latitudes, &mut longitudes);
-    let answer = got.answer;
-    let stream = got.stream;
-    let nodes = nodes_digest(shown, sizes_of(answer), &counts, &latitudes, &longitudes);
-    BodyRead {
-        answer,
-        stream,
-        nodes,
-    }
-}
-
-// Once more, with long lists, where the short ones were too short.
-fn accept(shown: bool, map: &[u8], waiting: Stream) -> BodyRead {
-    let body = accept_short(shown, map, waiting);
-    let answer = body.answer;
-    let sizes = sizes_of(answer);
-    if sizes.short {
-        return accept_long(shown, map, waiting);
-    }
-    body
 }
 
 // The layer is the head's: the Rust tells it only with the body.

@@ -6,10 +6,10 @@ use Rattle.streams.proofs.damage.zooms.Statement.{statement}
 use Rattle.streams.proofs.damage.zooms.Tie as tie
 
 abbrev Inv-loop : tie.InvT-loop
-Inv-loop map question end zoom₀ digest₀ zoom digest = Unit {0}
+Inv-loop map question policy end zoom₀ digest₀ zoom digest = Unit {0}
 
 abbrev μ-loop : tie.MeasureT-loop
-μ-loop map question end zoom₀ digest₀ zoom digest = end - zoom
+μ-loop map question policy end zoom₀ digest₀ zoom digest = end - zoom
 
 pub zooms-spec : {M : Type 1} → statement M
 zooms-spec =
@@ -19,13 +19,8 @@ zooms-spec =
     μ-loop
     (λ c κs. search needs)
     (λ c κs. search needs)
+    (λ c κs. search needs)
     (λ c. search needs)
-    (λ c κs. search needs)
-    (λ c κs. search needs)
-    (λ c κs. search needs)
-    (λ c κs. search needs)
-    (λ c κs. search needs)
-    (λ c κs. search needs)
     (λ c κs. search needs)
     (λ c κs. search needs)
     (λ c. search needs)
