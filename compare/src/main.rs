@@ -22,14 +22,16 @@ compare/run [--rust FOLDER] COMMAND ARGS...
 
   leaves-exhaustive   digests of the leaves over all inputs of 1 and 2 bytes, and over all texts of 3
   leaves-sample DIR   writes DIR/stdin, records of operation and input, and DIR/stdout, their answers and those digests
-  maps-sample DIR     the same two files for crafted maps: opening them, index and grid, columns
-  maps-records FILE DIR
+  maps-sample DIR     the same two files for crafted maps: opening them, whole, cut and damaged
+  index-sample DIR    the same two files for crafted maps: index and grid, tags, columns
+  maps-records FILE DIR, index-records FILE DIR
                       the same two files for one map
   tiles-sample DIR [collected]
                       the same two files for crafted tiles and the maps of maps/, collected and streamed, or collected alone
   tiles-records FILE DIR [collected]
                       the same two files for all tiles of one map
-  streams-sample DIR  the same two files for crafted tiles and the maps of maps/: their streams in lines, and what collecting counts
+  streams-sample DIR  the same two files for crafted tiles and the maps of maps/: their streams in lines
+  counts-sample DIR   the same two files for the same tiles and maps: what collecting counts
   turns-sample DIR    the same two files for calls out of turn and lists that are too short, which the Rust does not have
   streams-records FILE DIR
                       the same two files for all tiles of one map
@@ -57,13 +59,20 @@ fn run(arguments: &[&str]) -> io::Result<ExitCode> {
     match arguments {
         ["leaves-exhaustive"] => leaves::exhaustive::print()?,
         ["leaves-sample", folder] => leaves::sample::write(Path::new(folder))?,
-        ["maps-sample", folder] => maps::sample::write(Path::new(folder))?,
-        ["maps-records", file, folder] => maps::file::write(Path::new(file), Path::new(folder))?,
+        ["maps-sample", folder] => maps::sample::write(Path::new(folder), maps::Form::Headers)?,
+        ["index-sample", folder] => maps::sample::write(Path::new(folder), maps::Form::Indexes)?,
+        ["maps-records", file, folder] => {
+            maps::file::write(Path::new(file), Path::new(folder), maps::Form::Headers)?;
+        }
+        ["index-records", file, folder] => {
+            maps::file::write(Path::new(file), Path::new(folder), maps::Form::Indexes)?;
+        }
         ["tiles-sample", folder] => tiles::sample::write(Path::new(folder), Form::Features)?,
         ["tiles-sample", folder, "collected"] => {
             tiles::sample::write(Path::new(folder), Form::Collected)?;
         }
         ["streams-sample", folder] => tiles::sample::write(Path::new(folder), Form::Streams)?,
+        ["counts-sample", folder] => tiles::sample::write(Path::new(folder), Form::Counts)?,
         ["turns-sample", folder] => tiles::sample::write(Path::new(folder), Form::Turns)?,
         ["tiles-records", file, folder] => {
             tiles::file::write(Path::new(file), Path::new(folder), Form::Features)?;

@@ -9,6 +9,8 @@ pub mod open;
 pub mod sample;
 pub mod writer;
 
+pub use calls::Form;
+
 use std::panic::{self, AssertUnwindSafe};
 use std::process;
 

@@ -52,8 +52,10 @@ pub enum Form {
     Features,
     /// Collecting alone, in words: `tiles`.
     Collected,
-    /// Streaming and what collecting counts, in lines: `streams`.
+    /// Streaming, in lines: `streams`.
     Streams,
+    /// What collecting counts, in lines: `collected`.
+    Counts,
     /// Calls out of turn: `turns`.
     Turns,
 }
@@ -92,7 +94,7 @@ impl Run {
     /// with it, ends the run by its input.
     fn caught_lines(&mut self, form: Form, operation: u8, input: &[u8]) -> String {
         let lines = panic::catch_unwind(AssertUnwindSafe(|| match form {
-            Form::Streams => self.lines(operation, input),
+            Form::Streams | Form::Counts => self.lines(operation, input),
             Form::Turns => self.turns(operation, input),
             _ => records::line(operation, &self.answer(operation, input)),
         }));
@@ -163,14 +165,13 @@ impl Run {
         answer
     }
 
-    /// Streams under every policy, at each zoom from one to before another.
+    /// Streams under a policy, at each zoom from one to before another.
     fn zoomed(&mut self, address: &Address, input: &mut Source) -> Answer {
-        let (from, to) = (given(input.read_u8()), given(input.read_u8()));
+        let [from, to, policy] = [(); 3].map(|()| given(input.read_u8()));
+        let policy = POLICIES[usize::from(policy)];
         let mut fold = Fold::new();
         for zoom in from..to {
-            for policy in POLICIES {
-                fold.answer(&self.ask(address, Question::Stream(zoom, policy)));
-            }
+            fold.answer(&self.ask(address, Question::Stream(zoom, policy)));
         }
         vec![0, fold.value()]
     }
@@ -274,7 +275,7 @@ fn check_before(
     let whole = file.reader.map();
     file.reader = Source::new(&whole[..parting.place as usize]);
     let rust = rust::stream(file, address, zoom, policy);
-    let port = format!("{}{}", tally.lines(), lines::refused(&[1]));
+    let port = format!("{}{}", tally.lines(), lines::end(&[1]));
     assert_eq!(rust.lines(), port, "the Rust (left) delivers other features");
     file.reader = Source::new(whole);
 }

@@ -8,6 +8,15 @@ use mapsforge_rs::grid::Grid;
 use super::Run;
 use crate::records::{self, Record};
 
+/// Which program a run's two files are for.
+#[derive(Clone, Copy, PartialEq)]
+pub enum Form {
+    /// Opening maps, cut and damaged ones too: `headers`.
+    Headers,
+    /// Index, tags and columns: `indexes`. An `M` answers nothing there.
+    Indexes,
+}
+
 /// Records in the order of the run; an operation may come twice, since the map may have changed.
 #[derive(Default)]
 pub struct Records(Vec<Record>);
@@ -67,13 +76,36 @@ impl Records {
         self.add(b'x', &[&column.to_be_bytes(), &[zoom][..]].concat());
     }
 
-    pub fn write(&self, folder: &Path) -> io::Result<()> {
+    /// Keeps what is asked of the program.
+    fn of_form(self, form: Form) -> Vec<Record> {
+        let mut records = Vec::<Record>::new();
+        for record in self.0 {
+            let headers = matches!(record.0, b'C' | b'D' | b'c' | b'd');
+            if record.0 != b'M' && headers != (form == Form::Headers) {
+                continue;
+            }
+            // a map that no index is asked of is not needed
+            let unused = |last: &mut Record| last.0 == b'M' && record.0 == b'M';
+            if form == Form::Indexes {
+                records.pop_if(unused);
+            }
+            records.push(record);
+        }
+        records
+    }
+
+    pub fn write(self, folder: &Path, form: Form) -> io::Result<()> {
+        let records = self.of_form(form);
         let mut run = Run::default();
         let line = |(operation, input): &Record| {
-            records::line(*operation, &run.caught_answer(*operation, input))
+            let mut answer = run.caught_answer(*operation, input);
+            if *operation == b'M' && form == Form::Indexes {
+                answer.clear();
+            }
+            records::line(*operation, &answer)
         };
-        let lines: String = self.0.iter().map(line).collect();
-        records::write(folder, &self.0, lines.as_bytes())
+        let lines: String = records.iter().map(line).collect();
+        records::write(folder, &records, lines.as_bytes())
     }
 
     fn add(&mut self, operation: u8, input: &[u8]) {

@@ -7,7 +7,7 @@ use std::path::Path;
 use mapsforge_rs::grid::Grid;
 use mapsforge_rs::types::MapHeader;
 
-use super::calls::Records;
+use super::calls::{Form, Records};
 use super::open;
 
 /// A map shorter than this is also tried with every cut.
@@ -44,7 +44,7 @@ const fn grid(x_min: i32, y_min: i32, x_max: i32, y_max: i32) -> Grid {
 }
 
 /// Writes the records to `stdin` and a line for each of them to `stdout`.
-pub fn write(file: &Path, folder: &Path) -> io::Result<()> {
+pub fn write(file: &Path, folder: &Path, form: Form) -> io::Result<()> {
     let map = fs::read(file)?;
     let mut records = Records::default();
     records.map(&map);
@@ -58,7 +58,7 @@ pub fn write(file: &Path, folder: &Path) -> io::Result<()> {
         tags(&mut records, &header);
         sub_files(&mut records, &header, grids(file));
     }
-    records.write(folder)
+    records.write(folder, form)
 }
 
 /// The grids of a map's sub files; none for a map that is not known.

@@ -13,11 +13,11 @@ mod texts;
 use std::io;
 use std::path::Path;
 
-use super::calls::Records;
+use super::calls::{Form, Records};
 use super::writer::{entry, tags, text, Header, DEBUG, INDEX_SIGNATURE};
 
 /// Writes the records to `stdin` and a line for each of them to `stdout`.
-pub fn write(folder: &Path) -> io::Result<()> {
+pub fn write(folder: &Path, form: Form) -> io::Result<()> {
     let mut records = Records::default();
     fields::add(&mut records);
     bounds::add(&mut records);
@@ -28,7 +28,7 @@ pub fn write(folder: &Path) -> io::Result<()> {
     index::add(&mut records);
     columns::add(&mut records);
     random::add(&mut records);
-    records.write(folder)
+    records.write(folder, form)
 }
 
 /// A header with every field, ill-formed texts, and two intervals whose sub files are not there.

@@ -4,6 +4,7 @@ use std::io;
 use std::ops::Range;
 use std::path::Path;
 
+use super::tally::POLICIES;
 use super::{Address, Form, Run};
 use crate::maps::calls::on_grid;
 use crate::records::{self, Record};
@@ -51,9 +52,11 @@ impl Records {
         self.add(b'T', address, &[]);
     }
 
-    /// Streams under every policy, at each zoom from one to before another.
+    /// Streams at each zoom from one to before another, a record for each policy.
     pub fn zooms(&mut self, address: Address, zooms: Range<u8>) {
-        self.add(b'Z', address, &[zooms.start, zooms.end]);
+        for policy in 0..POLICIES.len() as u8 {
+            self.add(b'Z', address, &[zooms.start, zooms.end, policy]);
+        }
     }
 
     /// Keeps what is asked of the program.
@@ -61,10 +64,11 @@ impl Records {
         let kept = |(operation, input): &Record| match (form, operation) {
             (_, b'M') => true,
             (Form::Turns, operation) => *operation == b'T',
+            (Form::Streams, b'E' | b'B') => input.last() != Some(&0),
+            (Form::Streams, operation) => matches!(operation, b'S' | b'Z' | b'L'),
             (_, b'A') => true,
             (Form::Features, b'F' | b'S' | b'Z' | b'E' | b'B') => true,
-            (Form::Collected, b'E' | b'B') => input.last() == Some(&0),
-            (Form::Streams, b'S' | b'Z' | b'E' | b'B' | b'L') => true,
+            (Form::Collected | Form::Counts, b'E' | b'B') => input.last() == Some(&0),
             _ => false,
         };
         let mut records = Vec::<Record>::new();

@@ -1,128 +1,146 @@
-//! A line for each answer of a stream, and one for a collected tile, as the program `streams` prints
-//! them.
+//! A line for each answer of a stream, and one for a collected tile, as the programs `streams` and
+//! `collected` print them: a letter and words in base 16. In front of a way's body a line of its first nodes (`n`), and
+//! behind a line one for each text (`t`).
 
 use std::fmt::Write;
 
 use super::feature::{Block, Point, Position, Text, Tile, Way};
-use crate::answer::{Answer, Fold};
+use crate::answer::{self, signed, Answer, Fold};
 
-/// Up to so many nodes of a block are shown, and the digest of more.
+/// Up to so many nodes of a way are shown; the digest has all.
 const FEW_NODES: usize = 4;
 
 pub fn point(point: &Point) -> String {
     let Point { position, layer, ids, name, house_number, elevation, .. } = point;
-    let elevation = elevation.map_or(" -".into(), |metres| format!(" {metres}"));
-    format!(
-        "point{}{}{} name{} house{} elevation{elevation}\n",
-        floats(position),
-        self::layer(*layer),
-        tags(ids),
-        text(name),
-        text(house_number)
-    )
+    let metres = elevation.map_or(vec![0], |x| [&[1], &signed(i64::from(x))[..]].concat());
+    let words = [
+        &bits(position)[..],
+        &self::layer(*layer),
+        &counted(ids),
+        &text_words(name),
+        &text_words(house_number),
+        &metres,
+    ];
+    line('p', &words.concat()) + &texts(&[name, house_number])
 }
 
 pub fn head(bitmap: u16, ids: &[u64]) -> String {
-    format!("way {bitmap:04x}{}\n", tags(ids))
+    line('w', &[&[u64::from(bitmap)], counted(ids).as_slice()].concat())
 }
 
-pub const DECLINED: &str = "declined\n";
+pub const DECLINED: &str = "d\n";
 
 pub fn body(way: &Way) -> String {
-    let label = way.label.as_ref().map_or(" -".into(), floats);
-    let blocks: String = way.blocks.iter().map(block).collect();
-    format!(
-        "accepted{} name{} house{} reference{} label{label} blocks {}{blocks}\n",
-        layer(way.layer),
-        text(&way.name),
-        text(&way.house_number),
-        text(&way.reference),
-        way.blocks.len()
-    )
+    let label = way.label.map_or(vec![0], |label| [&[1], &bits(&label)[..]].concat());
+    let nodes: Vec<Position> = way.blocks.iter().flat_map(|block| block.nodes.clone()).collect();
+    let blocks = [way.blocks.len() as u64, nodes.len() as u64, blocks_digest(&way.blocks)];
+    let Way { name, house_number, reference, .. } = way;
+    let words = [
+        &layer(way.layer)[..],
+        &text_words(name),
+        &text_words(house_number),
+        &text_words(reference),
+        &label,
+        &blocks,
+    ];
+    let body = line('a', &words.concat()) + &texts(&[name, house_number, reference]);
+    let first: Answer = nodes.iter().take(FEW_NODES).flat_map(bits).collect();
+    if first.is_empty() { body } else { line('n', &first) + &body }
 }
 
 /// The line of a stream's end, which is 0, sub file and water mark, or a refusal.
 pub fn end(ended: &[u64]) -> String {
-    match ended {
-        [0, sub_file, 0] => format!("end {sub_file} land\n"),
-        [0, sub_file, _] => format!("end {sub_file} water\n"),
-        refusal => refused(refusal),
-    }
-}
-
-pub fn refused(refusal: &[u64]) -> String {
-    format!("refused{}\n", numbers(refusal))
+    line('e', ended)
 }
 
 /// The answer of collecting.
 pub fn collected(tile: &Result<Tile, Answer>) -> String {
     let tile = match tile {
         Ok(tile) => tile,
-        Err(refusal) => return refused(refusal),
+        Err(refusal) => return line('A', refusal),
     };
-    let table: String = tile.table.iter().map(|row| format!(" :{}", numbers(row))).collect();
-    let exact = if tile.exact { "exact" } else { "inexact" };
-    format!(
-        "collected{table} first {} points {} ways {} {exact} signature{}\n",
+    let mut rows = Fold::new();
+    rows.words(tile.table.as_flattened());
+    let counts = [
+        0,
         tile.first_way,
-        tile.points.len(),
-        tile.ways.len(),
-        text(&tile.signature)
-    )
+        tile.points.len() as u64,
+        tile.ways.len() as u64,
+        u64::from(tile.exact),
+        tile.table.len() as u64,
+        rows.value(),
+    ];
+    line('A', &[&counts[..], &text_words(&tile.signature)].concat()) + &texts(&[&tile.signature])
 }
 
-/// The counts of a stream's lines, their digest, and how it ended.
-pub fn summary(lines: &str) -> String {
-    let count = |word: &str| lines.lines().filter(|line| line.starts_with(word)).count();
-    let counts = ["point ", "way ", "accepted "].map(|word| count(word) as u64);
-    let end = lines.lines().last().expect("a stream has an end");
-    format!("{} {:016x} {end}\n", numbers(&counts), crate::answer::digest(lines.as_bytes()))
+/// The letters and words of the lines in one number. Texts and first nodes are left out: the words
+/// have their digests.
+pub fn digest(lines: &str) -> u64 {
+    let mut fold = Fold::new();
+    for line in lines.lines().filter(|line| !line.starts_with(['t', 'n'])) {
+        let (letter, words) = line.split_at(1);
+        let word = |digits| u64::from_str_radix(digits, 16).expect("a word");
+        fold.bytes(letter.as_bytes());
+        fold.answer(&words.split_whitespace().map(word).collect::<Answer>());
+    }
+    fold.value()
 }
 
 /// How many points and ways a stream's lines have.
 pub fn features(lines: &str) -> u64 {
-    let feature = |line: &&str| line.starts_with("point ") || line.starts_with("way ");
-    lines.lines().filter(feature).count() as u64
+    lines.lines().filter(|line| line.starts_with(['p', 'w'])).count() as u64
 }
 
+pub fn line(letter: char, words: &[u64]) -> String {
+    let words: String = words.iter().map(|word| format!(" {word:x}")).collect();
+    format!("{letter}{words}\n")
+}
+
+/// Numbers in base 10, each behind a space.
 pub fn numbers(numbers: &[u64]) -> String {
     numbers.iter().map(|number| format!(" {number}")).collect()
 }
 
-fn layer(layer: u64) -> String {
-    format!(" layer {}", layer as i64 - 5)
+fn layer(layer: u64) -> [u64; 2] {
+    signed(layer as i64 - 5)
 }
 
-fn tags(ids: &[u64]) -> String {
-    format!(" tags{}", numbers(ids))
+fn counted(ids: &[u64]) -> Answer {
+    [&[ids.len() as u64], ids].concat()
 }
 
-fn floats(position: &Position) -> String {
-    position.map(|degrees| format!(" {:016x}", degrees.to_bits())).concat()
+fn bits(position: &Position) -> [u64; 2] {
+    position.map(f64::to_bits)
 }
 
-fn block(block: &Block) -> String {
-    let nodes: String = if block.nodes.len() <= FEW_NODES {
-        block.nodes.iter().map(floats).collect()
-    } else {
-        let mut fold = Fold::new();
-        block.nodes.as_flattened().iter().for_each(|degrees| fold.word(degrees.to_bits()));
-        format!(" #{:016x}", fold.value())
-    };
-    format!(" : {}{nodes}", block.nodes.len())
+fn text_words(text: &Option<Text>) -> Answer {
+    text.as_ref().map_or(vec![0], |text| vec![1, text.len() as u64, answer::digest(text)])
 }
 
-/// A text in quotes; what is not printable as a backslash and two digits.
-fn text(text: &Option<Text>) -> String {
-    let Some(text) = text else { return " -".into() };
-    let mut line = String::from(" \"");
-    for &byte in text {
-        match byte {
-            b'"' | b'\\' => write!(line, "\\{byte:02x}"),
-            b' '..=b'~' => write!(line, "{}", char::from(byte)),
-            _ => write!(line, "\\{byte:02x}"),
-        }
-        .expect("a string takes all");
+/// Of each block its number of nodes, its first node (0 and 0 if there is none), and all nodes.
+fn blocks_digest(blocks: &[Block]) -> u64 {
+    let mut fold = Fold::new();
+    for block in blocks {
+        fold.word(block.nodes.len() as u64);
+        fold.words(&block.nodes.first().map_or([0; 2], bits));
+        fold.words(&block.nodes.iter().flat_map(bits).collect::<Answer>());
     }
-    line + "\""
+    fold.value()
+}
+
+/// A line for each text that is there; what is not printable as a backslash and two digits.
+fn texts(texts: &[&Option<Text>]) -> String {
+    let mut lines = String::new();
+    for text in texts.iter().copied().flatten() {
+        lines += "t ";
+        for &byte in text {
+            match byte {
+                b' '..=b'~' => write!(lines, "{}", char::from(byte)),
+                _ => write!(lines, "\\{byte:02x}"),
+            }
+            .expect("a string takes all");
+        }
+        lines += "\n";
+    }
+    lines
 }

@@ -6,7 +6,7 @@ use mapsforge_rs::types::MapFile;
 use super::feature::{Text, Tile};
 use super::tally::{Policy, Tally, POLICIES};
 use super::{lines, rust, streamed, turns, Address, Run};
-use crate::answer::{digest, Answer, Fold};
+use crate::answer::{Answer, Fold};
 use crate::differences::tile::{Opened, Parting};
 use crate::maps::{given, place, DAMAGES};
 use crate::source::Source;
@@ -22,31 +22,33 @@ impl Run {
     /// The lines of an answer. `A` is what collecting counts, `L` a stream with its lines; the other
     /// letters are those of the words.
     pub fn lines(&mut self, operation: u8, input: &[u8]) -> String {
+        let letter = char::from(operation);
         if operation == b'M' {
-            let opened = self.open(input);
-            let line = if opened == [0] { "open\n".into() } else { lines::refused(&opened) };
-            return format!("M {line}");
-        }
-        if self.header.is_none() {
-            return "not open\n".into();
+            self.open(input);
+            return lines::line(letter, &[]);
         }
         let mut parts = Source::new(input);
         let address = Address::from(&mut parts);
-        match operation {
-            b'A' => format!("A {}", self.text(self.map.len(), &address, Question::Count)),
-            b'S' => format!("S{}", lines::summary(&self.stream(&address, &mut parts))),
+        let number = match operation {
+            b'A' => return self.text(self.map.len(), &address, Question::Count),
             b'L' => {
                 let lines = self.stream(&address, &mut parts);
-                format!("{lines}L{}", lines::summary(&lines))
+                return lines.clone() + &lines::line(letter, &[lines::digest(&lines)]);
             }
-            b'E' => format!("E {:016x}\n", self.cut_streams(&address, &mut parts)),
-            b'B' => format!("B {:016x}\n", self.damaged_streams(&address, &mut parts)),
-            b'Z' => format!("Z {:016x}\n", self.zooms(&address, &mut parts)),
+            b'S' => lines::digest(&self.stream(&address, &mut parts)),
+            b'E' => self.cut_streams(&address, &mut parts),
+            b'B' => self.damaged_streams(&address, &mut parts),
+            b'Z' => self.zooms(&address, &mut parts),
             _ => panic!("no such operation"),
-        }
+        };
+        lines::line(letter, &[number])
     }
 
+    /// A map that does not open has no sub files (8).
     fn text(&mut self, length: usize, address: &Address, question: Question) -> String {
+        if self.header.is_none() {
+            return question.refused(&[8]);
+        }
         let text = self.of_cut(length, |file| question.text(file, address));
         self.sources.features += lines::features(&text);
         text
@@ -79,7 +81,7 @@ impl Run {
         let (from, to, question) = (place(input), place(input), Question::what(input));
         let mut fold = Fold::new();
         for length in from..to {
-            fold.word(digest(self.text(length, address, question).as_bytes()));
+            fold.word(lines::digest(&self.text(length, address, question)));
         }
         fold.value()
     }
@@ -91,7 +93,7 @@ impl Run {
             for damage in DAMAGES {
                 self.map[place] ^= damage;
                 let text = self.text(self.map.len(), address, question);
-                fold.word(digest(text.as_bytes()));
+                fold.word(lines::digest(&text));
                 self.map[place] ^= damage;
             }
         }
@@ -99,14 +101,12 @@ impl Run {
     }
 
     fn zooms(&mut self, address: &Address, input: &mut Source) -> u64 {
-        let (from, to) = (given(input.read_u8()), given(input.read_u8()));
+        let [from, to, policy] = [(); 3].map(|()| given(input.read_u8()));
+        let policy = POLICIES[usize::from(policy)];
         let mut fold = Fold::new();
         for zoom in from..to {
-            for policy in POLICIES {
-                let question = Question::Stream(zoom, policy);
-                let text = self.text(self.map.len(), address, question);
-                fold.word(digest(text.as_bytes()));
-            }
+            let text = self.text(self.map.len(), address, Question::Stream(zoom, policy));
+            fold.word(lines::digest(&text));
         }
         fold.value()
     }
@@ -118,6 +118,13 @@ impl Question {
         match given(input.read_u8()) {
             0 => Question::Count,
             policy => Question::Stream(u8::MAX, POLICIES[usize::from(policy) - 1]),
+        }
+    }
+
+    fn refused(self, refusal: &[u64]) -> String {
+        match self {
+            Question::Count => lines::collected(&Err(refusal.to_vec())),
+            Question::Stream(..) => lines::end(refusal),
         }
     }
 

@@ -36,7 +36,7 @@ pub fn push_optional_text(words: Words, map: &[u8], text: OptionalSpan) -> Words
     }
 }
 
-fn push_position(words: Words, p: Position) -> Words
+pub fn push_position(words: Words, p: Position) -> Words
     ensures { λ r. ⌜ r ≡ positionPushed words p ⌝ }
 {
     let words = report::push(words, report::float_bits(p.latitude));

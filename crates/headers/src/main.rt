@@ -1,57 +1,32 @@
-// Replays the Rust's answers for headers, index and columns without any Rust. Standard input is a list of records: a letter for what
-// is asked, the length of the input in 4 bytes, the input. Each answer is a line of words; `compare/run maps-sample` writes both sides.
-mod columns;
+// Replays the Rust's answers for headers without any Rust. Standard input is a list of records: a letter for what is asked, the length
+// of the input in 4 bytes, the input. Each answer is a line of words; `compare/run maps-sample` writes both sides.
 mod damage;
-mod indexes;
 mod opened;
 
 use byte_source::Span;
 use report::RecordRead;
-use types::End;
+use report::Words;
 
-fn is_open(end: End) -> bool {
-    if let End::At(_) = end { true } else { false }
-}
-
-// Questions that need no map, or the base map's bytes alone.
-fn answer_bytes(letter: u8, base: &[u8], question: &[u8]) -> bool {
+// M a map is opened; C and D all of its cuts and damages, c and d one of them.
+fn answer(letter: u8, map: &[u8], question: &[u8]) -> Words {
     match letter {
-        b'M' => report::print_line(letter, opened::open_words(base)),
-        b'C' => report::print_line(letter, damage::all_cuts(base)),
-        b'D' => report::print_line(letter, damage::all_damages(base)),
-        b'c' => report::print_line(letter, damage::one_cut(base, question)),
-        b'd' => report::print_line(letter, damage::one_damage(base, question)),
-        b'l' => report::print_line(letter, columns::column_words(question)),
-        b'x' => report::print_line(letter, columns::longitude_words(question)),
-        _ => return false,
+        b'M' => opened::open_words(question),
+        b'C' => damage::all_cuts(map),
+        b'D' => damage::all_damages(map),
+        b'c' => damage::one_cut(map, question),
+        b'd' => damage::one_damage(map, question),
+        _ => report::no_words(),
     }
-    true
-}
-
-// Questions to the base map's header.
-fn answer_header(letter: u8, base: &[u8], question: &[u8]) {
-    let read = opening::from_source(base);
-    let end = read.end;
-    if is_open(end) {
-        let header = read.header;
-        report::print_line(letter, indexes::answer(letter, base, header, question));
-        return;
-    }
-    report::print_line(letter, report::push(report::no_words(), 99));
 }
 
 // The question is answered; the base map of the next one, which an M changes.
 fn next_base(input: &[u8], base: Span, letter: u8, span: Span) -> Span {
     let question = byte_source::span_bytes(input, span);
+    let map = byte_source::span_bytes(input, base);
+    report::print_line(letter, answer(letter, map, question));
     if letter == b'M' {
-        answer_bytes(letter, question, question);
         return span;
     }
-    let map = byte_source::span_bytes(input, base);
-    if answer_bytes(letter, map, question) {
-        return base;
-    }
-    answer_header(letter, map, question);
     base
 }
 

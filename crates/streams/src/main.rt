@@ -1,83 +1,43 @@
-// Replays the Rust's streams and collected counts without any Rust. Standard input is a list of records: a letter for what is asked, the
-// length of the question in 4 bytes, the question. Each answer is a line, or one for each feature and a line behind them;
+// Replays the Rust's streams without any Rust. Standard input is a list of records: a letter for what is asked, the
+// length of the question in 4 bytes, the question. Each answer is a line of words, or one for each feature and a line behind them;
 // `compare/run streams-sample` writes both sides.
-mod answers;
-mod collected;
 mod damage;
-mod lists;
-mod out;
-mod place;
 mod streamed;
 
 use byte_source::Span;
-use header::HeaderRead;
 use report::RecordRead;
-use types::End;
-use types::MapHeader;
 
-fn say(text: &[u8]) {
-    out::say(out::start(true), text);
+fn print_digest(letter: u8, digest: u64) {
+    lines::line(0, true, letter, report::push(report::no_words(), digest));
 }
 
-fn print_digest(letter: &[u8], digest: u64) {
-    let to = out::say(out::say(out::start(true), letter), b" ");
-    out::say(out::hex(to, digest, 16), b"\n");
-}
-
-fn print_collected(map: &[u8], h: MapHeader, question: &[u8]) {
-    say(b"A ");
-    collected::tile(true, map, h, place::place_of(question));
-}
-
-fn print_stream(letter: &[u8], shown: bool, map: &[u8], h: MapHeader, question: &[u8]) {
+fn stream(shown: bool, map: &[u8], question: &[u8]) -> u64 {
     let zoom = questions::byte_at(question, 32);
     let policy = questions::byte_at(question, 33);
-    let told = streamed::tile(shown, map, h, place::place_of(question), zoom, policy);
-    streamed::print(letter, told);
+    streamed::tile(shown, map, map, question, zoom, policy)
 }
 
-// A collected counts, S a stream, L a stream with its lines, E cuts, B damages, Z zooms.
-fn answer(letter: u8, map: &[u8], h: MapHeader, question: &[u8]) {
+// S a stream, L a stream with its lines, E cuts, B damages, Z zooms.
+fn digest(letter: u8, map: &[u8], question: &[u8]) -> u64 {
     match letter {
-        b'A' => print_collected(map, h, question),
-        b'S' => print_stream(b"S", false, map, h, question),
-        b'L' => print_stream(b"L", true, map, h, question),
-        b'E' => print_digest(b"E", damage::all_cuts(map, h, question)),
-        b'B' => print_digest(b"B", damage::all_damages(map, h, question)),
-        b'Z' => print_digest(b"Z", damage::all_zooms(map, h, question)),
-        _ => say(b"?\n"),
+        b'S' => stream(false, map, question),
+        b'L' => stream(true, map, question),
+        b'E' => damage::cuts(map, question),
+        b'B' => damage::damages(map, question),
+        b'Z' => damage::zooms(map, question),
+        _ => 0,
     }
 }
 
-fn print_opening(end: End) {
-    match end {
-        End::At(_) => say(b"M open\n"),
-        End::Refused(r) => {
-            out::refused(out::say(out::start(true), b"M "), r);
-        }
-    }
-}
-
-fn answer_opened(letter: u8, map: &[u8], opened: HeaderRead, question: &[u8]) {
-    let end = opened.end;
-    let h = opened.header;
-    match end {
-        End::At(_) => answer(letter, map, h, question),
-        End::Refused(_) => say(b"not open\n"),
-    }
-}
-
-// The question is answered; the base map of the next one, which an M changes.
+// The question is answered; the base map of the next one, which an M changes. A map that does not open has no sub files.
 fn next_base(input: &[u8], base: Span, letter: u8, span: Span) -> Span {
     let question = byte_source::span_bytes(input, span);
     if letter == b'M' {
-        let opened = opening::from_source(question);
-        let end = opened.end;
-        print_opening(end);
+        lines::line(0, true, letter, report::no_words());
         return span;
     }
     let map = byte_source::span_bytes(input, base);
-    answer_opened(letter, map, opening::from_source(map), question);
+    print_digest(letter, digest(letter, map, question));
     base
 }
 

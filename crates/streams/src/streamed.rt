@@ -1,13 +1,9 @@
-// A tile's stream under a policy, which says what ways are accepted.
-use crate::answers;
-use crate::lists;
-use crate::out;
-use crate::out::Out;
-use crate::place::Place;
-use error::Refusal;
+// A tile's stream under a policy, which says what ways are accepted. A line for each answer: p a point, w a way's head, a its body, d a
+// way declined, e the end or a refusal. The digest of the lines is the answer; they are printed where they are to be shown.
 use poi::Poi;
+use report::Words;
 use tile_layout::TileLayout;
-use types::MapHeader;
+use types::Grid;
 use visit::AcceptAnswer;
 use visit::DeclineAnswer;
 use visit::NextAnswer;
@@ -15,26 +11,36 @@ use visit::OpenRead;
 use visit::Stream;
 use visit::StreamedBody;
 use visit::StreamedHead;
-use visit::TileEnd;
 
-pub(crate) enum Ending {
-    Going,
-    End(TileEnd),
-    Refused(Refusal),
-}
-
-// How many points, heads and bodies came, and how the stream ended.
-pub(crate) struct Told {
-    pub(crate) points: u64,
-    pub(crate) heads: u64,
-    pub(crate) accepted: u64,
-    pub(crate) out: Out,
-    pub(crate) ending: Ending,
-}
-
+// The digest so far, the heads that came, and whether the stream goes on.
 struct Step {
-    told: Told,
+    digest: u64,
+    heads: u64,
+    going: bool,
     stream: Stream,
+}
+
+// An accept's answer, and the digest of the nodes.
+struct BodyRead {
+    answer: AcceptAnswer,
+    stream: Stream,
+    nodes: u64,
+}
+
+// How many blocks and nodes a body has.
+struct Sizes {
+    blocks: u64,
+    nodes: u64,
+}
+
+// The lists that a way's nodes go to: long enough for every way that is asked about. Each in a function of its own, so that no proof
+// looks into it.
+fn counts() -> [u64; 20000] {
+    [0; 20000]
+}
+
+fn coordinates() -> [f64; 20000] {
+    [0.0; 20000]
 }
 
 // All ways, none, those not numbered 2, 5, 8 and so on, or those with an odd bitmap.
@@ -47,307 +53,227 @@ fn accepts(policy: u8, number: u64, bitmap: u16) -> bool {
     }
 }
 
-fn one_more(n: u64) -> u64 {
-    std::num::wrapping_add_u64(n, 1)
+fn point(digest: u64, shown: bool, map: &[u8], p: Poi) -> u64 {
+    let name = p.name;
+    let house_number = p.house_number;
+    let digest = lines::line(digest, shown, b'p', stream_words::point_words(map, p));
+    lines::text(shown, map, name);
+    lines::text(shown, map, house_number);
+    digest
 }
 
-fn with_point(told: Told, map: &[u8], poi: Poi) -> Told {
-    let to = told.out;
-    let ending = told.ending;
-    Told {
-        points: one_more(told.points),
-        heads: told.heads,
-        accepted: told.accepted,
-        out: answers::point(to, map, poi),
-        ending,
+fn sizes_of(answer: AcceptAnswer) -> Sizes {
+    match answer {
+        AcceptAnswer::Body(b) => Sizes {
+            blocks: b.blocks,
+            nodes: b.nodes,
+        },
+        AcceptAnswer::Refused(_) => Sizes {
+            blocks: 0,
+            nodes: 0,
+        },
     }
 }
 
-fn with_head(told: Told, head: StreamedHead) -> Told {
-    let to = told.out;
-    let ending = told.ending;
-    Told {
-        points: told.points,
-        heads: one_more(told.heads),
-        accepted: told.accepted,
-        out: answers::head(to, head),
-        ending,
-    }
-}
-
-fn with_body(
-    told: Told,
-    map: &[u8],
-    layer: i8,
-    body: StreamedBody,
+fn nodes_digest(
+    shown: bool,
+    sizes: Sizes,
     counts: &[u64],
     latitudes: &[f64],
     longitudes: &[f64],
-) -> Told {
-    let to = told.out;
-    let ending = told.ending;
-    Told {
-        points: told.points,
-        heads: told.heads,
-        accepted: one_more(told.accepted),
-        out: answers::body(to, map, layer, body, counts, latitudes, longitudes),
-        ending,
-    }
-}
-
-fn with_declined(told: Told) -> Told {
-    let to = told.out;
-    let ending = told.ending;
-    Told {
-        points: told.points,
-        heads: told.heads,
-        accepted: told.accepted,
-        out: answers::declined(to),
-        ending,
-    }
-}
-
-fn with_end(told: Told, end: TileEnd) -> Told {
-    let to = told.out;
-    Told {
-        points: told.points,
-        heads: told.heads,
-        accepted: told.accepted,
-        out: answers::end(to, end),
-        ending: Ending::End(end),
-    }
-}
-
-fn with_refusal(told: Told, refusal: Refusal) -> Told {
-    let to = told.out;
-    Told {
-        points: told.points,
-        heads: told.heads,
-        accepted: told.accepted,
-        out: out::refused(to, refusal),
-        ending: Ending::Refused(refusal),
-    }
-}
-
-fn refused(told: Told, stream: Stream, refusal: Refusal) -> Step {
-    Step {
-        told: with_refusal(told, refusal),
-        stream,
-    }
-}
-
-// An accept with the long lists.
-fn accept_long(
-    told: Told,
-    map: &[u8],
-    layer: i8,
-    stream: Stream,
-    counts: &mut [u64],
-    latitudes: &mut [f64],
-    longitudes: &mut [f64],
-) -> Step {
-    let got = visit::accept(map, stream, counts, latitudes, longitudes);
-    let answer = got.answer;
-    let stream = got.stream;
-    match answer {
-        AcceptAnswer::Body(body) => Step {
-            told: with_body(told, map, layer, body, counts, latitudes, longitudes),
-            stream,
-        },
-        AcceptAnswer::Refused(r) => refused(told, stream, r),
-    }
-}
-
-// Behind a refused accept: once more if the lists were too short.
-fn accept_again(told: Told, map: &[u8], layer: i8, stream: Stream, refusal: Refusal) -> Step {
-    let Refusal::TooShort(_) = refusal else {
-        return refused(told, stream, refusal);
-    };
-    let mut counts = lists::long_counts();
-    let mut latitudes = lists::long_coordinates();
-    let mut longitudes = lists::long_coordinates();
-    accept_long(
-        told,
-        map,
-        layer,
-        stream,
-        &mut counts,
-        &mut latitudes,
-        &mut longitudes,
+) -> u64 {
+    lines::nodes(shown, sizes.nodes, latitudes, longitudes);
+    node_digests::mix_blocks(
+        14695981039346656037,
+        sizes.blocks as usize,
+        counts,
+        latitudes,
+        longitudes,
     )
 }
 
-fn accept(
-    told: Told,
-    map: &[u8],
-    layer: i8,
-    stream: Stream,
-    counts: &mut [u64],
-    latitudes: &mut [f64],
-    longitudes: &mut [f64],
-) -> Step {
-    let got = visit::accept(map, stream, counts, latitudes, longitudes);
+fn accept(shown: bool, map: &[u8], waiting: Stream) -> BodyRead {
+    let mut counts = counts();
+    let mut latitudes = coordinates();
+    let mut longitudes = coordinates();
+    let got = visit::accept(map, waiting, &mut counts, &mut latitudes, &mut longitudes);
     let answer = got.answer;
     let stream = got.stream;
-    match answer {
-        AcceptAnswer::Body(body) => Step {
-            told: with_body(told, map, layer, body, counts, latitudes, longitudes),
-            stream,
-        },
-        AcceptAnswer::Refused(r) => accept_again(told, map, layer, stream, r),
+    let nodes = nodes_digest(shown, sizes_of(answer), &counts, &latitudes, &longitudes);
+    BodyRead {
+        answer,
+        stream,
+        nodes,
     }
 }
 
-fn decline(told: Told, stream: Stream) -> Step {
-    let got = visit::decline(stream);
+// The layer is the head's: the Rust tells it only with the body.
+fn body(digest: u64, shown: bool, map: &[u8], layer: i8, b: StreamedBody, nodes: u64) -> u64 {
+    let name = b.name;
+    let house_number = b.house_number;
+    let reference = b.reference;
+    let words = stream_words::body_words(map, layer, b, nodes);
+    let digest = lines::line(digest, shown, b'a', words);
+    lines::text(shown, map, name);
+    lines::text(shown, map, house_number);
+    lines::text(shown, map, reference);
+    digest
+}
+
+fn ended(digest: u64, shown: bool, stream: Stream, words: Words) -> Step {
+    Step {
+        digest: lines::line(digest, shown, b'e', words),
+        heads: 0,
+        going: false,
+        stream,
+    }
+}
+
+fn accepted(digest: u64, shown: bool, map: &[u8], layer: i8, heads: u64, got: BodyRead) -> Step {
+    let answer = got.answer;
+    let stream = got.stream;
+    match answer {
+        AcceptAnswer::Body(b) => Step {
+            digest: body(digest, shown, map, layer, b, got.nodes),
+            heads,
+            going: true,
+            stream,
+        },
+        AcceptAnswer::Refused(r) => ended(digest, shown, stream, questions::refusal_words(r)),
+    }
+}
+
+fn decline(digest: u64, shown: bool, heads: u64, waiting: Stream) -> Step {
+    let got = visit::decline(waiting);
     let answer = got.answer;
     let stream = got.stream;
     match answer {
         DeclineAnswer::Declined => Step {
-            told: with_declined(told),
+            digest: lines::line(digest, shown, b'd', report::no_words()),
+            heads,
+            going: true,
             stream,
         },
-        DeclineAnswer::Refused(r) => refused(told, stream, r),
+        DeclineAnswer::Refused(r) => ended(digest, shown, stream, questions::refusal_words(r)),
     }
+}
+
+fn way(
+    digest: u64,
+    shown: bool,
+    map: &[u8],
+    policy: u8,
+    number: u64,
+    head: StreamedHead,
+    stream: Stream,
+) -> Step {
+    let digest = lines::line(digest, shown, b'w', stream_words::head_words(head));
+    let heads = std::num::wrapping_add_u64(number, 1);
+    if accepts(policy, number, head.bitmap) {
+        return accepted(
+            digest,
+            shown,
+            map,
+            head.layer,
+            heads,
+            accept(shown, map, stream),
+        );
+    }
+    decline(digest, shown, heads, stream)
 }
 
 // The next point; or the next way, accepted or declined; or the end.
 fn answered(
-    told: Told,
+    digest: u64,
+    shown: bool,
     map: &[u8],
     layout: TileLayout,
     policy: u8,
-    stream: Stream,
-    counts: &mut [u64],
-    latitudes: &mut [f64],
-    longitudes: &mut [f64],
+    heads: u64,
+    last: Stream,
 ) -> Step {
-    let got = visit::next(map, layout, stream);
+    let got = visit::next(map, layout, last);
     let answer = got.answer;
     let stream = got.stream;
     match answer {
         NextAnswer::Point => {
             let poi = got.poi;
             Step {
-                told: with_point(told, map, poi),
+                digest: point(digest, shown, map, poi),
+                heads,
+                going: true,
                 stream,
             }
         }
         NextAnswer::Way => {
             let head = got.head;
-            let now = with_head(told, head);
-            if accepts(policy, told.heads, head.bitmap) {
-                return accept(now, map, head.layer, stream, counts, latitudes, longitudes);
-            }
-            decline(now, stream)
+            way(digest, shown, map, policy, heads, head, stream)
         }
-        NextAnswer::End(end) => Step {
-            told: with_end(told, end),
-            stream,
-        },
-        NextAnswer::Refused(r) => refused(told, stream, r),
-    }
-}
-
-fn is_going(ending: Ending) -> bool {
-    if let Ending::Going = ending {
-        true
-    } else {
-        false
+        NextAnswer::End(end) => {
+            let words = questions::two(end.sub_file as u64, questions::flag(end.is_water));
+            ended(digest, shown, stream, words)
+        }
+        NextAnswer::Refused(r) => ended(digest, shown, stream, questions::refusal_words(r)),
     }
 }
 
 // No map has as many features as the loop may take: each has a byte.
-fn steps(
-    first: Told,
-    map: &[u8],
-    layout: TileLayout,
-    policy: u8,
-    opened: Stream,
-    counts: &mut [u64],
-    latitudes: &mut [f64],
-    longitudes: &mut [f64],
-) -> Told {
-    let mut told = first;
+fn steps(shown: bool, map: &[u8], layout: TileLayout, policy: u8, opened: Stream) -> u64 {
+    let mut digest = 14695981039346656037;
+    let mut heads = 0;
     let mut stream = opened;
     let mut turns: u64 = 4000000;
     while 0 < turns {
-        let ending = told.ending;
-        if !is_going(ending) {
-            return told;
+        let step = answered(digest, shown, map, layout, policy, heads, stream);
+        digest = step.digest;
+        heads = step.heads;
+        stream = step.stream;
+        if !step.going {
+            return digest;
         }
-        let next = answered(
-            told,
-            map,
-            layout,
-            policy,
-            stream,
-            counts,
-            latitudes,
-            longitudes,
-        );
-        told = next.told;
-        stream = next.stream;
         turns -= 1;
     }
-    told
+    digest
 }
 
-// The lists are lent anew for each stream.
-fn streamed(first: Told, map: &[u8], layout: TileLayout, policy: u8, stream: Stream) -> Told {
-    let mut counts = lists::counts();
-    let mut latitudes = lists::coordinates();
-    let mut longitudes = lists::coordinates();
-    steps(
-        first,
-        map,
-        layout,
-        policy,
-        stream,
-        &mut counts,
-        &mut latitudes,
-        &mut longitudes,
-    )
+fn opened(shown: bool, map: &[u8], layout: TileLayout, policy: u8, got: OpenRead) -> u64 {
+    match got {
+        OpenRead::Stream(stream) => steps(shown, map, layout, policy, stream),
+        OpenRead::Refused(r) => {
+            lines::line(
+                14695981039346656037,
+                shown,
+                b'e',
+                questions::refusal_words(r),
+            )
+        }
+    }
 }
 
-// The stream of a tile, as far as it goes.
+// The grid of the sub file that a question is about.
+fn grid_of(question: &[u8]) -> Grid {
+    Grid {
+        x_min: questions::int_at(question, 8),
+        y_min: questions::int_at(question, 12),
+        x_max: questions::int_at(question, 16),
+        y_max: questions::int_at(question, 20),
+    }
+}
+
+// The stream of a tile, as far as it goes. The header is that of the base map, of which the map is a copy. It is not passed down: it is
+// large, and every proof that sees it is slow.
 pub(crate) fn tile(
     shown: bool,
     map: &[u8],
-    h: MapHeader,
-    place: Place,
+    base: &[u8],
+    question: &[u8],
     zoom: u8,
     policy: u8,
-) -> Told {
-    let first = Told {
-        points: 0,
-        heads: 0,
-        accepted: 0,
-        out: out::start(shown),
-        ending: Ending::Going,
-    };
-    let grid = place.grid;
-    let opened = visit::open(map, h, place.sub_file, grid, place.tile, zoom);
-    match opened {
-        OpenRead::Stream(stream) => {
-            streamed(first, map, tile_layout::layout_of(h), policy, stream)
-        }
-        OpenRead::Refused(r) => with_refusal(first, r),
-    }
-}
-
-// A line of the counts and the digest, and how the stream ended.
-pub(crate) fn print(letter: &[u8], told: Told) {
-    let to = out::say(out::start(true), letter);
-    let to = out::number(out::number(to, told.points), told.heads);
-    let to = out::number(to, told.accepted);
-    let printed = told.out;
-    let to = out::say(out::hex(out::say(to, b" "), printed.digest, 16), b" ");
-    let ending = told.ending;
-    match ending {
-        Ending::Going => out::say(to, b"going\n"),
-        Ending::End(end) => answers::end(to, end),
-        Ending::Refused(r) => out::refused(to, r),
-    }
-    ;
+) -> u64 {
+    let read = opening::from_source(base);
+    let h = read.header;
+    let sub_file = questions::number_at(question, 0) as usize;
+    let number = questions::number_at(question, 24) as usize;
+    let got = visit::open(map, h, sub_file, grid_of(question), number, zoom);
+    opened(shown, map, tile_layout::layout_of(h), policy, got)
 }

@@ -1,4 +1,6 @@
-use Prim.Native.Nat.{_≤_}
+use Prim.Native.Nat.{_-_, _≤_}
+use lib.ListN.{length}
+use mathlib.Core.Path.{_≡_}
 use borrow.Author.Needs.{needs}
 use Rattle.streams.proofs.answer_all.Statement.{statement}
 use Rattle.streams.proofs.answer_all.Tie as tie

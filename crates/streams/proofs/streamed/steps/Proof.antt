@@ -1,14 +1,15 @@
-use mathlib.Core.Path.{_≡_}
+use Prim.Native.Nat.{_-_, _≤_}
 use lib.ListN.{length}
+use mathlib.Core.Path.{_≡_}
 use borrow.Author.Needs.{needs}
 use Rattle.streams.proofs.streamed.steps.Statement.{statement}
 use Rattle.streams.proofs.streamed.steps.Tie as tie
 
 abbrev Inv-loop : tie.InvT-loop
-Inv-loop map layout policy counts₀ latitudes₀ longitudes₀ told₀ stream₀ turns₀ counts latitudes longitudes told stream turns = (length counts ≡ length counts₀) × (length latitudes ≡ length latitudes₀) × (length longitudes ≡ length longitudes₀)
+Inv-loop shown map layout policy digest₀ heads₀ stream₀ turns₀ digest heads stream turns = Unit {0}
 
 abbrev μ-loop : tie.MeasureT-loop
-μ-loop map layout policy counts₀ latitudes₀ longitudes₀ told₀ stream₀ turns₀ counts latitudes longitudes told stream turns = turns
+μ-loop shown map layout policy digest₀ heads₀ stream₀ turns₀ digest heads stream turns = turns
 
 pub steps-spec : {M : Type 1} → statement M
 steps-spec =
@@ -18,13 +19,6 @@ steps-spec =
     μ-loop
     (λ c. search needs)
     (λ c κs. search needs)
-    (λ c. search needs)
-    (λ c. search needs)
-    (λ c. search needs)
-    (λ c. search needs)
-    (λ c κs. search needs)
-    (λ c. search needs)
-    (λ c. search needs)
     (λ c. search needs)
     (λ c. search needs)
     (λ c. search needs)
