@@ -47,8 +47,7 @@ fn answer_words(map: &[u8], got: TileRead) -> Words {
     }
 }
 
-// The header is that of the base map, of which the map is a copy. It is not passed down: it is large, and every proof that sees it is
-// slow.
+// The header is that of the base map, of which the map is a copy. It is not passed down: it is large.
 pub(crate) fn tile(shown: bool, map: &[u8], base: &[u8], question: &[u8]) -> u64 {
     let opened = opening::from_source(base);
     let h = opened.header;

@@ -7,7 +7,8 @@ use lib.ListN.{length}
 use Rattle.parsing.specs.Parse.{Part, some}
 use Rattle.text.specs.Utf8 as utf8
 use Rattle.tag.specs.Tag as tag
-use Rattle.fetched.specs.Fetched.{listedName, buffered, tagString}
+use Rattle.format.specs.Nodes.{zero64}
+use Rattle.fetched.specs.Fetched.{listedName, buffered, tagString, neededAll}
 
 abbrev pub part : List ℕ → Part
 part b = record { start = 0; size = length b; bytes = b }
@@ -29,3 +30,7 @@ string-measured = refl
 pub split-measured : tagString (97 ∷ 61 ∷ 98 ∷ 99 ∷ []) .tag .«value_len» ≡ 2
 unfolding utf8.bytesOfAll utf8.sequencesFrom utf8.sequenceBy utf8.follow tag.equalsAt
 split-measured = refl
+
+-- 15 gives the lengths in the order in which a fetch takes the lists, the buffer's last
+pub lengths-in-order : neededAll (record { lists = record { counts = 2 ∷ []; latitudes = zero64 ∷ zero64 ∷ []; longitudes = zero64 ∷ zero64 ∷ [] }; initialLatitudes = zero64 ∷ []; initialLongitudes = zero64 ∷ []; buffer = 78 ∷ 55 ∷ 82 ∷ [] }) ≡ 1 ∷ 2 ∷ 2 ∷ 1 ∷ 1 ∷ 3 ∷ []
+lengths-in-order = refl

@@ -261,7 +261,7 @@ fn grid_of(question: &[u8]) -> Grid {
 }
 
 // The stream of a tile, as far as it goes. The header is that of the base map, of which the map is a copy. It is not passed down: it is
-// large, and every proof that sees it is slow.
+// large.
 pub(crate) fn tile(
     shown: bool,
     map: &[u8],
