@@ -26,14 +26,10 @@ compare/run [--rust FOLDER] COMMAND ARGS...
   index-sample DIR    the same two files for crafted maps: index and grid, tags, columns
   maps-records FILE DIR, index-records FILE DIR
                       the same two files for one map
-  tiles-sample DIR [collected]
-                      the same two files for crafted tiles and the maps of maps/, collected and streamed, or collected alone
-  tiles-records FILE DIR [collected]
-                      the same two files for all tiles of one map
-  streams-sample DIR  the same two files for crafted tiles and the maps of maps/: their streams in lines
-  counts-sample DIR   the same two files for the same tiles and maps: what collecting counts
+  fetches-sample DIR  the same two files for crafted tiles and the maps of maps/, collected, and every feature fetched
+  streams-sample DIR  the same two files for the same tiles and maps: their streams in lines
   turns-sample DIR    the same two files for calls out of turn and lists that are too short, which the Rust does not have
-  streams-records FILE DIR
+  fetches-records FILE DIR, streams-records FILE DIR
                       the same two files for all tiles of one map
   figures             checks document 01's worked figures; fails on a difference
   help                this text
@@ -67,18 +63,11 @@ fn run(arguments: &[&str]) -> io::Result<ExitCode> {
         ["index-records", file, folder] => {
             maps::file::write(Path::new(file), Path::new(folder), maps::Form::Indexes)?;
         }
-        ["tiles-sample", folder] => tiles::sample::write(Path::new(folder), Form::Features)?,
-        ["tiles-sample", folder, "collected"] => {
-            tiles::sample::write(Path::new(folder), Form::Collected)?;
-        }
+        ["fetches-sample", folder] => tiles::sample::write(Path::new(folder), Form::Fetches)?,
         ["streams-sample", folder] => tiles::sample::write(Path::new(folder), Form::Streams)?,
-        ["counts-sample", folder] => tiles::sample::write(Path::new(folder), Form::Counts)?,
         ["turns-sample", folder] => tiles::sample::write(Path::new(folder), Form::Turns)?,
-        ["tiles-records", file, folder] => {
-            tiles::file::write(Path::new(file), Path::new(folder), Form::Features)?;
-        }
-        ["tiles-records", file, folder, "collected"] => {
-            tiles::file::write(Path::new(file), Path::new(folder), Form::Collected)?;
+        ["fetches-records", file, folder] => {
+            tiles::file::write(Path::new(file), Path::new(folder), Form::Fetches)?;
         }
         ["streams-records", file, folder] => {
             tiles::file::write(Path::new(file), Path::new(folder), Form::Streams)?;

@@ -3,6 +3,7 @@
 
 mod calls;
 pub mod feature;
+mod fetched;
 pub mod file;
 mod lines;
 mod rust;
@@ -19,10 +20,9 @@ use mapsforge_rs::grid::{self, Grid};
 use mapsforge_rs::io::ByteRead;
 use mapsforge_rs::types::{MapFile, MapHeader};
 
-use crate::answer::{Answer, Fold};
+use crate::answer::Answer;
 use crate::differences::tile::{Cause, Opened, Parting, Port};
-use crate::maps::{given, open, place, DAMAGES, NOT_OPEN};
-use crate::records;
+use crate::maps::{given, open, place, NOT_OPEN};
 use crate::source::Source;
 use tally::{Policy, Tally, POLICIES};
 
@@ -48,14 +48,10 @@ impl Address {
 /// Which program a run's two files are for.
 #[derive(Clone, Copy)]
 pub enum Form {
-    /// All of collecting, fetching and streaming, in words.
-    Features,
-    /// Collecting alone, in words: `tiles`.
-    Collected,
-    /// Streaming, in lines: `streams`.
+    /// Collecting and fetching: `fetches`.
+    Fetches,
+    /// Streaming: `streams`.
     Streams,
-    /// What collecting counts, in lines: `collected`.
-    Counts,
     /// Calls out of turn: `turns`.
     Turns,
 }
@@ -81,7 +77,7 @@ pub struct Run {
 }
 
 /// How many answers are the Rust's, and how many are the model's alone and why; and how many features
-/// the lines of the streams have.
+/// they have.
 #[derive(Default)]
 struct Sources {
     rust: u64,
@@ -94,9 +90,9 @@ impl Run {
     /// with it, ends the run by its input.
     fn caught_lines(&mut self, form: Form, operation: u8, input: &[u8]) -> String {
         let lines = panic::catch_unwind(AssertUnwindSafe(|| match form {
-            Form::Streams | Form::Counts => self.lines(operation, input),
+            Form::Fetches => self.fetches(operation, input),
+            Form::Streams => self.lines(operation, input),
             Form::Turns => self.turns(operation, input),
-            _ => records::line(operation, &self.answer(operation, input)),
         }));
         lines.unwrap_or_else(|_| {
             eprintln!("at operation {} on {input:02x?}", char::from(operation));
@@ -105,6 +101,7 @@ impl Run {
         })
     }
 
+    /// An answer in words, for document 01's figures.
     pub fn answer(&mut self, operation: u8, input: &[u8]) -> Answer {
         if operation == b'M' {
             return self.open(input);
@@ -121,9 +118,6 @@ impl Run {
                 let (zoom, policy) = (given(parts.read_u8()), given(parts.read_u8()));
                 self.ask(&address, Question::Stream(zoom, POLICIES[usize::from(policy)]))
             }
-            b'Z' => self.zoomed(&address, &mut parts),
-            b'E' => self.cuts(&address, &mut parts),
-            b'B' => self.damages(&address, &mut parts),
             _ => panic!("no such operation"),
         }
     }
@@ -143,14 +137,10 @@ impl Run {
     }
 
     fn ask(&mut self, address: &Address, question: Question) -> Answer {
-        self.ask_cut(self.map.len(), address, question)
+        self.of_cut(self.map.len(), |file| question.answer(file, address))
     }
 
     /// Asks of the map's first bytes, under the header of the whole map.
-    fn ask_cut(&mut self, length: usize, address: &Address, question: Question) -> Answer {
-        self.of_cut(length, |file| question.answer(file, address))
-    }
-
     fn of_cut<T>(
         &mut self,
         length: usize,
@@ -164,52 +154,9 @@ impl Run {
         self.sources.count(parting);
         answer
     }
-
-    /// Streams under a policy, at each zoom from one to before another.
-    fn zoomed(&mut self, address: &Address, input: &mut Source) -> Answer {
-        let [from, to, policy] = [(); 3].map(|()| given(input.read_u8()));
-        let policy = POLICIES[usize::from(policy)];
-        let mut fold = Fold::new();
-        for zoom in from..to {
-            fold.answer(&self.ask(address, Question::Stream(zoom, policy)));
-        }
-        vec![0, fold.value()]
-    }
-
-    /// All lengths of the map from one to before another.
-    fn cuts(&mut self, address: &Address, input: &mut Source) -> Answer {
-        let (from, to, question) = (place(input), place(input), Question::what(input));
-        let mut fold = Fold::new();
-        for length in from..to {
-            fold.answer(&self.ask_cut(length, address, question));
-        }
-        vec![0, fold.value()]
-    }
-
-    /// Each damage of all bytes from one to before another.
-    fn damages(&mut self, address: &Address, input: &mut Source) -> Answer {
-        let (from, to, question) = (place(input), place(input), Question::what(input));
-        let mut fold = Fold::new();
-        for place in from..to {
-            for damage in DAMAGES {
-                self.map[place] ^= damage;
-                fold.answer(&self.ask(address, question));
-                self.map[place] ^= damage;
-            }
-        }
-        vec![0, fold.value()]
-    }
 }
 
 impl Question {
-    /// A question by its number: to collect, or to stream at the highest zoom under a policy.
-    fn what(input: &mut Source) -> Self {
-        match given(input.read_u8()) {
-            0 => Question::Collect,
-            policy => Question::Stream(u8::MAX, POLICIES[usize::from(policy) - 1]),
-        }
-    }
-
     /// The Rust's answer, which must be the model's; where the Rust parts, the model's.
     fn answer(self, file: &mut MapFile<Source>, address: &Address) -> (Answer, Option<Parting>) {
         let opened = Opened::of(file);
@@ -292,7 +239,7 @@ impl Sources {
         let parted: u64 = self.model.values().sum();
         println!("{} answers of the Rust, {parted} of the model alone", self.rust);
         if self.features > 0 {
-            println!("{} points and ways in the streams", self.features);
+            println!("{} points and ways in them", self.features);
         }
         for (cause, count) in &self.model {
             println!("  {cause:?}: {count}");

@@ -15,7 +15,7 @@ pub use reader::{Cause, Parting};
 
 use crate::answer::Answer;
 use crate::source::Source;
-use crate::tiles::feature::{Text, Tile};
+use crate::tiles::feature::{Collected, Text, Tile};
 use crate::tiles::tally::Tally;
 use crate::tiles::Address;
 use reader::{Read, Reader, View};
@@ -50,12 +50,18 @@ impl<'a> Opened<'a> {
 
     /// Feature `k` of the collected tile, with the codes of its tags.
     pub fn fetch(self, address: &Address, k: usize) -> Port {
+        let (tile, parting) = self.fetched(address);
+        Port { answer: tile.map_or_else(|refusal| refusal, |tile| tile.answer(k)), parting }
+    }
+
+    /// The collected tile with the texts of its features, or the refusal.
+    pub fn fetched(self, address: &Address) -> (Result<Collected, Answer>, Option<Parting>) {
         let (tile, parting) = self.tile(address);
-        let fetched = |tile: Tile| match tile.feature(k) {
-            Some(feature) => feature.answer(&tags::codes(&feature, self.header)),
-            None => vec![17],
+        let with_texts = |tile: Tile| {
+            let texts = tile.features().map(|feature| tags::texts(&feature, self.header)).collect();
+            Collected { tile, texts }
         };
-        Port { answer: tile.map_or_else(|refusal| refusal, fetched), parting }
+        (tile.map(with_texts), parting)
     }
 
     /// `visit_tile`; the answer is 0, sub file and water mark, or the refusal.

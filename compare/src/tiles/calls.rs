@@ -4,9 +4,12 @@ use std::io;
 use std::ops::Range;
 use std::path::Path;
 
+use super::fetched;
 use super::tally::POLICIES;
 use super::{Address, Form, Run};
+use crate::differences::tile::Opened;
 use crate::maps::calls::on_grid;
+use crate::maps::open;
 use crate::records::{self, Record};
 
 /// Records in the order of the run; an operation may come twice, since the map may have changed.
@@ -23,8 +26,25 @@ impl Records {
         self.add(b'A', address, &[]);
     }
 
+    /// A feature, and the same with lists and a buffer that are too short, and just long enough.
     pub fn feature(&mut self, address: Address, k: u32) {
         self.add(b'F', address, &k.to_be_bytes());
+        self.lent(address, k);
+    }
+
+    /// A feature that is not there, or too long for the lists that are cut, is not asked for.
+    fn lent(&mut self, address: Address, k: u32) {
+        let map = self.0.iter().rev().find(|(operation, _)| *operation == b'M');
+        let (_, map) = map.expect("a map stands before what is asked about it");
+        let needed = open::with_map(map, |file| {
+            let (tile, _) = Opened::of(&file).fetched(&address);
+            tile.ok().and_then(|tile| tile.get(k as usize).map(|feature| feature.lengths()))
+        });
+        let Ok(Some(needed)) = needed else { return };
+        if fetched::is_short(&needed) {
+            let lengths = needed.map(|length| (length as u32).to_be_bytes());
+            self.add(b'G', address, &[&k.to_be_bytes(), lengths.as_flattened()].concat());
+        }
     }
 
     /// A stream at a zoom, with the policy of this number.
@@ -66,10 +86,8 @@ impl Records {
             (Form::Turns, operation) => *operation == b'T',
             (Form::Streams, b'E' | b'B') => input.last() != Some(&0),
             (Form::Streams, operation) => matches!(operation, b'S' | b'Z' | b'L'),
-            (_, b'A') => true,
-            (Form::Features, b'F' | b'S' | b'Z' | b'E' | b'B') => true,
-            (Form::Collected | Form::Counts, b'E' | b'B') => input.last() == Some(&0),
-            _ => false,
+            (Form::Fetches, b'E' | b'B') => input.last() == Some(&0),
+            (Form::Fetches, operation) => matches!(operation, b'A' | b'F' | b'G'),
         };
         let mut records = Vec::<Record>::new();
         for record in self.0.into_iter().filter(kept) {

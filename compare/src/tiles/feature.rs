@@ -99,6 +99,7 @@ impl Way {
 }
 
 /// A collected tile.
+#[derive(Default)]
 pub struct Tile {
     /// As it is stored, or as the Rust gives it: replaced and trimmed.
     pub signature: Option<Text>,
@@ -112,6 +113,7 @@ pub struct Tile {
 }
 
 /// A feature of a collected tile.
+#[derive(Clone, Copy)]
 pub enum Feature<'a> {
     Point(&'a Point),
     Way(&'a Way),
@@ -128,6 +130,11 @@ impl Tile {
         vec![0, rows, self.first_way, points, ways, fold.value()]
     }
 
+    /// All features, the points and then the ways.
+    pub fn features(&self) -> impl Iterator<Item = Feature<'_>> {
+        self.points.iter().map(Feature::Point).chain(self.ways.iter().map(Feature::Way))
+    }
+
     /// Feature `k`, the points from 0 and the ways behind them; none at or above their count.
     pub fn feature(&self, k: usize) -> Option<Feature<'_>> {
         let way = || Some(Feature::Way(self.ways.get(k.checked_sub(self.points.len())?)?));
@@ -135,14 +142,57 @@ impl Tile {
     }
 }
 
-impl Feature<'_> {
-    /// The words of a fetched feature, whose tags are given by their key and value codes.
-    pub fn answer(&self, tags: &[[u64; 2]]) -> Answer {
-        let words = match self {
+/// A text of a fetched feature, and the tag that is made of it: the lengths of key and value, their codes.
+pub struct TagText {
+    pub text: Text,
+    pub tag: [u64; 4],
+}
+
+/// The strings of a feature's tags, then name, house number and reference.
+pub struct Texts {
+    pub of_ids: Vec<TagText>,
+    pub others: [Option<TagText>; 3],
+}
+
+impl Texts {
+    /// Those that are there, one behind the other.
+    pub fn all(&self) -> impl Iterator<Item = &TagText> {
+        self.of_ids.iter().chain(self.others.iter().flatten())
+    }
+}
+
+/// A collected tile, and the texts of its features.
+pub struct Collected {
+    pub tile: Tile,
+    pub texts: Vec<Texts>,
+}
+
+/// A feature as it is fetched.
+pub struct Fetched<'a> {
+    pub feature: Feature<'a>,
+    pub texts: &'a Texts,
+}
+
+impl Collected {
+    /// The words of feature `k`, or 17.
+    pub fn answer(&self, k: usize) -> Answer {
+        self.get(k).map_or(vec![17], |feature| feature.answer())
+    }
+
+    pub fn get(&self, k: usize) -> Option<Fetched<'_>> {
+        Some(Fetched { feature: self.tile.feature(k)?, texts: &self.texts[k] })
+    }
+}
+
+impl Fetched<'_> {
+    /// The words of the feature, with the codes of its tags in one digest.
+    pub fn answer(&self) -> Answer {
+        let words = match self.feature {
             Feature::Point(point) => point.collected(),
             Feature::Way(way) => way.fetched(),
         };
-        [&[0], words.as_slice(), &[folded(tags.as_flattened())]].concat()
+        let codes: Answer = self.texts.all().flat_map(|text| text.tag[2..].to_vec()).collect();
+        [&[0], words.as_slice(), &[folded(&codes)]].concat()
     }
 }
 

@@ -1,10 +1,10 @@
-//! A line for each answer of a stream, and one for a collected tile, as the programs `streams` and
-//! `collected` print them: a letter and words in base 16. In front of a way's body a line of its first nodes (`n`), and
-//! behind a line one for each text (`t`).
+//! A line for each answer of a stream, as the program `streams` prints them: a letter and words in base
+//! 16. In front of a way's body a line of its first nodes (`n`), and behind a line one for each text
+//! (`t`).
 
 use std::fmt::Write;
 
-use super::feature::{Block, Point, Position, Text, Tile, Way};
+use super::feature::{Block, Point, Position, Text, Way};
 use crate::answer::{self, signed, Answer, Fold};
 
 /// Up to so many nodes of a way are shown; the digest has all.
@@ -12,14 +12,13 @@ const FEW_NODES: usize = 4;
 
 pub fn point(point: &Point) -> String {
     let Point { position, layer, ids, name, house_number, elevation, .. } = point;
-    let metres = elevation.map_or(vec![0], |x| [&[1], &signed(i64::from(x))[..]].concat());
     let words = [
         &bits(position)[..],
         &self::layer(*layer),
         &counted(ids),
         &text_words(name),
         &text_words(house_number),
-        &metres,
+        &metres(*elevation),
     ];
     line('p', &words.concat()) + &texts(&[name, house_number])
 }
@@ -31,7 +30,6 @@ pub fn head(bitmap: u16, ids: &[u64]) -> String {
 pub const DECLINED: &str = "d\n";
 
 pub fn body(way: &Way) -> String {
-    let label = way.label.map_or(vec![0], |label| [&[1], &bits(&label)[..]].concat());
     let nodes: Vec<Position> = way.blocks.iter().flat_map(|block| block.nodes.clone()).collect();
     let blocks = [way.blocks.len() as u64, nodes.len() as u64, blocks_digest(&way.blocks)];
     let Way { name, house_number, reference, .. } = way;
@@ -40,37 +38,24 @@ pub fn body(way: &Way) -> String {
         &text_words(name),
         &text_words(house_number),
         &text_words(reference),
-        &label,
+        &label(way.label),
         &blocks,
     ];
-    let body = line('a', &words.concat()) + &texts(&[name, house_number, reference]);
+    first_nodes(&nodes) + &line('a', &words.concat()) + &texts(&[name, house_number, reference])
+}
+
+/// A line of the first nodes, if there are any.
+pub fn first_nodes(nodes: &[Position]) -> String {
     let first: Answer = nodes.iter().take(FEW_NODES).flat_map(bits).collect();
-    if first.is_empty() { body } else { line('n', &first) + &body }
+    if first.is_empty() {
+        return String::new();
+    }
+    line('n', &first)
 }
 
 /// The line of a stream's end, which is 0, sub file and water mark, or a refusal.
 pub fn end(ended: &[u64]) -> String {
     line('e', ended)
-}
-
-/// The answer of collecting.
-pub fn collected(tile: &Result<Tile, Answer>) -> String {
-    let tile = match tile {
-        Ok(tile) => tile,
-        Err(refusal) => return line('A', refusal),
-    };
-    let mut rows = Fold::new();
-    rows.words(tile.table.as_flattened());
-    let counts = [
-        0,
-        tile.first_way,
-        tile.points.len() as u64,
-        tile.ways.len() as u64,
-        u64::from(tile.exact),
-        tile.table.len() as u64,
-        rows.value(),
-    ];
-    line('A', &[&counts[..], &text_words(&tile.signature)].concat()) + &texts(&[&tile.signature])
 }
 
 /// The letters and words of the lines in one number. Texts and first nodes are left out: the words
@@ -101,19 +86,28 @@ pub fn numbers(numbers: &[u64]) -> String {
     numbers.iter().map(|number| format!(" {number}")).collect()
 }
 
-fn layer(layer: u64) -> [u64; 2] {
+/// What is absent is 0, and 1 stands in front of what is there.
+pub fn metres(elevation: Option<i32>) -> Answer {
+    elevation.map_or(vec![0], |x| [&[1], &signed(i64::from(x))[..]].concat())
+}
+
+pub fn label(position: Option<Position>) -> Answer {
+    position.map_or(vec![0], |label| [&[1], &bits(&label)[..]].concat())
+}
+
+pub fn layer(layer: u64) -> [u64; 2] {
     signed(layer as i64 - 5)
 }
 
-fn counted(ids: &[u64]) -> Answer {
+pub fn counted(ids: &[u64]) -> Answer {
     [&[ids.len() as u64], ids].concat()
 }
 
-fn bits(position: &Position) -> [u64; 2] {
+pub fn bits(position: &Position) -> [u64; 2] {
     position.map(f64::to_bits)
 }
 
-fn text_words(text: &Option<Text>) -> Answer {
+pub fn text_words(text: &Option<Text>) -> Answer {
     text.as_ref().map_or(vec![0], |text| vec![1, text.len() as u64, answer::digest(text)])
 }
 
@@ -129,7 +123,7 @@ fn blocks_digest(blocks: &[Block]) -> u64 {
 }
 
 /// A line for each text that is there; what is not printable as a backslash and two digits.
-fn texts(texts: &[&Option<Text>]) -> String {
+pub fn texts(texts: &[&Option<Text>]) -> String {
     let mut lines = String::new();
     for text in texts.iter().copied().flatten() {
         lines += "t ";

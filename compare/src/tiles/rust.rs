@@ -4,7 +4,7 @@
 use mapsforge_rs::types::{self, LatLong, MapFile, Tag, WayCoordinateBlock, POI};
 use mapsforge_rs::visit::{PoiInfo, TileVisitor, WayInfo};
 
-use super::feature::{Block, Feature, Point, Position, Text, Tile, Way};
+use super::feature::{Block, Collected, Point, Position, TagText, Text, Texts, Tile, Way};
 use super::tally::{Policy, Tally};
 use super::Address;
 use crate::answer::{refused, Answer};
@@ -16,16 +16,28 @@ pub fn collect(file: &mut MapFile<Source>, address: &Address) -> Answer {
 }
 
 /// The collected tile, or the refusal.
-pub fn tile(file: &mut MapFile<Source>, address: &Address) -> Result<Tile, Answer> {
+fn tile(file: &mut MapFile<Source>, address: &Address) -> Result<Tile, Answer> {
     read(file, address).map(|tile| collected(&tile))
 }
 
 pub fn fetch(file: &mut MapFile<Source>, address: &Address, k: usize) -> Answer {
-    let fetched = |tile: types::Tile| match collected(&tile).feature(k) {
-        Some(feature) => feature.answer(&tags(&tile, k, &feature)),
-        None => vec![17],
+    fetched(file, address).map_or_else(|refusal| refusal, |tile| tile.answer(k))
+}
+
+/// The collected tile with the texts of its features, or the refusal.
+pub fn fetched(file: &mut MapFile<Source>, address: &Address) -> Result<Collected, Answer> {
+    let tile = read(file, address)?;
+    let texts_of_point = |point: &POI| {
+        let others = [&point.name, &point.house_number, &None];
+        texts(&file.header.poi_tags, &point.tag_ids, &point.tags, others)
     };
-    read(file, address).map_or_else(|refusal| refusal, fetched)
+    let texts_of_way = |way: &types::Way| {
+        let others = [&way.name, &way.house_number, &way.reference];
+        texts(&file.header.way_tags, &way.tag_ids, &way.tags, others)
+    };
+    let of_points = tile.pois.iter().map(texts_of_point);
+    let texts = of_points.chain(tile.ways.iter().map(texts_of_way)).collect();
+    Ok(Collected { tile: collected(&tile), texts })
 }
 
 pub fn stream(file: &mut MapFile<Source>, address: &Address, zoom: u8, policy: Policy) -> Tally {
@@ -96,14 +108,23 @@ fn collected_block(block: &WayCoordinateBlock) -> Block {
     }
 }
 
-/// The codes of the tags of feature `k`.
-fn tags(tile: &types::Tile, k: usize, feature: &Feature) -> Vec<[u64; 2]> {
-    let tags = match feature {
-        Feature::Point(_) => &tile.pois[k].tags,
-        Feature::Way(_) => &tile.ways[k - tile.pois.len()].tags,
+/// The texts of a feature, each with its tag. The Rust has the tags in one list.
+fn texts(
+    table: &[String],
+    ids: &[usize],
+    tags: &Option<Vec<Tag>>,
+    others: [&Option<String>; 3],
+) -> Texts {
+    let mut tags = tags.iter().flatten();
+    let mut next = |text: &String| {
+        let tag = tags.next().expect("a tag for each text");
+        let tag = [tag.key.len(), tag.value.len(), tag.key_code, tag.value_code].map(word);
+        TagText { text: text.as_bytes().to_vec(), tag }
     };
-    let codes = |tag: &Tag| [tag.key_code, tag.value_code].map(word);
-    tags.iter().flatten().map(codes).collect()
+    let of_ids = ids.iter().map(|&id| next(&table[id])).collect();
+    let others = others.map(|text| text.as_ref().map(&mut next));
+    assert!(tags.next().is_none(), "a text for each tag");
+    Texts { of_ids, others }
 }
 
 impl TileVisitor for Tally {

@@ -29,7 +29,7 @@ fn push_list(words: Words, list: &[u64], count: usize) -> Words
     out
 }
 
-fn push_ids(words: Words, tags: TagIds) -> Words
+pub fn push_ids(words: Words, tags: TagIds) -> Words
     ensures { λ r. ⌜ r ≡ idsPushed words tags ⌝ }
 {
     let ids = tags.ids;
@@ -37,7 +37,7 @@ fn push_ids(words: Words, tags: TagIds) -> Words
 }
 
 // 1 if it is negative, and the magnitude.
-fn push_layer(words: Words, layer: i8) -> Words
+pub fn push_layer(words: Words, layer: i8) -> Words
     ensures { λ r. ⌜ r ≡ signedPushed words layer ⌝ }
 {
     let v = layer as i64;
@@ -51,7 +51,7 @@ fn push_metres(words: Words, metres: i32) -> Words
     report::push(report::push(words, report::sign(v)), report::magnitude(v))
 }
 
-fn push_elevation(words: Words, elevation: OptionalElevation) -> Words
+pub fn push_elevation(words: Words, elevation: OptionalElevation) -> Words
     ensures { λ r. ⌜ r ≡ elevationPushed words elevation ⌝ }
 {
     match elevation {

@@ -2,7 +2,7 @@
 
 use mapsforge_rs::types::MapHeader;
 
-use crate::tiles::feature::{Feature, Text};
+use crate::tiles::feature::{Feature, TagText, Text, Texts};
 
 /// "The letter after the first `=%`".
 pub fn letter(tag: &str) -> Option<u8> {
@@ -10,9 +10,9 @@ pub fn letter(tag: &str) -> Option<u8> {
     pattern.bytes().next()
 }
 
-/// The codes of keys and values. "Behind the tags of a collected feature's ids come those keyed
-/// `name`, `addr:housenumber` and `ref`, for the texts it has."
-pub fn codes(feature: &Feature, header: &MapHeader) -> Vec<[u64; 2]> {
+/// "Behind the tags of a collected feature's ids come those keyed `name`, `addr:housenumber` and `ref`,
+/// for the texts it has."
+pub fn texts(feature: &Feature, header: &MapHeader) -> Texts {
     let (table, ids, texts) = match feature {
         Feature::Point(point) => {
             (&header.poi_tags, &point.ids, [&point.name, &point.house_number, &None])
@@ -21,10 +21,25 @@ pub fn codes(feature: &Feature, header: &MapHeader) -> Vec<[u64; 2]> {
             (&header.way_tags, &way.ids, [&way.name, &way.house_number, &way.reference])
         }
     };
-    let of_ids = ids.iter().map(|&id| split(&table[id as usize]));
-    let keyed = ["name", "addr:housenumber", "ref"].into_iter().zip(texts);
-    let of_texts = keyed.filter_map(|(key, text)| Some((key, replaced(text.as_ref()?))));
-    of_ids.chain(of_texts).map(|(key, value)| [hash(key), hash(value)]).collect()
+    let of_id = |&id: &u64| of_tag(&table[id as usize]);
+    let [name, house_number, reference] = texts;
+    let others =
+        [keyed("name", name), keyed("addr:housenumber", house_number), keyed("ref", reference)];
+    Texts { of_ids: ids.iter().map(of_id).collect(), others }
+}
+
+fn of_tag(text: &str) -> TagText {
+    let (key, value) = split(text);
+    TagText { text: text.into(), tag: tag(key, value) }
+}
+
+fn keyed(key: &str, text: &Option<Text>) -> Option<TagText> {
+    let text = text.as_ref()?;
+    Some(TagText { text: text.clone(), tag: tag(key, replaced(text)) })
+}
+
+fn tag(key: &str, value: &str) -> [u64; 4] {
+    [key.len() as u64, value.len() as u64, hash(key), hash(value)]
 }
 
 /// "A tag splits at its first `=`; without one its value is empty."

@@ -1,2 +1,0 @@
-pub mod FeatureLaws
-pub mod SignedLaws
