@@ -29,6 +29,7 @@ compare/run [--rust FOLDER] COMMAND ARGS...
   fetches-sample DIR  the same two files for crafted tiles and the maps of maps/, collected, and every feature fetched
   streams-sample DIR  the same two files for the same tiles and maps: their streams in lines
   turns-sample DIR    the same two files for calls out of turn and lists that are too short, which the Rust does not have
+  books-sample DIR    the same two files for lists of calls, whose answers are held to document 01's book
   fetches-records FILE DIR, streams-records FILE DIR
                       the same two files for all tiles of one map
   figures             checks document 01's worked figures; fails on a difference
@@ -66,6 +67,7 @@ fn run(arguments: &[&str]) -> io::Result<ExitCode> {
         ["fetches-sample", folder] => tiles::sample::write(Path::new(folder), Form::Fetches)?,
         ["streams-sample", folder] => tiles::sample::write(Path::new(folder), Form::Streams)?,
         ["turns-sample", folder] => tiles::sample::write(Path::new(folder), Form::Turns)?,
+        ["books-sample", folder] => tiles::sample::write(Path::new(folder), Form::Books)?,
         ["fetches-records", file, folder] => {
             tiles::file::write(Path::new(file), Path::new(folder), Form::Fetches)?;
         }

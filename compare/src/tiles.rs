@@ -1,6 +1,7 @@
 //! Tiles, collected and streamed. Each operation has a letter; all but `M` are about a tile of the map
 //! of the last `M`.
 
+mod books;
 mod calls;
 pub mod feature;
 mod fetched;
@@ -54,6 +55,8 @@ pub enum Form {
     Streams,
     /// Calls out of turn: `turns`.
     Turns,
+    /// The book against the stream: `books`.
+    Books,
 }
 
 /// What is asked of a tile.
@@ -93,6 +96,7 @@ impl Run {
             Form::Fetches => self.fetches(operation, input),
             Form::Streams => self.lines(operation, input),
             Form::Turns => self.turns(operation, input),
+            Form::Books => self.books(operation, input),
         }));
         lines.unwrap_or_else(|_| {
             eprintln!("at operation {} on {input:02x?}", char::from(operation));

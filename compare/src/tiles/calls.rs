@@ -12,6 +12,9 @@ use crate::maps::calls::on_grid;
 use crate::maps::open;
 use crate::records::{self, Record};
 
+/// The seed of the pseudo-random lists of calls.
+const RANDOM_LISTS: u64 = 0xB00C;
+
 /// Records in the order of the run; an operation may come twice, since the map may have changed.
 #[derive(Default)]
 pub struct Records(Vec<Record>);
@@ -72,6 +75,18 @@ impl Records {
         self.add(b'T', address, &[]);
     }
 
+    /// Every list of calls up to a length, at a zoom.
+    pub fn lists(&mut self, address: Address, zoom: u8, longest: u32) {
+        self.add(b'K', address, &[&[zoom], &longest.to_be_bytes()[..]].concat());
+    }
+
+    /// So many pseudo-random lists of a length.
+    pub fn random_lists(&mut self, address: Address, zoom: u8, length: u32, lists: u32) {
+        let numbers = [length.to_be_bytes(), lists.to_be_bytes()];
+        let seed = RANDOM_LISTS.to_be_bytes();
+        self.add(b'R', address, &[&[zoom], numbers.as_flattened(), &seed].concat());
+    }
+
     /// Streams at each zoom from one to before another, a record for each policy.
     pub fn zooms(&mut self, address: Address, zooms: Range<u8>) {
         for policy in 0..POLICIES.len() as u8 {
@@ -84,6 +99,7 @@ impl Records {
         let kept = |(operation, input): &Record| match (form, operation) {
             (_, b'M') => true,
             (Form::Turns, operation) => *operation == b'T',
+            (Form::Books, operation) => matches!(operation, b'K' | b'R'),
             (Form::Streams, b'E' | b'B') => input.last() != Some(&0),
             (Form::Streams, operation) => matches!(operation, b'S' | b'Z' | b'L'),
             (Form::Fetches, b'E' | b'B') => input.last() == Some(&0),
@@ -106,7 +122,7 @@ impl Records {
         let mut run = Run::default();
         let line = |(operation, input): &Record| run.caught_lines(form, *operation, input);
         let lines: String = records.iter().map(line).collect();
-        if !matches!(form, Form::Turns) {
+        if !matches!(form, Form::Turns | Form::Books) {
             run.sources.print();
         }
         records::write(folder, &records, lines.as_bytes())

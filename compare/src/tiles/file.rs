@@ -20,6 +20,12 @@ use crate::source::Source;
 /// What is asked of each cut and each damage: to collect, and three streams.
 pub const WHATS: Range<u8> = 0..4;
 
+/// Up to so many features a tile is small; every list of up to so many calls is then tried; and so many
+/// long lists are.
+const SMALL: usize = 4;
+const CALLS: u32 = 6;
+const LISTS: u32 = 4;
+
 /// The size of an index entry.
 const ENTRY: usize = 5;
 
@@ -56,6 +62,27 @@ fn tiles(records: &mut Records, file: &MapFile<Source>, grids: &[Grid]) {
 pub fn add_lines(records: &mut Records, map: &[u8], grids: &[Grid], policy: u8) {
     let opened = open::with_map(map, |file| {
         all(&file, grids).into_iter().for_each(|at| records.lines(at, u8::MAX, policy));
+    });
+    opened.unwrap_or_default();
+}
+
+/// The book of each tile with features, at the ends of its interval: every list of a few calls where the
+/// tile is small, and long lists.
+pub fn add_books(records: &mut Records, map: &[u8], grids: &[Grid]) {
+    let opened = open::with_map(map, |file| {
+        for at in all(&file, grids) {
+            let (tile, _) = Opened::of(&file).tile(&at);
+            let features = tile.map_or(0, |tile| tile.features().count());
+            let interval = &file.header.zoom_interval_configuration[at.sub_file as usize];
+            for zoom in [interval.min_zoom_level, interval.max_zoom_level] {
+                if (1..=SMALL).contains(&features) {
+                    records.lists(at, zoom, CALLS);
+                }
+                if features > 0 {
+                    records.random_lists(at, zoom, 4 * features as u32 + CALLS, LISTS);
+                }
+            }
+        }
     });
     opened.unwrap_or_default();
 }

@@ -36,6 +36,10 @@ fn whole(records: &mut Records) {
     (0..=11).for_each(|k| records.feature(at, k));
     (0..3).for_each(|policy| records.lines(at, 12, policy));
     records.turns(at);
+    for zoom in [10, 12] {
+        records.lists(at, zoom, 6);
+        records.random_lists(at, zoom, 60, 20);
+    }
 }
 
 /// Four points and seven ways in about 300 bytes without signatures.

@@ -24,6 +24,7 @@ pub fn add(records: &mut Records) -> io::Result<()> {
         let map = fs::read(&path)?;
         file::add(records, &map, grids);
         file::add_lines(records, &map, grids, policy);
+        file::add_books(records, &map, grids);
         for (sub_file, tile, features) in FETCHED {
             let at = Address { sub_file: sub_file as u64, grid: grids[sub_file], tile };
             features.for_each(|k| records.feature(at, k));
