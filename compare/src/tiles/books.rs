@@ -15,8 +15,8 @@ use crate::source::Source;
 const CALLS: u64 = 4;
 
 /// The lengths of the lists and of the buffer that the program lends.
-const ENTRIES: u64 = 2048;
-const BYTES: u64 = 4096;
+const ENTRIES: u64 = 512;
+const BYTES: u64 = 512;
 
 impl Run {
     /// `K` is every list of calls up to a length, `R` so many pseudo-random lists of a length.

@@ -32,16 +32,16 @@ struct Judged {
 }
 
 // Lists that are long enough for every way that is asked about. Both sides start from the same values.
-fn counts() -> [u64; 2048] {
-    [7; 2048]
+fn counts() -> [u64; 512] {
+    [7; 512]
 }
 
-fn coordinates() -> [f64; 2048] {
-    [7.5; 2048]
+fn coordinates() -> [f64; 512] {
+    [7.5; 512]
 }
 
-fn texts() -> [u8; 4096] {
-    [7; 4096]
+fn texts() -> [u8; 512] {
+    [7; 512]
 }
 
 fn fetch(
@@ -198,30 +198,11 @@ fn is_too_short(refusal: Refusal, blocks: u64, nodes: u64) -> bool {
         && l.buffer == 0
 }
 
-// What the book says to "accept": 0 for a body, 15 or 16. Empty lists are long enough for a way with no blocks.
-fn accept_said(waits: bool, long: bool, blocks: u64) -> u8 {
-    if !waits {
-        return 16;
-    }
-    if long || blocks == 0 {
-        return 0;
-    }
-    15
-}
-
-fn same_refusal(refusal: Refusal, said: u8, blocks: u64, nodes: u64) -> bool {
-    match said {
-        0 => false,
-        15 => is_too_short(refusal, blocks, nodes),
-        _ => is_out_of_turn(refusal),
-    }
-}
-
 // The body and its lists, or a refusal that leaves the lists alone.
 fn same_accept(
     map: &[u8],
     answer: AcceptAnswer,
-    said: u8,
+    fits: bool,
     way: FetchedWay,
     buffer: &[u8],
     list: &[u64],
@@ -233,30 +214,46 @@ fn same_accept(
 ) -> bool {
     match answer {
         AcceptAnswer::Body(body) => {
-            said == 0
+            fits
                 && features::same_body(map, body, way, buffer)
                 && features::same_counts(list, other)
                 && features::same_coordinates(latitudes, other_latitudes)
                 && features::same_coordinates(longitudes, other_longitudes)
         }
         AcceptAnswer::Refused(r) => {
-            same_refusal(r, said, way.blocks, way.nodes) && untouched(list, latitudes, longitudes)
+            !fits
+                && is_too_short(r, way.blocks, way.nodes)
+                && untouched(list, latitudes, longitudes)
         }
     }
 }
 
-// The answer of an accept, and what it left of the lists. While no way waits the feature is not looked at.
+// The answer of an accept while no way waits.
+fn is_refused(answer: AcceptAnswer) -> bool {
+    match answer {
+        AcceptAnswer::Body(_) => false,
+        AcceptAnswer::Refused(r) => is_out_of_turn(r),
+    }
+}
+
+// The answer of an accept, and what it left of the lists. Empty lists are long enough for a way with no blocks.
 fn judge(
     map: &[u8],
     question: &[u8],
     feature: u64,
     waits: bool,
     long: bool,
-    got: Accepted,
+    answer: AcceptAnswer,
     list: &[u64],
     latitudes: &[f64],
     longitudes: &[f64],
 ) -> Judged {
+    if !waits {
+        return Judged {
+            same: is_refused(answer) && untouched(list, latitudes, longitudes),
+            refused: true,
+        };
+    }
     let mut other = counts();
     let mut other_latitudes = coordinates();
     let mut other_longitudes = coordinates();
@@ -271,12 +268,11 @@ fn judge(
         &mut buffer,
     );
     let way = fetched.way;
-    let answer = got.answer;
-    let said = accept_said(waits, long, way.blocks);
+    let fits = long || way.blocks == 0;
     let same = same_accept(
         map,
         answer,
-        said,
+        fits,
         way,
         &buffer,
         list,
@@ -288,7 +284,7 @@ fn judge(
     );
     Judged {
         same,
-        refused: said != 0,
+        refused: !fits,
     }
 }
 
@@ -327,13 +323,14 @@ fn accept(map: &[u8], question: &[u8], book: Book, long: bool, last: State) -> S
         &mut longitudes,
     );
     let stream = got.stream;
+    let answer = got.answer;
     let judged = judge(
         map,
         question,
         feature_of(book, last.k),
         last.waits,
         long,
-        got,
+        answer,
         &list,
         &latitudes,
         &longitudes,
