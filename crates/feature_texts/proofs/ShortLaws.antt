@@ -6,10 +6,10 @@ use mathlib.Core.Bool.{Bool, true, false, cond}
 use mathlib.Core.List.{List, [], _∷_, _++_}
 use lib.Dec.{leb, ltb}
 use lib.ListN.{length, take, drop, replicate, length-append, length-take}
-use lib.Seq.{take-append-seam}
+use lib.Seq.{take-append-seam, length-take-le}
 use borrow.Author.Tests.{leb-true}
-use Rattle.parsing.specs.Parse.{Res, ok, no, andThen, Parser, many, chunk, Part, part, pick, fail, byte, optional, Maybe, none, some}
-use Rattle.parsing.specs.Good.{split, ok-val, no-ok}
+use Rattle.parsing.specs.Parse.{Res, ok, no, andThen, mapRes, Parser, many, chunk, Part, part, pick, fail, byte, optional, Maybe, none, some}
+use Rattle.parsing.specs.Good.{split, ok-val, ok-at, no-ok}
 use Rattle.parsing.proofs.Loops.{many-count}
 use Rattle.text.specs.Utf8.{replaced}
 use Rattle.text.proofs.ReplacedLaws.{replaced-most}
@@ -21,7 +21,8 @@ use Rattle.format.specs.WayData.{node, wayData}
 use Rattle.format.specs.Tile.{debugSignature, tagId, values, tagged, pointFields, Point, point, headRest, Head, head, WayFields, wayFields, dataBlockCount, Body, body}
 use Rattle.byte_source.specs.BigEndian.{bigEndian}
 use Rattle.types.specs.Types.{optionalSpan, maybePart}
-use Rattle.tagged.specs.TagIds.{filledIds}
+use Rattle.tagged.specs.TagIds.{filledIds, tagIds}
+use Rattle.tagged.specs.declared.TagIds.{TagIds}
 use Rattle.fields.proofs.StreamLaws.{Gives, any, gives-bind, gives-return, PartOf, text-within}
 use Rattle.fetched.specs.Fetched.{bytesOf, foundBytes, walkedName, idTexts, present, buffered}
 use Rattle.feature_texts.proofs.TextLaws.{present-bytes}
@@ -70,14 +71,34 @@ optional-stored m true = record {
 }
 optional-stored m false = gives-return m none (Stored m) (none-stored m)
 
--- the ids as a record holds them
-pub count-in : (l : List ℕ) → length l ≤ length (filledIds l)
-unfolding filledIds
-count-in l = let e = length-append l (drop (length l) (replicate 15 0)) in omega arith
+-- a value that was read, of which a view is known
+pub record Known {A C : Type 0} (view : A → C) (v : C) (n : ℕ) (r : Res A) : Type 0 where
+  pub value : A
+  pub same : r ≡ ok value n
+  pub shown : v ≡ view value
 
-pub ids-back : (l : List ℕ) → take (length l) (filledIds l) ≡ l
+pub known-by : {A C : Type 0} (view : A → C) (v : C) (n : ℕ) (r : Res A) → ok v n ≡ mapRes view r → Known view v n r
+known-by view v n (ok a e) q = record { value = a; same = ap (ok a) (sym (ok-at q)); shown = ok-val q }
+known-by view v n (no k l) q = no-ok (sym q)
+
+filled-length : (l : List ℕ) → length l ≤ length (filledIds l)
 unfolding filledIds
-ids-back l = take-append-seam l (drop (length l) (replicate 15 0))
+filled-length l = let e = length-append l (drop (length l) (replicate 15 0)) in omega arith
+
+filled-front : (l : List ℕ) → take (length l) (filledIds l) ≡ l
+unfolding filledIds
+filled-front l = take-append-seam l (drop (length l) (replicate 15 0))
+
+-- the ids as a record holds them: as many as it counts are there, and these are the ids
+module _ (t : TagIds) (l : List ℕ) (e : t ≡ tagIds l) where
+  pub ids-within : t .count ≤ length (t .ids)
+  ids-within = rw e (filled-length l)
+
+  pub ids-counted : t .count ≡ length (take (t .count) (t .ids))
+  ids-counted = sym (length-take-le (t .count) (t .ids) ids-within)
+
+  pub ids-are : take (t .count) (t .ids) ≡ l
+  ids-are = ap (λ (x : TagIds). take (x .count) (x .ids)) e ∙ filled-front l
 
 -- up to 15 ids
 few-ids : (m : List ℕ) (n k : ℕ) → Gives m (many (tagId n) (k % 16)) (λ ids. length ids ≤ 15)

@@ -6,11 +6,11 @@ use mathlib.Core.Bool.{Bool, cond}
 use mathlib.Core.List.{List, [], _∷_, _++_}
 use lib.Dec.{leb}
 use lib.ListN.{length, take}
-use lib.Seq.{take-all, length-take-le}
+use lib.Seq.{take-all}
 use borrow.Author.Needs.{needs}
 use borrow.Author.Tests.{lt-ltb, le-leb, lt-leb}
 use Rattle.parsing.specs.Parse.{Res, ok, no, mapRes, none}
-use Rattle.parsing.specs.Good.{ok-val, ok-at, no-ok}
+use Rattle.parsing.specs.Good.{no-ok}
 use Rattle.error.specs.Refusals.{refused, shortBuffer}
 use Rattle.error.specs.declared.Refusal.{Refusal}
 use Rattle.arithmetic.specs.Cut.{cut}
@@ -23,6 +23,7 @@ use Rattle.types.specs.declared.End.{End}
 use Rattle.types.specs.declared.End.the-variants as end
 use Rattle.types.specs.declared.TagTable.{TagTable}
 use Rattle.tag_table.specs.Tables.{tableIn}
+use Rattle.tagged.specs.TagIds.{tagIds}
 use Rattle.poi.specs.Poi as poi
 use Rattle.poi.specs.Poi.{poiOf, PoiIs}
 use Rattle.poi.specs.declared.Poi.{Poi}
@@ -33,7 +34,7 @@ use Rattle.fetched.specs.declared.FetchedPoi.{FetchedPoi}
 use Rattle.fetched.proofs.FetchLaws.{is-refused, is-done}
 use Rattle.feature_texts.specs.FeatureTexts.{textsIn, writeTexts}
 use Rattle.feature_texts.specs.declared.TextParts.{TextParts}
-use Rattle.feature_texts.proofs.ShortLaws.{PointTexts, point-texts, none-stored, texts-short, count-in, ids-back}
+use Rattle.feature_texts.proofs.ShortLaws.{Known, known-by, PointTexts, point-texts, none-stored, texts-short, ids-within, ids-counted, ids-are}
 use Rattle.feature_tags.specs.FeatureTags.{textsOf}
 use Rattle.fetch_poi.specs.FetchPoi.{poiParts, poiWith, emptyPoi, poiStored, bufferOnly, PoiFetchIs, PoiWritten}
 use Rattle.fetch_poi.specs.declared.PoiFetch.{PoiFetch}
@@ -114,30 +115,23 @@ module _ (debug : Bool) (t : TagTable) (m : List ℕ) (at : ℕ) (g : PoiRead) (
       go (no n v) d = let i : refused {A = FetchedPoi} x ≡ no n v = cc in rw i
 
   module _ (n : ℕ) (h : g .end ≡ end.At n) where
-    record Known : Type 0 where
-      value : Point
-      same : stored ≡ ok value n
-      shown : g .poi ≡ poiOf value
-
-    known : Known
-    known = go stored refl (ap (endRes (g .poi)) (sym h) ∙ q .answer)
-      where
-        go : (r : Res Point) → stored ≡ r → ok (g .poi) n ≡ mapRes poiOf r → Known
-        go (ok s e) f d = record { value = s; same = f ∙ ap (ok s) (sym (ok-at d)); shown = ok-val d }
-        go (no k v) f d = no-ok (sym d)
+    known : Known poiOf (g .poi) n stored
+    known = known-by poiOf (g .poi) n stored (ap (endRes (g .poi)) (sym h) ∙ q .answer)
 
     facts : PointTexts m (known .value)
     facts = point-texts m debug (tagKinds (tableIn t) m) .holds at (known .value) n (known .same)
 
+    ids-told : g .poi .«tag_ids» ≡ tagIds (known .value .tagged .ids)
+    ids-told = ap (λ (x : Poi). x .«tag_ids») (known .shown)
+
     pub ids-in : g .poi .«tag_ids» .count ≤ length (g .poi .«tag_ids» .ids)
-    ids-in = rw (known .shown) (count-in (known .value .tagged .ids))
+    ids-in = ids-within (g .poi .«tag_ids») (known .value .tagged .ids) ids-told
 
     pub ids-sized : g .poi .«tag_ids» .count ≡ length (take (g .poi .«tag_ids» .count) (g .poi .«tag_ids» .ids))
-    ids-sized = sym (length-take-le (g .poi .«tag_ids» .count) (g .poi .«tag_ids» .ids) ids-in)
+    ids-sized = ids-counted (g .poi .«tag_ids») (known .value .tagged .ids) ids-told
 
     pub fetch-on : (b left : List ℕ) (r : PoiFetch) → PoiWritten t (g .poi) (take (g .poi .«tag_ids» .count) (g .poi .«tag_ids» .ids)) n m b r left → PoiFetchIs (poiStored debug t m at) b r left
     fetch-on b left r w =
-        let i : take (g .poi .«tag_ids» .count) (g .poi .«tag_ids» .ids) ≡ known .value .tagged .ids = ap (λ (x : Poi). take (x .«tag_ids» .count) (x .«tag_ids» .ids)) (known .shown) ∙ ids-back (known .value .tagged .ids) in
-        subst (λ (s : Res Point). PoiFetchIs (mapRes (fetchedPoint (walkedName (tableIn t) m)) s) b r left) (sym (known .same)) (w .each (known .value) (known .shown) i facts)
+        subst (λ (s : Res Point). PoiFetchIs (mapRes (fetchedPoint (walkedName (tableIn t) m)) s) b r left) (sym (known .same)) (w .each (known .value) (known .shown) (ids-are (g .poi .«tag_ids») (known .value .tagged .ids) ids-told) facts)
 
 pub ruleset fetches = (needs, fetch-no, ids-in, ids-sized, fetch-on)

@@ -7,7 +7,6 @@ use mathlib.Core.List.{List, map}
 use lib.Dec.{leb}
 use lib.Ieee.{Float}
 use lib.ListN.{length, take, length-map}
-use lib.Seq.{length-take-le}
 use borrow.Author.Needs.{needs}
 use borrow.Author.Tests.{leb-true, lt-ltb, le-leb}
 use Rattle.parsing.specs.Parse.{Res, ok, no, andThen, mapRes}
@@ -26,13 +25,14 @@ use Rattle.types.specs.declared.End.{End}
 use Rattle.types.specs.declared.End.the-variants as end
 use Rattle.types.specs.declared.TagTable.{TagTable}
 use Rattle.tag_table.specs.Tables.{tableIn}
+use Rattle.tagged.specs.TagIds.{tagIds}
 use Rattle.way.specs.Way.{bodyOf}
 use Rattle.way_data.specs.Reply as lists
 use Rattle.fetched.specs.Fetched.{walkedName, FetchLists, FetchReply, Fetched, fetchedWay, wayRecord, wayLists, fitsAll, writtenAll, neededAll, deliverAll}
 use Rattle.fetched.specs.declared.FetchedWay.{FetchedWay}
 use Rattle.fetched.proofs.FetchLaws.{is-refused, is-done}
 use Rattle.feature_texts.specs.FeatureTexts.{textsIn, writeTexts}
-use Rattle.feature_texts.proofs.ShortLaws.{head-few, count-in, ids-back}
+use Rattle.feature_texts.proofs.ShortLaws.{head-few, ids-within, ids-counted, ids-are}
 use Rattle.measured_way.specs.MeasuredWay.{wayStored, wayParts, Told, toldOf, toldWay, fitsIn, measured, emptyWay, Shown, shownOf, nothing, shown, MeasuredIs}
 use Rattle.measured_way.specs.declared.MeasuredWay.{MeasuredWay}
 use Rattle.measured_way.proofs.MeasureLaws.{bytes, texts-are, few-bytes, counts-length}
@@ -153,20 +153,20 @@ module _ (debug : Bool) (t : TagTable) (m : List ℕ) (at : ℕ) (c : List ℕ) 
         let z = blocks-are in
         omega arith
 
+    ids-told : g .way .«tag_ids» ≡ tagIds (s .tagged .ids)
+    ids-told = ap (λ (a : FetchedWay). a .«tag_ids») (known .way)
+
     pub ids-in : g .way .«tag_ids» .count ≤ length (g .way .«tag_ids» .ids)
-    ids-in = rw (known .way) (count-in (s .tagged .ids))
+    ids-in = ids-within (g .way .«tag_ids») (s .tagged .ids) ids-told
 
     pub ids-sized : g .way .«tag_ids» .count ≡ length (take (g .way .«tag_ids» .count) (g .way .«tag_ids» .ids))
-    ids-sized = sym (length-take-le (g .way .«tag_ids» .count) (g .way .«tag_ids» .ids) ids-in)
-
-    ids-are : take (g .way .«tag_ids» .count) (g .way .«tag_ids» .ids) ≡ s .tagged .ids
-    ids-are = ap (λ (a : FetchedWay). take (a .«tag_ids» .count) (a .«tag_ids» .ids)) (known .way) ∙ ids-back (s .tagged .ids)
+    ids-sized = ids-counted (g .way .«tag_ids») (s .tagged .ids) ids-told
 
     text-written : (bu′ : List ℕ) → bu′ ≡ writeTexts (textsIn (g .parts) m (take (g .way .«tag_ids» .count) (g .way .«tag_ids» .ids))) bu → bu′ ≡ front text bu
     text-written bu′ u =
         let y = leb-true (length text) (length bu) (and-second (p && i1 && i2) i3 (known .fits)) in
         u ∙ ap (λ a. writeTexts (textsIn a m (take (g .way .«tag_ids» .count) (g .way .«tag_ids» .ids))) bu) (known .parts)
-        ∙ ap (λ a. writeTexts (textsIn (wayParts (bodyOf d) t) m a) bu) ids-are
+        ∙ ap (λ a. writeTexts (textsIn (wayParts (bodyOf d) t) m a) bu) (ids-are (g .way .«tag_ids») (s .tagged .ids) ids-told)
         ∙ ap (λ a. writeTexts a bu) (texts-are t m s d (g .start) n few (known .body))
         ∙ rw (lt-ltb (length text) (2 ^ 64 - 1) (few-bytes t m s d (g .start) n few (known .body)), le-leb (length text) (length bu) y)
 

@@ -6,7 +6,7 @@ use mathlib.Core.Bool.{Bool, true, false, not, _&&_, cond}
 use mathlib.Core.List.{List}
 use lib.Dec.{leb, ltb}
 use lib.ListN.{length, take, length-map}
-use lib.Seq.{take-all, length-take-le}
+use lib.Seq.{take-all}
 use borrow.Author.Needs.{needs}
 use borrow.Author.Tests.{leb-true, leb-false, not-true, not-false, lt-ltb, le-ltb, le-leb, lt-leb}
 use Rattle.parsing.specs.Parse.{Res, ok, no, andThen, mapRes}
@@ -26,6 +26,7 @@ use Rattle.types.specs.declared.End.the-variants as end
 use Rattle.types.specs.declared.TagTable.{TagTable}
 use Rattle.types.proofs.BesideLaws.{beside-done, beside-no}
 use Rattle.tag_table.specs.Tables.{tableIn}
+use Rattle.tagged.specs.TagIds.{tagIds}
 use Rattle.way.specs.Way.{bodyOf, bodyRes, bodyRefusal}
 use Rattle.way.specs.declared.WayBody.{WayBody}
 use Rattle.way.specs.declared.WayBodyRead.{WayBodyRead}
@@ -39,7 +40,7 @@ use Rattle.fetched.specs.declared.FeatureTexts.{FeatureTexts}
 use Rattle.fetched.specs.declared.FetchedWay.{FetchedWay}
 use Rattle.feature_texts.specs.FeatureTexts.{textsIn}
 use Rattle.feature_texts.specs.declared.TextParts.{TextParts}
-use Rattle.feature_texts.proofs.ShortLaws.{WayTexts, body-texts, head-few, texts-short, count-in, ids-back}
+use Rattle.feature_texts.proofs.ShortLaws.{Known, known-by, WayTexts, body-texts, head-few, texts-short, ids-within, ids-counted, ids-are}
 use Rattle.feature_tags.specs.FeatureTags.{textsOf}
 use Rattle.measured_way.specs.MeasuredWay.{wayParts, Told, toldOf, toldWay, fitsIn, measured, wayWith, emptyWay, emptyParts, noWay, Shown, shownOf, nothing, shown, MeasuredIs, roomy, tooShort, WayTold, BodyMeasured}
 use Rattle.measured_way.specs.declared.MeasuredWay.{MeasuredWay}
@@ -222,27 +223,21 @@ module _ (debug : Bool) (t : TagTable) (room : Lengths) (m : List ℕ) (at : ℕ
       go (no n v) d = cc
 
   module _ (n : ℕ) (e : g .end ≡ end.At n) where
-    record Known : Type 0 where
-      value : Head
-      same : stored ≡ ok value n
-      shown : g .head ≡ headOf value
+    known : Known headOf (g .head) n stored
+    known = known-by headOf (g .head) n stored (ap (endRes (g .head)) (sym e) ∙ q .answer)
 
-    known : Known
-    known = go stored refl (ap (endRes (g .head)) (sym e) ∙ q .answer)
-      where
-        go : (r : Res Head) → stored ≡ r → ok (g .head) n ≡ mapRes headOf r → Known
-        go (ok s x) f d = record { value = s; same = f ∙ ap (ok s) (sym (ok-at d)); shown = ok-val d }
-        go (no k v) f d = no-ok (sym d)
+    ids-told : g .head .«tag_ids» ≡ tagIds (known .value .tagged .ids)
+    ids-told = ap (λ (x : WayHead). x .«tag_ids») (known .shown)
 
     pub ids-in : g .head .«tag_ids» .count ≤ length (g .head .«tag_ids» .ids)
-    ids-in = rw (known .shown) (count-in (known .value .tagged .ids))
+    ids-in = ids-within (g .head .«tag_ids») (known .value .tagged .ids) ids-told
 
     pub ids-sized : g .head .«tag_ids» .count ≡ length (take (g .head .«tag_ids» .count) (g .head .«tag_ids» .ids))
-    ids-sized = sym (length-take-le (g .head .«tag_ids» .count) (g .head .«tag_ids» .ids) ids-in)
+    ids-sized = ids-counted (g .head .«tag_ids») (known .value .tagged .ids) ids-told
 
     pub head-on : (r : MeasuredWay) → BodyMeasured t (g .head) (take (g .head .«tag_ids» .count) (g .head .«tag_ids» .ids)) n room m r → MeasuredIs debug t room m at r
     head-on r w =
-        let i : take (g .head .«tag_ids» .count) (g .head .«tag_ids» .ids) ≡ known .value .tagged .ids = ap (λ (x : WayHead). take (x .«tag_ids» .count) (x .«tag_ids» .ids)) (known .shown) ∙ ids-back (known .value .tagged .ids) in
+        let i = ids-are (g .head .«tag_ids») (known .value .tagged .ids) ids-told in
         let few = head-few m debug (tagKinds (tableIn t) m) .holds at (known .value) n (known .same) in
         let j = ap length i in
         subst (λ (s : Res Head). Beside shownOf nothing (measured room (andThen s (λ h e. mapRes (toldOf t m h e) (body m e)))) (shown r) (r .end)) (sym (known .same))
