@@ -30,7 +30,7 @@ compare/run [--rust FOLDER] COMMAND ARGS...
   streams-sample DIR  the same two files for the same tiles and maps: their streams in lines
   turns-sample DIR    the same two files for calls out of turn and lists that are too short, which the Rust does not have
   books-sample DIR    the same two files for lists of calls, whose answers are held to document 01's book
-  fetches-records FILE DIR, streams-records FILE DIR
+  fetches-records FILE DIR, streams-records FILE DIR, books-records FILE DIR
                       the same two files for all tiles of one map
   figures             checks document 01's worked figures; fails on a difference
   help                this text
@@ -73,6 +73,9 @@ fn run(arguments: &[&str]) -> io::Result<ExitCode> {
         }
         ["streams-records", file, folder] => {
             tiles::file::write(Path::new(file), Path::new(folder), Form::Streams)?;
+        }
+        ["books-records", file, folder] => {
+            tiles::file::write(Path::new(file), Path::new(folder), Form::Books)?;
         }
         ["figures"] => return Ok(checked(figures::check())),
         ["help"] => print!("{HELP}"),

@@ -34,6 +34,9 @@ pub fn write(file: &Path, folder: &Path, form: Form) -> io::Result<()> {
     let map = fs::read(file)?;
     let mut records = Records::default();
     add(&mut records, &map, grids(file));
+    if matches!(form, Form::Books) {
+        add_books(&mut records, &map, grids(file));
+    }
     records.write(folder, form)
 }
 
