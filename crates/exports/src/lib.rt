@@ -1,10 +1,33 @@
-// The data of a way for programs in other languages. A slice goes by its address and its length, an answer by its number.
+// The reader for programs in other languages; include/mapsforge.h declares these functions and says what each word is. A slice goes by its
+// address and its length, an array by its address alone. Each call answers 0, or the number of a refusal.
+use types::Grid;
+use types::TagTable;
+use utils::Degrees;
 use way_measure::WayDataRead;
 ghost use mathlib.Core.Path.{_≡_};
 ghost use Rattle.parsing.specs.Parse.{mapRes};
 ghost use Rattle.format.specs.WayData.{wayData};
 ghost use Rattle.way_measure.specs.Answers.{waySizes, wayDataRes};
 ghost use Rattle.way_data.specs.Reply.{readWayData};
+ghost use mathlib.Core.List.{[], _∷_};
+ghost use Rattle.parsing.specs.Parse.{nth};
+ghost use Rattle.format.specs.Header.{opened};
+ghost use Rattle.format.specs.Index.{subFileForZoom, tileCount, tileIndexOf, tileIndexEntry};
+ghost use Rattle.types.specs.Types.{intervalsOf, debugOf, gridOf};
+ghost use Rattle.text.specs.Writing.{outcome, writing};
+ghost use Rattle.column.specs.Column.{columnRes, longitudeRes, column as columnOf, longitude as longitudeOf};
+ghost use Rattle.index.specs.Answers.{countRes, indexRes, heldRes, entryRes};
+ghost use Rattle.header.specs.HeaderView.{HeaderIs};
+ghost use Rattle.visit.specs.Visit.{openTile, openRes};
+ghost use Rattle.way_data.specs.Reply.{lent};
+ghost use Rattle.fetch_way.specs.FetchWay.{lent as lentAll};
+ghost use Rattle.on_map.specs.OnMap.{onMap, asked, intervalRes, subFileRes};
+ghost use Rattle.wire.specs.Wire.{wire, Crosses};
+ghost use Rattle.wire.specs.Index.{countWire, indexWire, subFileWire, intervalWire, entryWire, tagWire, textWire, columnWire, longitudeWire};
+ghost use Rattle.wire.specs.Header.{headerWire, layoutIn};
+ghost use Rattle.feature_wire.specs.Streams.{streamIn, openedWire, nextWire, acceptWire, declineWire};
+ghost use Rattle.feature_wire.specs.Features.{tileWire, fetchWire};
+ghost use Rattle.exports.specs.Calls.{gridIn, tableOf, TagIs, NextOf, AcceptOf, DeclineOf, TileOf, FeatureOf};
 ghost use Rattle.exports.specs.Numbers.{numberIn, Numbered, Measured};
 
 // 0 for a result, and the refusal's number.
@@ -23,20 +46,20 @@ pub extern "C" fn mapsforge_measure_way_data(
     map: &[u8],
     at: usize,
     data_blocks: u64,
-    out: &mut [u64],
+    measured: &mut [u64],
 ) -> u64
-    ensures { λ r. ⌜ Measured (mapRes waySizes (wayData «data_blocks» (now (map .entry)) at)) (now (out .entry)) r (now (out .exit)) ⌝ }
+    ensures { λ r. ⌜ Measured (mapRes waySizes (wayData «data_blocks» (now (map .entry)) at)) (now (measured .entry)) r (now (measured .exit)) ⌝ }
 {
     let got = way_measure::measure_way_data(map, at, data_blocks);
     let WayDataRead::Value(s, end) = got else {
         return number_in(got);
     };
-    if out.len() < 3 {
+    if measured.len() < 3 {
         return 15;
     }
-    out[0] = s.blocks;
-    out[1] = s.nodes;
-    out[2] = end as u64;
+    measured[0] = s.blocks;
+    measured[1] = s.nodes;
+    measured[2] = end as u64;
     0
 }
 
@@ -46,21 +69,410 @@ pub extern "C" fn mapsforge_read_way_data(
     map: &[u8],
     at: usize,
     data_blocks: u64,
-    double: bool,
+    double_delta: bool,
     node_counts: &mut [u64],
     latitudes: &mut [f64],
     longitudes: &mut [f64],
 ) -> u64
-    ensures { λ r. ⌜ Numbered (readWayData double (wayData «data_blocks» (now (map .entry)) at) (now («node_counts» .entry)) (now (latitudes .entry)) (now (longitudes .entry))) r (now («node_counts» .exit)) (now (latitudes .exit)) (now (longitudes .exit)) ⌝ }
+    ensures { λ r. ⌜ Numbered (readWayData «double_delta» (wayData «data_blocks» (now (map .entry)) at) (now («node_counts» .entry)) (now (latitudes .entry)) (now (longitudes .entry))) r (now («node_counts» .exit)) (now (latitudes .exit)) (now (longitudes .exit)) ⌝ }
 {
     let got = way_data::read_way_data(
         map,
         at,
         data_blocks,
-        double,
+        double_delta,
         node_counts,
         latitudes,
         longitudes,
     );
     number_in(got)
+}
+
+// The header but for its intervals, in 34 words and six degrees, and what a stream needs of it, in five words.
+#[no_mangle]
+pub extern "C" fn mapsforge_open(
+    map: &[u8],
+    words: &mut [u64; 34],
+    degrees: &mut [f64; 6],
+    layout: &mut [u64; 5],
+) -> u64
+    ensures { λ r. ⌜ Crosses headerWire (HeaderIs (opened (now (map .entry)))) (wire r (now (words .exit) ∷ now (layout .exit) ∷ []) [] (now (degrees .exit))) ⌝ }
+{
+    let read = opening::from_source(map);
+    let end = read.end;
+    let header = read.header;
+    let row = wire::header_words(header, end);
+    *words = row;
+    let row = wire::header_degrees(header);
+    *degrees = row;
+    let row = wire::layout_words(tile_layout::layout_of(header));
+    *layout = row;
+    wire::end_number(end)
+}
+
+// The zoom interval of a sub file.
+#[no_mangle]
+pub extern "C" fn mapsforge_interval(map: &[u8], sub_file: usize, words: &mut [u64; 12]) -> u64
+    ensures { λ r. ⌜ Crosses intervalWire (λ a. intervalRes a ≡ asked (now (map .entry)) (λ h. nth (intervalsOf h) «sub_file»)) (wire r (now (words .exit) ∷ []) [] []) ⌝ }
+{
+    let got = on_map::interval(map, sub_file);
+    let row = wire::interval_words(got);
+    *words = row;
+    wire::interval_number(got)
+}
+
+// The first sub file whose interval has the zoom.
+#[no_mangle]
+pub extern "C" fn mapsforge_sub_file(map: &[u8], zoom: u8, words: &mut [u64; 8]) -> u64
+    ensures { λ r. ⌜ Crosses subFileWire (λ a. subFileRes a ≡ asked (now (map .entry)) (λ h. subFileForZoom (intervalsOf h) zoom)) (wire r (now (words .exit) ∷ []) [] []) ⌝ }
+{
+    let got = on_map::sub_file_for_zoom(map, zoom);
+    let row = wire::sub_file_words(got);
+    *words = row;
+    wire::sub_file_number(got)
+}
+
+// Where the text of tag k of a table stands, and the kind of its inline value.
+#[no_mangle]
+pub extern "C" fn mapsforge_tag(
+    map: &[u8],
+    start: usize,
+    count: usize,
+    k: usize,
+    words: &mut [u64; 10],
+) -> u64
+    ensures { λ r. ⌜ Crosses tagWire (TagIs (tableOf start count) k (now (map .entry))) (wire r (now (words .exit) ∷ []) [] []) ⌝ }
+{
+    let table = TagTable { start, count };
+    let kind = tag_kinds::tag_kind(map, table, k);
+    let got = tag_table::tag_text(map, table, k);
+    let row = wire::tag_words(got, kind);
+    *words = row;
+    wire::tag_number(got)
+}
+
+// A text with each ill-formed part replaced by U+FFFD, to the front of the buffer.
+#[no_mangle]
+pub extern "C" fn mapsforge_text(text: &[u8], buffer: &mut [u8], words: &mut [u64; 7]) -> u64
+    ensures { λ r. ⌜ Crosses textWire (λ a. outcome a (now (buffer .exit)) ≡ writing (now (text .entry)) (now (buffer .entry)) 0) (wire r (now (words .exit) ∷ []) [] []) ⌝ }
+{
+    let got = text::write_replaced(text, buffer, 0);
+    let row = wire::text_words(got);
+    *words = row;
+    wire::text_number(got)
+}
+
+// How many tiles a sub file has.
+#[no_mangle]
+pub extern "C" fn mapsforge_tile_count(
+    map: &[u8],
+    sub_file: usize,
+    x_min: i32,
+    y_min: i32,
+    x_max: i32,
+    y_max: i32,
+    words: &mut [u64; 8],
+) -> u64
+    ensures { λ r. ⌜ Crosses countWire (λ a. countRes a ≡ onMap (now (map .entry)) (λ h. tileCount (intervalsOf h) «sub_file» (gridOf (gridIn «x_min» «y_min» «x_max» «y_max»)))) (wire r (now (words .exit) ∷ []) [] []) ⌝ }
+{
+    let grid = Grid {
+        x_min,
+        y_min,
+        x_max,
+        y_max,
+    };
+    let got = on_map::tile_count(map, sub_file, grid);
+    let row = wire::count_words(got);
+    *words = row;
+    wire::count_number(got)
+}
+
+// The number of the tile x, y.
+#[no_mangle]
+pub extern "C" fn mapsforge_tile_index(
+    map: &[u8],
+    sub_file: usize,
+    x_min: i32,
+    y_min: i32,
+    x_max: i32,
+    y_max: i32,
+    x: i32,
+    y: i32,
+    words: &mut [u64; 8],
+) -> u64
+    ensures { λ r. ⌜ Crosses indexWire (λ a. indexRes a ≡ onMap (now (map .entry)) (λ h. tileIndexOf (intervalsOf h) «sub_file» (gridOf (gridIn «x_min» «y_min» «x_max» «y_max»)) x y)) (wire r (now (words .exit) ∷ []) [] []) ⌝ }
+{
+    let grid = Grid {
+        x_min,
+        y_min,
+        x_max,
+        y_max,
+    };
+    let got = on_map::tile_index_of(map, sub_file, grid, x, y);
+    let row = wire::index_words(got);
+    *words = row;
+    wire::index_number(got)
+}
+
+// A tile's entry in the index.
+#[no_mangle]
+pub extern "C" fn mapsforge_index_entry(
+    map: &[u8],
+    sub_file: usize,
+    x_min: i32,
+    y_min: i32,
+    x_max: i32,
+    y_max: i32,
+    tile: usize,
+    words: &mut [u64; 9],
+) -> u64
+    ensures { λ r. ⌜ Crosses entryWire (λ a. entryRes a ≡ onMap (now (map .entry)) (λ h. heldRes (tileIndexEntry (debugOf h) (intervalsOf h) «sub_file» (gridOf (gridIn «x_min» «y_min» «x_max» «y_max»)) tile (now (map .entry))))) (wire r (now (words .exit) ∷ []) [] []) ⌝ }
+{
+    let grid = Grid {
+        x_min,
+        y_min,
+        x_max,
+        y_max,
+    };
+    let got = on_map::tile_index_entry(map, sub_file, grid, tile);
+    let row = wire::entry_words(got);
+    *words = row;
+    wire::entry_number(got)
+}
+
+// The column that a longitude lies in.
+#[no_mangle]
+pub extern "C" fn mapsforge_column(
+    longitude: f64,
+    zoom: u8,
+    words: &mut [u64; 6],
+    column: &mut [i64; 1],
+) -> u64
+    ensures { λ r. ⌜ Crosses columnWire (λ a. columnRes a ≡ columnOf longitude zoom) (wire r (now (words .exit) ∷ []) (now (column .exit)) []) ⌝ }
+{
+    let got = column::tile_column(Degrees(longitude), zoom);
+    let row = wire::column_words(got);
+    *words = row;
+    let row = wire::column_signed(got);
+    *column = row;
+    wire::column_number(got)
+}
+
+// The longitude at which a column starts.
+#[no_mangle]
+pub extern "C" fn mapsforge_longitude(
+    column: u32,
+    zoom: u8,
+    words: &mut [u64; 6],
+    longitude: &mut [f64; 1],
+) -> u64
+    ensures { λ r. ⌜ Crosses longitudeWire (λ a. longitudeRes a ≡ longitudeOf column zoom) (wire r (now (words .exit) ∷ []) [] (now (longitude .exit))) ⌝ }
+{
+    let got = column::tilex2long(column, zoom);
+    let row = wire::longitude_words(got);
+    *words = row;
+    let row = wire::longitude_degrees(got);
+    *longitude = row;
+    wire::longitude_number(got)
+}
+
+// A stream of a tile: its state, in seven words.
+#[no_mangle]
+pub extern "C" fn mapsforge_stream_open(
+    map: &[u8],
+    sub_file: usize,
+    x_min: i32,
+    y_min: i32,
+    x_max: i32,
+    y_max: i32,
+    tile: usize,
+    zoom: u8,
+    state: &mut [u64; 7],
+    words: &mut [u64; 6],
+) -> u64
+    ensures { λ r. ⌜ Crosses (openedWire (now (state .entry))) (λ a. openRes a ≡ onMap (now (map .entry)) (λ h. openTile h «sub_file» (gridOf (gridIn «x_min» «y_min» «x_max» «y_max»)) tile zoom (now (map .entry)))) (wire r (now (words .exit) ∷ now (state .exit) ∷ []) [] []) ⌝ }
+{
+    let grid = Grid {
+        x_min,
+        y_min,
+        x_max,
+        y_max,
+    };
+    let got = on_map::open(map, sub_file, grid, tile, zoom);
+    let row = feature_wire::opened_state(got, *state);
+    *state = row;
+    let row = feature_wire::opened_words(got);
+    *words = row;
+    feature_wire::opened_number(got)
+}
+
+// The next point, the next way's head, or the end.
+#[no_mangle]
+pub extern "C" fn mapsforge_stream_next(
+    map: &[u8],
+    layout: &[u64; 5],
+    state: &mut [u64; 7],
+    words: &mut [u64; 21],
+    signed_words: &mut [i64; 2],
+    degrees: &mut [f64; 2],
+    ids: &mut [u64; 15],
+) -> u64
+    ensures { λ r. ⌜ Crosses nextWire (NextOf (now (map .entry)) (layoutIn (now (layout .entry))) (streamIn (now (state .entry)))) (wire r (now (words .exit) ∷ now (ids .exit) ∷ now (state .exit) ∷ []) (now («signed_words» .exit)) (now (degrees .exit))) ⌝ }
+{
+    let step = visit::next(
+        map,
+        wire::layout_in(*layout),
+        feature_wire::stream_in(*state),
+    );
+    let answer = step.answer;
+    let poi = step.poi;
+    let head = step.head;
+    let stream = step.stream;
+    let row = feature_wire::stream_words(stream);
+    *state = row;
+    let row = feature_wire::next_words(answer, poi, head);
+    *words = row;
+    let row = feature_wire::next_signed(answer, poi, head);
+    *signed_words = row;
+    let row = feature_wire::next_degrees(answer, poi);
+    *degrees = row;
+    let row = feature_wire::next_ids(answer, poi, head);
+    *ids = row;
+    feature_wire::next_number(answer)
+}
+
+// The waiting way's body; its node counts, latitudes and longitudes go to the fronts of the lists.
+#[no_mangle]
+pub extern "C" fn mapsforge_stream_accept(
+    map: &[u8],
+    state: &mut [u64; 7],
+    node_counts: &mut [u64],
+    latitudes: &mut [f64],
+    longitudes: &mut [f64],
+    words: &mut [u64; 18],
+    degrees: &mut [f64; 2],
+) -> u64
+    ensures { λ r. ⌜ Crosses acceptWire (AcceptOf (now (map .entry)) (streamIn (now (state .entry))) (lent (now («node_counts» .entry)) (now (latitudes .entry)) (now (longitudes .entry))) (lent (now («node_counts» .exit)) (now (latitudes .exit)) (now (longitudes .exit)))) (wire r (now (words .exit) ∷ now (state .exit) ∷ []) [] (now (degrees .exit))) ⌝ }
+{
+    let stream = feature_wire::stream_in(*state);
+    let step = visit::accept(map, stream, node_counts, latitudes, longitudes);
+    let answer = step.answer;
+    let stream = step.stream;
+    let row = feature_wire::stream_words(stream);
+    *state = row;
+    let row = feature_wire::accept_words(answer);
+    *words = row;
+    let row = feature_wire::accept_degrees(answer);
+    *degrees = row;
+    feature_wire::accept_number(answer)
+}
+
+// Past the waiting way, by its stored size.
+#[no_mangle]
+pub extern "C" fn mapsforge_stream_decline(state: &mut [u64; 7], words: &mut [u64; 6]) -> u64
+    ensures { λ r. ⌜ Crosses declineWire (DeclineOf (streamIn (now (state .entry)))) (wire r (now (words .exit) ∷ now (state .exit) ∷ []) [] []) ⌝ }
+{
+    let step = visit::decline(feature_wire::stream_in(*state));
+    let answer = step.answer;
+    let stream = step.stream;
+    let row = feature_wire::stream_words(stream);
+    *state = row;
+    let row = feature_wire::decline_words(answer);
+    *words = row;
+    feature_wire::decline_number(answer)
+}
+
+// A collected tile, and its zoom table in two lists.
+#[no_mangle]
+pub extern "C" fn mapsforge_collect(
+    map: &[u8],
+    sub_file: usize,
+    x_min: i32,
+    y_min: i32,
+    x_max: i32,
+    y_max: i32,
+    tile: usize,
+    words: &mut [u64; 14],
+    points: &mut [u64; 256],
+    ways: &mut [u64; 256],
+) -> u64
+    ensures { λ r. ⌜ Crosses tileWire (TileOf (now (map .entry)) «sub_file» tile (gridIn «x_min» «y_min» «x_max» «y_max»)) (wire r (now (words .exit) ∷ now (points .exit) ∷ now (ways .exit) ∷ []) [] []) ⌝ }
+{
+    let grid = Grid {
+        x_min,
+        y_min,
+        x_max,
+        y_max,
+    };
+    let read = on_map::read_tile(map, sub_file, grid, tile);
+    let answer = read.answer;
+    let whole = read.tile;
+    let row = feature_wire::tile_words(answer, whole);
+    *words = row;
+    let table = whole.zoom_table;
+    let row = feature_wire::row_points(table);
+    *points = row;
+    let row = feature_wire::row_ways(table);
+    *ways = row;
+    feature_wire::tile_number(answer)
+}
+
+// Feature k of a collected tile: points from 0, ways behind them.
+#[no_mangle]
+pub extern "C" fn mapsforge_fetch(
+    map: &[u8],
+    sub_file: usize,
+    x_min: i32,
+    y_min: i32,
+    x_max: i32,
+    y_max: i32,
+    tile: usize,
+    feature: u64,
+    node_counts: &mut [u64],
+    latitudes: &mut [f64],
+    longitudes: &mut [f64],
+    initial_latitudes: &mut [f64],
+    initial_longitudes: &mut [f64],
+    buffer: &mut [u8],
+    words: &mut [u64; 35],
+    signed_words: &mut [i64; 2],
+    degrees: &mut [f64; 2],
+    ids: &mut [u64; 15],
+    tags: &mut [u64; 75],
+) -> u64
+    ensures { λ r. ⌜ Crosses fetchWire (FeatureOf (now (map .entry)) «sub_file» tile feature (lentAll (now («node_counts» .entry)) (now (latitudes .entry)) (now (longitudes .entry)) (now («initial_latitudes» .entry)) (now («initial_longitudes» .entry)) (now (buffer .entry))) (lentAll (now («node_counts» .exit)) (now (latitudes .exit)) (now (longitudes .exit)) (now («initial_latitudes» .exit)) (now («initial_longitudes» .exit)) (now (buffer .exit))) (gridIn «x_min» «y_min» «x_max» «y_max»)) (wire r (now (words .exit) ∷ now (ids .exit) ∷ now (tags .exit) ∷ []) (now («signed_words» .exit)) (now (degrees .exit))) ⌝ }
+{
+    let grid = Grid {
+        x_min,
+        y_min,
+        x_max,
+        y_max,
+    };
+    let fetch = on_map::fetch_feature(
+        map,
+        sub_file,
+        grid,
+        tile,
+        feature,
+        node_counts,
+        latitudes,
+        longitudes,
+        initial_latitudes,
+        initial_longitudes,
+        buffer,
+    );
+    let answer = fetch.answer;
+    let poi = fetch.poi;
+    let way = fetch.way;
+    let row = feature_wire::fetch_words(answer, poi, way);
+    *words = row;
+    let row = feature_wire::fetch_signed(answer, poi, way);
+    *signed_words = row;
+    let row = feature_wire::fetch_degrees(answer, poi, way);
+    *degrees = row;
+    let row = feature_wire::fetch_ids(answer, poi, way);
+    *ids = row;
+    let row = feature_wire::fetch_tags(answer, poi, way);
+    *tags = row;
+    feature_wire::fetch_number(answer)
 }

@@ -61,7 +61,7 @@ fn of_way(got: WayFetch) -> Fetch
     }
 }
 
-fn no_fetch(refusal: Refusal) -> Fetch
+pub fn no_fetch(refusal: Refusal) -> Fetch
     ensures { λ r. ⌜ r ≡ noFetch refusal ⌝ }
 {
     Fetch {

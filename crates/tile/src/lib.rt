@@ -43,7 +43,7 @@ pub struct TileRead {
     pub answer: TileAnswer,
 }
 
-fn refused_tile(refusal: Refusal) -> TileRead
+pub fn refused_tile(refusal: Refusal) -> TileRead
     ensures { λ r. ⌜ (r .tile ≡ emptyTile) × (r .answer ≡ TileAnswer.Refused refusal) ⌝ }
 {
     let empty = ZoomRow { points: 0, ways: 0 };

@@ -1,0 +1,16 @@
+use borrow.Author.Needs.{needs}
+use Rattle.exports.specs.Calls.{TileOf}
+use Rattle.exports.proofs.CallLaws.{tile-crosses}
+use Rattle.exports.proofs.mapsforge_collect.Statement.{statement}
+use Rattle.exports.proofs.mapsforge_collect.Tie as tie
+
+pub mapsforge-collect-spec : {M : Type 1} → statement M
+mapsforge-collect-spec =
+    tie.close
+    (tie.spec
+    (λ c κs. search needs)
+    (λ c κs. search needs)
+    (λ c κs. search needs)
+    (λ c κs. search needs)
+    (λ c κs. search needs)
+    (λ c. tile-crosses _ _ _ _ (c .before .before .before .before .before .before .before .before .fits .x-min) (c .before .before .before .before .before .before .before .before .fits .y-min) (c .before .before .before .before .before .before .before .before .fits .x-max) (c .before .before .before .before .before .before .before .before .fits .y-max) (TileOf _ _ _) _ _ _ _ _ (c .before .before .before .before .before .before .read-tile .ensures) (c .tile-number .ensures) (c .before .before .before .before .tile-words .ensures) (c .before .before .row-points .ensures) (c .before .row-ways .ensures)))

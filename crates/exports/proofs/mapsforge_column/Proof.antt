@@ -1,0 +1,15 @@
+use borrow.Author.Needs.{needs}
+use Rattle.wire.specs.Index.{columnNumber, columnWords, columnSigned}
+use Rattle.exports.proofs.CallLaws.{crosses-signed}
+use Rattle.exports.proofs.mapsforge_column.Statement.{statement}
+use Rattle.exports.proofs.mapsforge_column.Tie as tie
+
+pub mapsforge-column-spec : {M : Type 1} → statement M
+mapsforge-column-spec =
+    tie.close
+    (tie.spec
+    (λ c κs. search needs)
+    (λ c κs. search needs)
+    (λ c κs. search needs)
+    (λ c κs. search needs)
+    (λ c. search (needs, crosses-signed columnNumber columnWords columnSigned, c .before .before .before .tile-column .ensures, c .before .before .column-words .ensures, c .before .column-signed .ensures, c .column-number .ensures)))

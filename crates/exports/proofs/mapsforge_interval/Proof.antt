@@ -1,0 +1,14 @@
+use borrow.Author.Needs.{needs}
+use Rattle.wire.specs.Index.{intervalNumber, intervalWords}
+use Rattle.exports.proofs.CallLaws.{crosses}
+use Rattle.exports.proofs.mapsforge_interval.Statement.{statement}
+use Rattle.exports.proofs.mapsforge_interval.Tie as tie
+
+pub mapsforge-interval-spec : {M : Type 1} → statement M
+mapsforge-interval-spec =
+    tie.close
+    (tie.spec
+    (λ c κs. search needs)
+    (λ c κs. search needs)
+    (λ c κs. search needs)
+    (λ c. search (needs, crosses intervalNumber intervalWords, c .before .before .interval .ensures, c .before .interval-words .ensures, c .interval-number .ensures)))

@@ -1,0 +1,16 @@
+use borrow.Author.Needs.{needs}
+use Rattle.exports.proofs.CallLaws.{header-crosses}
+use Rattle.exports.proofs.mapsforge_open.Statement.{statement}
+use Rattle.exports.proofs.mapsforge_open.Tie as tie
+
+pub mapsforge-open-spec : {M : Type 1} → statement M
+mapsforge-open-spec =
+    tie.close
+    (tie.spec
+    (λ c κs. search needs)
+    (λ c κs. search needs)
+    (λ c κs. search needs)
+    (λ c κs. search needs)
+    (λ c κs. search needs)
+    (λ c κs. search needs)
+    (λ c. search (needs, header-crosses, c .before .before .before .before .before .before .from-source .ensures, c .before .before .before .before .header-words .ensures, c .before .before .before .header-degrees .ensures, c .before .before .layout-of .ensures, c .before .layout-words .ensures, c .end-number .ensures)))

@@ -1,0 +1,15 @@
+use borrow.Author.Needs.{needs}
+use Rattle.exports.proofs.CallLaws.{decline-crosses}
+use Rattle.exports.proofs.mapsforge_stream_decline.Statement.{statement}
+use Rattle.exports.proofs.mapsforge_stream_decline.Tie as tie
+
+pub mapsforge-stream-decline-spec : {M : Type 1} → statement M
+mapsforge-stream-decline-spec =
+    tie.close
+    (tie.spec
+    (λ c κs. search needs)
+    (λ c κs. search needs)
+    (λ c κs. search needs)
+    (λ c κs. search needs)
+    (λ c κs. search needs)
+    (λ c. search (needs, decline-crosses, c .before .before .before .before .before .stream-in .ensures, c .before .before .before .before .decline .ensures, c .before .before .stream-words .ensures, c .before .decline-words .ensures, c .decline-number .ensures)))

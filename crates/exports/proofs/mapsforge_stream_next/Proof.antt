@@ -1,0 +1,19 @@
+use borrow.Author.Needs.{needs}
+use Rattle.exports.proofs.CallLaws.{next-crosses}
+use Rattle.exports.proofs.mapsforge_stream_next.Statement.{statement}
+use Rattle.exports.proofs.mapsforge_stream_next.Tie as tie
+
+pub mapsforge-stream-next-spec : {M : Type 1} → statement M
+mapsforge-stream-next-spec =
+    tie.close
+    (tie.spec
+    (λ c κs. search needs)
+    (λ c κs. search needs)
+    (λ c κs. search needs)
+    (λ c κs. search needs)
+    (λ c κs. search needs)
+    (λ c κs. search needs)
+    (λ c κs. search needs)
+    (λ c κs. search needs)
+    (λ c κs. search needs)
+    (λ c. search (needs, next-crosses, c .before .before .before .before .before .before .before .before .before .before .before .before .layout-in .ensures, c .before .before .before .before .before .before .before .before .before .before .stream-in .ensures, c .before .before .before .before .before .before .before .before .before .next .ensures, c .before .before .before .before .before .stream-words .ensures, c .before .before .before .before .next-words .ensures, c .before .before .before .next-signed .ensures, c .before .before .next-degrees .ensures, c .before .next-ids .ensures, c .next-number .ensures)))

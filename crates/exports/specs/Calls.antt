@@ -1,0 +1,57 @@
+-- What the inner functions answer, by the arguments of the exported ones.
+use Prim.Native.Nat.{ℕ}
+use lib.IntN.{ℤ}
+use mathlib.Core.Path.{_≡_}
+use mathlib.Core.List.{List}
+use Rattle.byte_source.specs.Answers.{spanRes}
+use Rattle.format.specs.Kinds.{tagKind}
+use Rattle.format.specs.Lent.{LentLists}
+use Rattle.format.specs.TagTable.{tagText}
+use Rattle.types.specs.declared.Grid.{Grid}
+use Rattle.types.specs.declared.TagTable.{TagTable}
+use Rattle.tag_table.specs.Tables.{tableIn}
+use Rattle.agreement.specs.Calls.{next, accept, decline}
+use Rattle.agreement.specs.Stream.{stream}
+use Rattle.tile_layout.specs.TileLayout.{formatOf}
+use Rattle.tile_layout.specs.declared.TileLayout.{TileLayout}
+use Rattle.visit.specs.Visit.{stateOf, shownStep, NextIs, acceptStep, declineStep}
+use Rattle.visit.specs.declared.Stream.{Stream}
+use Rattle.visit.specs.declared.NextStep.{NextStep}
+use Rattle.visit.specs.declared.Accepted.{Accepted}
+use Rattle.visit.specs.declared.Declined.{Declined}
+use Rattle.types.specs.Types.{gridOf}
+use Rattle.tile.specs.Tile.{collectTile, TileIs}
+use Rattle.tile.specs.declared.TileRead.{TileRead}
+use Rattle.fetched.specs.Fetched.{FetchLists}
+use Rattle.fetch.specs.Fetch.{fetchTile, FeatureIs}
+use Rattle.fetch.specs.declared.Fetch.{Fetch}
+use Rattle.on_map.specs.OnMap.{onMap}
+use Rattle.wire.specs.Index.{Named}
+
+abbrev pub gridIn : (xMin yMin xMax yMax : ℤ) → Grid
+gridIn a b c d = record { «x_min» = a; «y_min» = b; «x_max» = c; «y_max» = d }
+
+abbrev pub tableOf : (start count : ℕ) → TagTable
+tableOf s n = record { start = s; count = n }
+
+-- tag k of a table: its text, and the kind of its inline value
+pub record TagIs (t : TagTable) (k : ℕ) (m : List ℕ) (a : Named) : Type 0 where
+  pub text : spanRes m (a .text) ≡ tagText (tableIn t) k m
+  pub kind : a .kind ≡ tagKind (tableIn t) k m
+
+-- a stream's calls: the machine of crate agreement, in a tile with any number of rows
+pub record NextOf (m : List ℕ) (l : TileLayout) (s : Stream) (a : NextStep) : Type 0 where
+  pub each : (rows : ℕ) → NextIs (shownStep (stream (formatOf l rows m) m (stateOf s) next)) a
+
+pub record AcceptOf (m : List ℕ) (s : Stream) (lent left : LentLists) (a : Accepted) : Type 0 where
+  pub each : (l : TileLayout) (rows : ℕ) → acceptStep a (left .counts) (left .latitudes) (left .longitudes) ≡ shownStep (stream (formatOf l rows m) m (stateOf s) (accept lent))
+
+pub record DeclineOf (s : Stream) (a : Declined) : Type 0 where
+  pub each : (l : TileLayout) (rows : ℕ) (m : List ℕ) → declineStep a ≡ shownStep (stream (formatOf l rows m) m (stateOf s) decline)
+
+-- a tile, and a feature of it, by a grid
+abbrev pub TileOf : (m : List ℕ) → (subFile number : ℕ) → Grid → TileRead → Type 0
+TileOf m s t g a = TileIs (onMap m (λ h. collectTile h s (gridOf g) t m)) a
+
+abbrev pub FeatureOf : (m : List ℕ) → (subFile number k : ℕ) → (lent left : FetchLists) → Grid → Fetch → Type 0
+FeatureOf m s t k lent left g a = FeatureIs (onMap m (λ h. fetchTile h s (gridOf g) t k m)) lent a left

@@ -1,0 +1,19 @@
+use Rattle.feature_wire.specs.Features.{fetchWords}
+use Rattle.feature_wire.proofs.WireLaws.{made, by-case3}
+use Rattle.feature_wire.proofs.fetch_words.Statement.{statement}
+use Rattle.feature_wire.proofs.fetch_words.Tie as tie
+
+pub fetch-words-spec : {M : Type 1} → statement M
+fetch-words-spec =
+    tie.close
+    (tie.spec
+    (λ c. search (made, by-case3 fetchWords))
+    (λ c κs. search (made, by-case3 fetchWords))
+    (λ c. search (made, by-case3 fetchWords))
+    (λ c κs. search (made, by-case3 fetchWords))
+    (λ c. search (made, by-case3 fetchWords))
+    (λ c κs. search (made, by-case3 fetchWords))
+    (λ c κs. search (made, by-case3 fetchWords))
+    (λ c. search (made, by-case3 fetchWords))
+    (λ c. search (made, by-case3 fetchWords))
+    (λ c. search (made, by-case3 fetchWords)))

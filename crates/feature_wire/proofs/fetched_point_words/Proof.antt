@@ -1,0 +1,14 @@
+use Rattle.feature_wire.proofs.WireLaws.{made}
+use Rattle.feature_wire.proofs.fetched_point_words.Statement.{statement}
+use Rattle.feature_wire.proofs.fetched_point_words.Tie as tie
+
+pub fetched-point-words-spec : {M : Type 1} → statement M
+fetched-point-words-spec =
+    tie.close
+    (tie.spec
+    (λ c κs. search made)
+    (λ c κs. search made)
+    (λ c κs. search made)
+    (λ c κs. search made)
+    (λ c κs. search made)
+    (λ c. search made))

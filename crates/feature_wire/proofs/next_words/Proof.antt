@@ -1,0 +1,22 @@
+use Rattle.feature_wire.specs.Streams.{nextWords}
+use Rattle.feature_wire.proofs.WireLaws.{made, by-case3}
+use Rattle.feature_wire.proofs.next_words.Statement.{statement}
+use Rattle.feature_wire.proofs.next_words.Tie as tie
+
+pub next-words-spec : {M : Type 1} → statement M
+next-words-spec =
+    tie.close
+    (tie.spec
+    (λ c. search (made, by-case3 nextWords))
+    (λ c κs. search (made, by-case3 nextWords))
+    (λ c. search (made, by-case3 nextWords))
+    (λ c κs. search (made, by-case3 nextWords))
+    (λ c. search (made, by-case3 nextWords))
+    (λ c κs. search (made, by-case3 nextWords))
+    (λ c. search (made, by-case3 nextWords))
+    (λ c κs. search (made, by-case3 nextWords))
+    (λ c κs. search (made, by-case3 nextWords))
+    (λ c. search (made, by-case3 nextWords))
+    (λ c. search (made, by-case3 nextWords))
+    (λ c. search (made, by-case3 nextWords))
+    (λ c. search (made, by-case3 nextWords)))

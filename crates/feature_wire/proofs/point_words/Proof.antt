@@ -1,0 +1,13 @@
+use Rattle.feature_wire.proofs.WireLaws.{made}
+use Rattle.feature_wire.proofs.point_words.Statement.{statement}
+use Rattle.feature_wire.proofs.point_words.Tie as tie
+
+pub point-words-spec : {M : Type 1} → statement M
+point-words-spec =
+    tie.close
+    (tie.spec
+    (λ c κs. search made)
+    (λ c κs. search made)
+    (λ c κs. search made)
+    (λ c κs. search made)
+    (λ c. search made))

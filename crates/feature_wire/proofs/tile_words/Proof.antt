@@ -1,0 +1,12 @@
+use Rattle.feature_wire.proofs.WireLaws.{made}
+use Rattle.feature_wire.proofs.tile_words.Statement.{statement}
+use Rattle.feature_wire.proofs.tile_words.Tie as tie
+
+pub tile-words-spec : {M : Type 1} → statement M
+tile-words-spec =
+    tie.close
+    (tie.spec
+    (λ c κs. search made)
+    (λ c κs. search made)
+    (λ c κs. search made)
+    (λ c. search made))

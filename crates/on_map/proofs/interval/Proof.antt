@@ -1,0 +1,18 @@
+use Rattle.on_map.proofs.OnMapLaws.{calls}
+use Rattle.on_map.proofs.interval.Statement.{statement}
+use Rattle.on_map.proofs.interval.Tie as tie
+
+pub interval-spec : {M : Type 1} → statement M
+interval-spec =
+    tie.close
+    (tie.spec
+    (λ c κs. search calls)
+    (λ c. search calls)
+    (λ c. search calls)
+    (λ c κs. search calls)
+    (λ c. search calls)
+    (λ c κs. search calls)
+    (λ c. search calls)
+    (λ c. search calls)
+    (λ c. search calls)
+    (λ c. search calls))

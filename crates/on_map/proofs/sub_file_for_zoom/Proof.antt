@@ -1,0 +1,18 @@
+use Rattle.on_map.proofs.OnMapLaws.{calls}
+use Rattle.on_map.proofs.sub_file_for_zoom.Statement.{statement}
+use Rattle.on_map.proofs.sub_file_for_zoom.Tie as tie
+
+pub sub-file-for-zoom-spec : {M : Type 1} → statement M
+sub-file-for-zoom-spec =
+    tie.close
+    (tie.spec
+    (λ c κs. search calls)
+    (λ c. search calls)
+    (λ c. search calls)
+    (λ c κs. search calls)
+    (λ c. search calls)
+    (λ c κs. search calls)
+    (λ c. search calls)
+    (λ c. search calls)
+    (λ c. search calls)
+    (λ c. search calls))

@@ -1,0 +1,22 @@
+use borrow.Author.Needs.{needs}
+use Rattle.wire.specs.Index.{indexWords}
+use Rattle.wire.proofs.CaseLaws.{found-by, by-case}
+use Rattle.wire.proofs.index_words.Statement.{statement}
+use Rattle.wire.proofs.index_words.Tie as tie
+
+pub index-words-spec : {M : Type 1} → statement M
+index-words-spec =
+    tie.close
+    (tie.spec
+    (λ c. search (needs, found-by, by-case indexWords))
+    (λ c κs. search (needs, found-by, by-case indexWords))
+    (λ c κs. search (needs, found-by, by-case indexWords))
+    (λ c. search (needs, found-by, by-case indexWords))
+    (λ c κs. search (needs, found-by, by-case indexWords))
+    (λ c κs. search (needs, found-by, by-case indexWords))
+    (λ c. search (needs, found-by, by-case indexWords))
+    (λ c κs. search (needs, found-by, by-case indexWords))
+    (λ c κs. search (needs, found-by, by-case indexWords))
+    (λ c. search (needs, found-by, by-case indexWords))
+    (λ c. search (needs, found-by, by-case indexWords))
+    (λ c. search (needs, found-by, by-case indexWords)))

@@ -1,0 +1,20 @@
+use borrow.Author.Needs.{needs}
+use Rattle.wire.specs.Index.{intervalWords}
+use Rattle.wire.proofs.CaseLaws.{values-behind, by-case}
+use Rattle.wire.proofs.interval_words.Statement.{statement}
+use Rattle.wire.proofs.interval_words.Tie as tie
+
+pub interval-words-spec : {M : Type 1} → statement M
+interval-words-spec =
+    tie.close
+    (tie.spec
+    (λ c. search (needs, values-behind, by-case intervalWords))
+    (λ c. search (needs, values-behind, by-case intervalWords))
+    (λ c. search (needs, values-behind, by-case intervalWords))
+    (λ c. search (needs, values-behind, by-case intervalWords))
+    (λ c. search (needs, values-behind, by-case intervalWords))
+    (λ c. search (needs, values-behind, by-case intervalWords))
+    (λ c κs. search (needs, values-behind, by-case intervalWords))
+    (λ c. search (needs, values-behind, by-case intervalWords))
+    (λ c. search (needs, values-behind, by-case intervalWords))
+    (λ c. search (needs, values-behind, by-case intervalWords)))

@@ -1,0 +1,4 @@
+pub mod Wire
+pub mod Verdicts
+pub mod Index
+pub mod Header
