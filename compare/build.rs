@@ -7,7 +7,7 @@ use std::{env, fs, process};
 const MODULES: [&str; 11] =
     ["error", "io", "utils", "tag", "types", "math", "header", "blocks", "poi", "way", "visit"];
 
-const DEFAULT_FOLDER: &str = "../../shared/docs/src";
+const DEFAULT_FOLDER: &str = "mapsforge-rs";
 
 const TOTAL_TILES: &str =
     "    pub fn calculate_total_tiles(bounding_box: &BoundingBox, zoom: u8) -> u32 {\n";

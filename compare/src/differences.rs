@@ -11,6 +11,8 @@ use mapsforge_rs::grid::Grid;
 use crate::answer::Answer;
 
 pub use header::{header, Header};
+#[cfg(feature = "both")]
+pub use header::{header_parts, HeaderParts};
 
 /// The most bytes that a number has.
 const NUMBER_BYTES: usize = 9;

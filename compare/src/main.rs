@@ -1,4 +1,5 @@
-//! Prints the answers of the Rust map reader, for the runs that hold the port against it.
+//! Prints the answers of the Rust map reader, for the runs that hold the port against it, or compares the two
+//! in one process.
 
 mod answer;
 mod differences;
@@ -7,6 +8,8 @@ mod leaves;
 mod maps;
 mod random;
 mod records;
+#[cfg(feature = "both")]
+mod scale;
 mod source;
 mod tiles;
 
@@ -32,10 +35,19 @@ compare/run [--rust FOLDER] COMMAND ARGS...
   books-sample DIR    the same two files for lists of calls, whose answers are held to document 01's book
   fetches-records FILE DIR, streams-records FILE DIR, books-records FILE DIR
                       the same two files for all tiles of one map
+  scale [--cases N] [--seed S] [--threads T] [--quick] [--only K] [MAP...]
+                      our library and the Rust in one process: crafted maps, those of maps/ and the maps named, first whole
+                      and undamaged, then N damaged copies; every answer, word and lent entry; fails on a difference.
+                      --quick is a fixed run of less than a minute, --only looks at case K alone
+  book [--cases N] [MAP...]
+                      our library's stream against document 01's book, on all tiles of the same maps; at least N long lists
   figures             checks document 01's worked figures; fails on a difference
   help                this text
 
-FOLDER holds the Rust: error.rs, io.rs and so on. By default it is ../shared/docs/src of the repository.
+scale and book link target/staticlib/libexports.a, which `rt staticlib exports` builds first, or that of the folder
+MAPSFORGE_LIB names.
+
+FOLDER holds the Rust: error.rs, io.rs and so on. By default it is compare/mapsforge-rs.
 ";
 
 fn main() -> ExitCode {
@@ -77,14 +89,24 @@ fn run(arguments: &[&str]) -> io::Result<ExitCode> {
         ["books-records", file, folder] => {
             tiles::file::write(Path::new(file), Path::new(folder), Form::Books)?;
         }
+        #[cfg(feature = "both")]
+        ["scale", rest @ ..] => {
+            return Ok(scale::run(rest)?.unwrap_or_else(misused));
+        }
+        #[cfg(feature = "both")]
+        ["book", rest @ ..] => {
+            return Ok(scale::run_book(rest)?.unwrap_or_else(misused));
+        }
         ["figures"] => return Ok(checked(figures::check())),
         ["help"] => print!("{HELP}"),
-        _ => {
-            eprint!("{HELP}");
-            return Ok(ExitCode::from(2));
-        }
+        _ => return Ok(misused()),
     }
     Ok(ExitCode::SUCCESS)
+}
+
+fn misused() -> ExitCode {
+    eprint!("{HELP}");
+    ExitCode::from(2)
 }
 
 fn checked(good: bool) -> ExitCode {

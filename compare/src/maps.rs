@@ -4,7 +4,7 @@
 pub mod calls;
 mod column;
 pub mod file;
-mod index;
+pub mod index;
 pub mod open;
 pub mod sample;
 pub mod writer;

@@ -2,12 +2,12 @@
 //! of the last `M`.
 
 mod books;
-mod calls;
+pub mod calls;
 pub mod feature;
-mod fetched;
+pub mod fetched;
 pub mod file;
 mod lines;
-mod rust;
+pub mod rust;
 pub mod sample;
 mod streams;
 pub mod tally;
@@ -37,7 +37,7 @@ pub struct Address {
 
 impl Address {
     /// Reads it from an operation's input, and lends the grid to the Rust.
-    fn from(input: &mut Source) -> Self {
+    pub fn from(input: &mut Source) -> Self {
         let sub_file = given(input.read_u64_be());
         let [x_min, y_min, x_max, y_max] = [(); 4].map(|()| given(input.read_i32_be()));
         let grid = Grid { x_min, y_min, x_max, y_max };
@@ -189,7 +189,7 @@ fn streamed(
     policy: Policy,
 ) -> (Tally, Option<Parting>) {
     let mut tally = Tally::new(policy);
-    let Port { answer, parting } = Opened::of(file).stream(address, zoom, &mut tally);
+    let Port { answer, parting, .. } = Opened::of(file).stream(address, zoom, &mut tally);
     if let Some(parting) = &parting {
         check_before(file, address, (zoom, policy), parting, &tally);
     }

@@ -1,5 +1,7 @@
 //! Headers with a text whose length `read_vbe_u` cannot hold.
 
+use std::ops::Range;
+
 use super::{number, text, unsigned, Text, TEXT_LIMIT};
 use crate::answer::Answer;
 
@@ -24,9 +26,9 @@ pub struct Header {
 /// "`read_vbe_u` keeps 32 bits, so length 80 80 80 80 10 becomes 0; here it is 9." None if no text
 /// that the header is read up to has such a length.
 pub fn header(map: &[u8]) -> Option<Header> {
-    let mut walk = Walk { left: map, plain: Vec::new(), refusal: None, padded: false };
+    let mut walk = Walk::of(map);
     walk.header();
-    let Walk { left, mut plain, refusal, padded } = walk;
+    let Walk { left, mut plain, refusal, padded, .. } = walk;
     match refusal {
         None if !padded => return None,
         None => plain.extend(left),
@@ -35,15 +37,48 @@ pub fn header(map: &[u8]) -> Option<Header> {
     Some(Header { plain, refusal })
 }
 
+/// Where the parts of a header stand that can be read.
+#[cfg(feature = "both")]
+pub struct HeaderParts {
+    /// Projection, language, comment, created by, and all tags, as far as they are there.
+    pub texts: Vec<Range<usize>>,
+    /// The places of the points' and the ways' first tag.
+    pub tables: [usize; 2],
+    /// The place of the number of intervals.
+    pub intervals: usize,
+}
+
+#[cfg(feature = "both")]
+pub fn header_parts(map: &[u8]) -> Option<HeaderParts> {
+    let mut walk = Walk::of(map);
+    walk.header()?;
+    let [.., points, ways] = walk.tables[..] else { return None };
+    let intervals = walk.at();
+    Some(HeaderParts { texts: walk.texts, tables: [points, ways], intervals })
+}
+
 /// The way through a header as far as its texts go, whether or not its other fields are good.
 struct Walk<'a> {
     left: &'a [u8],
     plain: Vec<u8>,
     refusal: Option<Answer>,
     padded: bool,
+    length: usize,
+    texts: Vec<Range<usize>>,
+    tables: Vec<usize>,
 }
 
 impl<'a> Walk<'a> {
+    fn of(map: &'a [u8]) -> Self {
+        let (plain, texts, tables) = (Vec::new(), Vec::new(), Vec::new());
+        let length = map.len();
+        Walk { left: map, plain, refusal: None, padded: false, length, texts, tables }
+    }
+
+    fn at(&self) -> usize {
+        self.length - self.left.len()
+    }
+
     /// None where the way ends early: at the map's end, or at a text that is refused.
     fn header(&mut self) -> Option<()> {
         self.bytes(FRONT)?;
@@ -61,6 +96,7 @@ impl<'a> Walk<'a> {
 
     fn tags(&mut self) -> Option<()> {
         let count = self.bytes(2)?;
+        self.tables.push(self.at());
         for _ in 0..u16::from_be_bytes([count[0], count[1]]) {
             self.text()?;
         }
@@ -75,14 +111,20 @@ impl<'a> Walk<'a> {
             }
             Some(Text::Stored { start, size }) => {
                 self.length_in_three_bytes(start);
-                self.bytes(size).map(drop)
+                self.stored(size)
             }
             None => {
                 let length = number(self.left)?;
                 let size = Some(unsigned(length)).filter(|&size| size <= TEXT_LIMIT)?;
-                self.bytes(length.len() + size as usize).map(drop)
+                self.bytes(length.len())?;
+                self.stored(size as usize)
             }
         }
+    }
+
+    fn stored(&mut self, size: usize) -> Option<()> {
+        self.texts.push(self.at()..self.at() + size);
+        self.bytes(size).map(drop)
     }
 
     fn length_in_three_bytes(&mut self, size: usize) {

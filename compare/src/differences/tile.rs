@@ -15,8 +15,10 @@ pub use reader::{Cause, Parting};
 
 use crate::answer::Answer;
 use crate::source::Source;
+#[cfg(feature = "both")]
+use crate::tiles::feature::Block;
 use crate::tiles::feature::{Collected, Text, Tile};
-use crate::tiles::tally::Tally;
+use crate::tiles::tally::Delivery;
 use crate::tiles::Address;
 use reader::{Read, Reader, View};
 
@@ -28,6 +30,16 @@ const SIGNATURE: u64 = 32;
 pub struct Port {
     pub answer: Answer,
     pub parting: Option<Parting>,
+    /// The places of the texts that were read, in their order.
+    #[cfg_attr(not(feature = "both"), allow(dead_code))]
+    pub texts: Vec<u64>,
+}
+
+/// The blocks of a way, and the place behind them.
+#[cfg(feature = "both")]
+pub struct WayData {
+    pub blocks: Vec<Block>,
+    pub end: u64,
 }
 
 /// A map's bytes, and the header that was read from it, or from what it was before it was damaged.
@@ -45,31 +57,36 @@ impl<'a> Opened<'a> {
     /// `read_tile`.
     pub fn collect(self, address: &Address) -> Port {
         let (tile, parting) = self.tile(address);
-        Port { answer: tile.map_or_else(|refusal| refusal, |tile| tile.answer()), parting }
+        let answer = tile.map_or_else(|refusal| refusal, |tile| tile.answer());
+        Port { answer, parting, texts: Vec::new() }
     }
 
     /// Feature `k` of the collected tile, with the codes of its tags.
     pub fn fetch(self, address: &Address, k: usize) -> Port {
         let (tile, parting) = self.fetched(address);
-        Port { answer: tile.map_or_else(|refusal| refusal, |tile| tile.answer(k)), parting }
+        let answer = tile.map_or_else(|refusal| refusal, |tile| tile.answer(k));
+        Port { answer, parting, texts: Vec::new() }
     }
 
     /// The collected tile with the texts of its features, or the refusal.
     pub fn fetched(self, address: &Address) -> (Result<Collected, Answer>, Option<Parting>) {
-        let (tile, parting) = self.tile(address);
+        let mut reader = Reader::new(self, View::Collected);
+        let tile = reader.tile(address);
+        let Reader { parting, signatures, .. } = reader;
         let with_texts = |tile: Tile| {
             let texts = tile.features().map(|feature| tags::texts(&feature, self.header)).collect();
-            Collected { tile, texts }
+            Collected { tile, texts, signatures }
         };
         (tile.map(with_texts), parting)
     }
 
     /// `visit_tile`; the answer is 0, sub file and water mark, or the refusal.
-    pub fn stream(self, address: &Address, zoom: u8, tally: &mut Tally) -> Port {
+    pub fn stream(self, address: &Address, zoom: u8, delivery: &mut impl Delivery) -> Port {
         let mut reader = Reader::new(self, View::Streamed);
-        let ended = reader.stream(address, zoom, tally);
+        let ended = reader.stream(address, zoom, delivery);
         let end = |water| vec![0, address.sub_file, u64::from(water)];
-        Port { answer: ended.map_or_else(|refusal| refusal, end), parting: reader.parting }
+        let answer = ended.map_or_else(|refusal| refusal, end);
+        Port { answer, parting: reader.parting, texts: reader.texts }
     }
 
     /// Whether no stored count is above the number of the map's bytes. Above that a tile does not
@@ -78,6 +95,25 @@ impl<'a> Opened<'a> {
         let head = Reader::new(self, View::Collected).head(address);
         let fair = |count: &u64| *count <= self.map.len() as u64;
         head.map_or(true, |head| head.table.as_flattened().iter().all(fair))
+    }
+
+    /// The refusal by which a stream of the tile does not open.
+    #[cfg(feature = "both")]
+    pub fn unopened(self, address: &Address) -> Option<Answer> {
+        Reader::new(self, View::Streamed).head(address).err()
+    }
+
+    /// Where collecting a tile reads: from its start to the furthest byte, and its numbers. None if it
+    /// reads nothing behind the entry.
+    #[cfg(feature = "both")]
+    pub fn read_parts(self, address: &Address) -> Option<(Range<usize>, Vec<Range<usize>>)> {
+        let mut reader = Reader::new(self, View::Collected);
+        reader.trace = Some(Vec::new());
+        // a refused tile has read bytes too
+        drop(reader.tile(address));
+        let start = usize::try_from(reader.tile_start?).ok()?;
+        let (end, numbers) = reader.traced();
+        (start < end).then_some((start..end, numbers))
     }
 
     /// The bytes of a tile that collects, up to where its last way ends.
@@ -92,6 +128,27 @@ impl<'a> Opened<'a> {
     pub fn tile(self, address: &Address) -> (Result<Tile, Answer>, Option<Parting>) {
         let mut reader = Reader::new(self, View::Collected);
         (reader.tile(address), reader.parting)
+    }
+
+    /// The collected tile with its texts as a stream gives them, or the refusal.
+    #[cfg(feature = "both")]
+    pub fn streamed_tile(self, address: &Address) -> Result<Tile, Answer> {
+        Reader::new(self, View::Streamed).tile(address)
+    }
+
+    /// A way's data from a place on, or the refusal.
+    #[cfg(feature = "both")]
+    pub fn way_data(
+        self,
+        at: usize,
+        data_blocks: u64,
+        double: bool,
+    ) -> (Result<WayData, Answer>, Option<Parting>) {
+        let mut reader = Reader::new(self, View::Streamed);
+        reader.seek(at as u128);
+        let blocks = reader.blocks(data_blocks, double);
+        let end = reader.at() as u64;
+        (blocks.map(|blocks| WayData { blocks, end }), reader.parting)
     }
 
     fn debug(self) -> bool {
@@ -132,18 +189,18 @@ impl Reader<'_> {
     }
 
     /// "Zoom is clamped into the interval; rows up to it count." Answers the water mark.
-    fn stream(&mut self, address: &Address, zoom: u8, tally: &mut Tally) -> Read<bool> {
+    fn stream(&mut self, address: &Address, zoom: u8, delivery: &mut impl Delivery) -> Read<bool> {
         let head = self.head(address)?;
         let rows = (usize::from(zoom.saturating_sub(head.lowest)) + 1).min(head.table.len());
         let [points, ways] = self.counts(&head.table[..rows]);
         for _ in 0..points {
-            tally.point(&self.point()?);
+            delivery.point(self.point()?);
         }
         self.seek(head.ways);
         for _ in 0..ways {
             let way = self.way_head()?;
-            if tally.head(way.bitmap, &way.ids) {
-                tally.way(&self.way_body(way)?);
+            if delivery.head(way.shown()) {
+                delivery.way(self.way_body(way)?);
             } else {
                 self.seek(way.stored_end);
             }
@@ -163,7 +220,8 @@ impl Reader<'_> {
         }
         let start = u128::from(interval.sub_file_start) + u128::from(offset);
         self.seek(start);
-        let signature = self.stored_signature()?;
+        self.tile_start = Some(start);
+        let signature = self.signature()?;
         let row = |_| Ok([self.unsigned()?, self.unsigned()?]);
         let table = (lowest..=highest).map(row).collect::<Read<_>>()?;
         let first_way = self.unsigned()?;
@@ -199,14 +257,13 @@ impl Reader<'_> {
     }
 
     /// The bytes of a signature, if there is one.
-    fn stored_signature(&mut self) -> Read<Option<Text>> {
+    fn signature(&mut self) -> Read<Option<Text>> {
         let debug = self.opened.debug();
+        let place = self.at() as u64;
         let bytes = self.bytes(if debug { SIGNATURE } else { 0 })?;
+        if debug {
+            self.signatures.push(place);
+        }
         Ok(debug.then(|| bytes.to_vec()))
-    }
-
-    /// Whether there is a signature, which is passed.
-    fn signature(&mut self) -> Read<bool> {
-        Ok(self.stored_signature()?.is_some())
     }
 }

@@ -94,6 +94,12 @@ impl Records {
         records
     }
 
+    /// All of them, for whatever program.
+    #[cfg(feature = "both")]
+    pub fn records(&self) -> &[Record] {
+        &self.0
+    }
+
     pub fn write(self, folder: &Path, form: Form) -> io::Result<()> {
         let records = self.of_form(form);
         let mut run = Run::default();

@@ -18,6 +18,11 @@ use super::writer::{entry, tags, text, Header, DEBUG, INDEX_SIGNATURE};
 
 /// Writes the records to `stdin` and a line for each of them to `stdout`.
 pub fn write(folder: &Path, form: Form) -> io::Result<()> {
+    crafted().write(folder, form)
+}
+
+/// What is asked of the crafted maps.
+pub fn crafted() -> Records {
     let mut records = Records::default();
     fields::add(&mut records);
     bounds::add(&mut records);
@@ -28,7 +33,7 @@ pub fn write(folder: &Path, form: Form) -> io::Result<()> {
     index::add(&mut records);
     columns::add(&mut records);
     random::add(&mut records);
-    records.write(folder, form)
+    records
 }
 
 /// A header with every field, ill-formed texts, and two intervals whose sub files are not there.

@@ -116,6 +116,12 @@ impl Records {
         records
     }
 
+    /// All of them, for whatever program.
+    #[cfg(feature = "both")]
+    pub fn records(&self) -> &[Record] {
+        &self.0
+    }
+
     /// Writes the two files, and prints whose answers they are.
     pub fn write(self, folder: &Path, form: Form) -> io::Result<()> {
         let records = self.of_form(form);

@@ -10,6 +10,7 @@ pub type Position = [f64; 2];
 pub type Text = Vec<u8>;
 
 /// A point. A streamed one has no signature.
+#[derive(Clone, PartialEq)]
 pub struct Point {
     pub position: Position,
     /// The layer + 5.
@@ -18,7 +19,8 @@ pub struct Point {
     pub name: Option<Text>,
     pub house_number: Option<Text>,
     pub elevation: Option<i32>,
-    pub signature: bool,
+    /// As it is stored, or as the Rust gives it: replaced and trimmed.
+    pub signature: Option<Text>,
 }
 
 impl Point {
@@ -31,13 +33,14 @@ impl Point {
             &optional(&self.name, text),
             &optional(&self.house_number, text),
             &optional(&self.elevation, |&metres| signed(i64::from(metres)).to_vec()),
-            &[u64::from(self.signature)],
+            &[u64::from(self.signature.is_some())],
         ]
         .concat()
     }
 }
 
 /// A way. A streamed one has no delta form, initial positions or signature.
+#[derive(Clone, PartialEq)]
 pub struct Way {
     pub bitmap: u16,
     /// The layer + 5.
@@ -49,11 +52,22 @@ pub struct Way {
     pub label: Option<Position>,
     pub double: bool,
     pub blocks: Vec<Block>,
-    pub signature: bool,
+    /// As a point's.
+    pub signature: Option<Text>,
+}
+
+/// A way's head, as a stream delivers it.
+#[derive(PartialEq)]
+pub struct Head {
+    pub bitmap: u16,
+    pub ids: Vec<u64>,
+    /// The layer + 5, which the Rust does not say before a way is accepted.
+    #[cfg_attr(not(feature = "both"), allow(dead_code))]
+    pub layer: Option<u64>,
 }
 
 /// A coordinate block.
-#[derive(Default)]
+#[derive(Clone, Default, PartialEq)]
 pub struct Block {
     pub initial: Position,
     pub nodes: Vec<Position>,
@@ -72,7 +86,8 @@ impl Way {
 
     fn with_blocks(&self, blocks: &[u64]) -> Answer {
         let form = [u64::from(self.double), self.blocks.len() as u64];
-        [&[2], self.fields().as_slice(), &form, blocks, &[u64::from(self.signature)]].concat()
+        [&[2], self.fields().as_slice(), &form, blocks, &[u64::from(self.signature.is_some())]]
+            .concat()
     }
 
     fn fields(&self) -> Answer {
@@ -165,6 +180,9 @@ impl Texts {
 pub struct Collected {
     pub tile: Tile,
     pub texts: Vec<Texts>,
+    /// The places of the signatures of the tile and of its features, which the Rust does not say.
+    #[cfg_attr(not(feature = "both"), allow(dead_code))]
+    pub signatures: Vec<u64>,
 }
 
 /// A feature as it is fetched.

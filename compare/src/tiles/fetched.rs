@@ -108,7 +108,7 @@ fn agreed(file: &mut MapFile<Source>, address: &Address) -> (Got, Option<Parting
 }
 
 /// A signature as the Rust gives it.
-fn trimmed(signature: &Text) -> Text {
+pub fn trimmed(signature: &Text) -> Text {
     String::from_utf8_lossy(signature).trim().into()
 }
 
@@ -220,7 +220,7 @@ impl Lines {
         match fetched.feature {
             Feature::Point(point) => {
                 let words = [
-                    &[u64::from(point.signature)],
+                    &[u64::from(point.signature.is_some())],
                     &lines::bits(&point.position)[..],
                     &lines::layer(point.layer),
                     &lines::counted(&point.ids),
@@ -232,7 +232,7 @@ impl Lines {
                 self.text += &lines::first_nodes(&nodes(way));
                 self.text += &lines::first_nodes(&initials(way));
                 let words = [
-                    &[u64::from(way.signature), u64::from(way.bitmap)][..],
+                    &[u64::from(way.signature.is_some()), u64::from(way.bitmap)][..],
                     &lines::layer(way.layer),
                     &lines::counted(&way.ids),
                     &lines::label(way.label),

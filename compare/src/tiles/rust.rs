@@ -4,8 +4,8 @@
 use mapsforge_rs::types::{self, LatLong, MapFile, Tag, WayCoordinateBlock, POI};
 use mapsforge_rs::visit::{PoiInfo, TileVisitor, WayInfo};
 
-use super::feature::{Block, Collected, Point, Position, TagText, Text, Texts, Tile, Way};
-use super::tally::{Policy, Tally};
+use super::feature::{Block, Collected, Head, Point, Position, TagText, Text, Texts, Tile, Way};
+use super::tally::{Delivery, Policy, Tally, Unread};
 use super::Address;
 use crate::answer::{refused, Answer};
 use crate::differences::tile::Opened;
@@ -37,17 +37,27 @@ pub fn fetched(file: &mut MapFile<Source>, address: &Address) -> Result<Collecte
     };
     let of_points = tile.pois.iter().map(texts_of_point);
     let texts = of_points.chain(tile.ways.iter().map(texts_of_way)).collect();
-    Ok(Collected { tile: collected(&tile), texts })
+    Ok(Collected { tile: collected(&tile), texts, signatures: Vec::new() })
 }
 
 pub fn stream(file: &mut MapFile<Source>, address: &Address, zoom: u8, policy: Policy) -> Tally {
     let mut tally = Tally::new(policy);
+    let end = visit(file, address, zoom, &mut tally);
+    tally.end(end)
+}
+
+/// `visit_tile`: 0, sub file and water mark, or the refusal.
+pub fn visit(
+    file: &mut MapFile<Source>,
+    address: &Address,
+    zoom: u8,
+    delivery: &mut impl Delivery,
+) -> Answer {
     let (sub_file, tile) = (address.sub_file as usize, address.tile as usize);
-    let end = match file.visit_tile(sub_file, tile, zoom, &mut tally) {
+    match file.visit_tile(sub_file, tile, zoom, &mut Visitor(delivery)) {
         Ok(end) => vec![0, end.sub_file as u64, u64::from(end.is_water)],
         Err(error) => refused(&error),
-    };
-    tally.end(end)
+    }
 }
 
 /// `read_tile`. Counts that it may not be able to reserve it does not see: they lead to a refusal,
@@ -57,7 +67,7 @@ fn read(file: &mut MapFile<Source>, address: &Address) -> Result<types::Tile, An
     let result = if Opened::of(file).has_fair_counts(address) {
         file.read_tile(sub_file, tile)
     } else {
-        let visited = file.visit_tile(sub_file, tile, u8::MAX, &mut Tally::new(Policy::All));
+        let visited = file.visit_tile(sub_file, tile, u8::MAX, &mut Visitor(&mut Unread));
         Err(visited.expect_err("more features than bytes"))
     };
     result.map_err(|error| refused(&error))
@@ -82,7 +92,7 @@ fn collected_point(point: &POI) -> Point {
         name: text(point.name.as_deref()),
         house_number: text(point.house_number.as_deref()),
         elevation: point.elevation,
-        signature: point.debug_signature.is_some(),
+        signature: text(point.debug_signature.as_deref()),
     }
 }
 
@@ -97,7 +107,7 @@ fn collected_way(way: &types::Way) -> Way {
         label: way.label_position.as_ref().map(position),
         double: way.double_delta_encoding,
         blocks: way.coordinate_blocks.iter().map(collected_block).collect(),
-        signature: way.debug_signature.is_some(),
+        signature: text(way.debug_signature.as_deref()),
     }
 }
 
@@ -127,21 +137,24 @@ fn texts(
     Texts { of_ids, others }
 }
 
-impl TileVisitor for Tally {
+/// The Rust's visitor, which hands on what it is shown.
+struct Visitor<'a, D>(&'a mut D);
+
+impl<D: Delivery> TileVisitor for Visitor<'_, D> {
     fn poi(&mut self, point: &PoiInfo) {
-        self.point(&Point {
+        self.0.point(Point {
             position: position(&point.position),
             layer: layer(point.layer),
             ids: ids(point.tag_ids),
             name: text(point.name),
             house_number: text(point.house_number),
             elevation: point.elevation,
-            signature: false,
+            signature: None,
         });
     }
 
     fn way(&mut self, way: &WayInfo) {
-        self.way(&Way {
+        self.0.way(Way {
             bitmap: way.sub_tile_bitmap,
             layer: layer(way.layer),
             ids: ids(way.tag_ids),
@@ -151,12 +164,12 @@ impl TileVisitor for Tally {
             label: way.label_position.as_ref().map(position),
             double: false,
             blocks: way.blocks.iter().map(|nodes| streamed_block(nodes)).collect(),
-            signature: false,
+            signature: None,
         });
     }
 
     fn accept_way(&mut self, bitmap: u16, tag_ids: &[usize]) -> bool {
-        self.head(bitmap, &ids(tag_ids))
+        self.0.head(Head { bitmap, ids: ids(tag_ids), layer: None })
     }
 }
 

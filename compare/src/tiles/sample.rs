@@ -9,7 +9,7 @@ mod order;
 mod points;
 mod random;
 mod rich;
-mod shipped;
+pub mod shipped;
 mod tags;
 mod ways;
 mod zooms;
@@ -26,6 +26,13 @@ use crate::maps::writer::{tags as tag_list, Header, DEBUG};
 
 /// Writes the records to `stdin` and a line for each of them to `stdout`.
 pub fn write(folder: &Path, form: Form) -> io::Result<()> {
+    let mut records = crafted();
+    shipped::add(&mut records)?;
+    records.write(folder, form)
+}
+
+/// What is asked of the crafted tiles.
+pub fn crafted() -> Records {
     let mut records = Records::default();
     points::add(&mut records);
     ways::add(&mut records);
@@ -39,8 +46,7 @@ pub fn write(folder: &Path, form: Form) -> io::Result<()> {
     debug::add(&mut records);
     rich::add(&mut records);
     random::add(&mut records);
-    shipped::add(&mut records)?;
-    records.write(folder, form)
+    records
 }
 
 /// The highest zoom that can be asked for; it is clamped to every interval's last row.

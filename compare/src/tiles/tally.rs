@@ -1,9 +1,31 @@
 //! What a stream delivers, with the decision on each way. The Rust's visitor and document 01's model
 //! deliver to the same tally.
 
-use super::feature::{Point, Way};
+use super::feature::{Head, Point, Way};
 use super::lines;
 use crate::answer::{digest, Answer};
+
+/// Takes what a stream delivers.
+pub trait Delivery {
+    fn point(&mut self, point: Point);
+    /// A way's head; answers whether the way is accepted.
+    fn head(&mut self, head: Head) -> bool;
+    /// An accepted way.
+    fn way(&mut self, way: Way);
+}
+
+/// Accepts all ways and looks at nothing.
+pub struct Unread;
+
+impl Delivery for Unread {
+    fn point(&mut self, _point: Point) {}
+
+    fn head(&mut self, _head: Head) -> bool {
+        true
+    }
+
+    fn way(&mut self, _way: Way) {}
+}
 
 /// Which ways are accepted.
 #[derive(Clone, Copy)]
@@ -46,28 +68,6 @@ impl Tally {
         Tally { policy, points: 0, heads: 0, accepted: 0, ended, lines }
     }
 
-    pub fn point(&mut self, point: &Point) {
-        self.points += 1;
-        self.lines += &lines::point(point);
-    }
-
-    /// A way's head; answers whether the way is accepted.
-    pub fn head(&mut self, bitmap: u16, ids: &[u64]) -> bool {
-        let accepted = self.policy.accepts(self.heads, bitmap);
-        self.heads += 1;
-        self.lines += &lines::head(bitmap, ids);
-        if !accepted {
-            self.lines += lines::DECLINED;
-        }
-        accepted
-    }
-
-    /// An accepted way.
-    pub fn way(&mut self, way: &Way) {
-        self.accepted += 1;
-        self.lines += &lines::body(way);
-    }
-
     /// The stream ended in this way: with 0 and its values, or with a refusal.
     pub fn end(mut self, ended: Answer) -> Self {
         self.lines += &lines::end(&ended);
@@ -83,5 +83,27 @@ impl Tally {
     pub fn answer(&self) -> Answer {
         let counts = [self.points, self.heads, self.accepted, digest(self.lines.as_bytes())];
         [self.ended.as_slice(), &counts].concat()
+    }
+}
+
+impl Delivery for Tally {
+    fn point(&mut self, point: Point) {
+        self.points += 1;
+        self.lines += &lines::point(&point);
+    }
+
+    fn head(&mut self, Head { bitmap, ids, .. }: Head) -> bool {
+        let accepted = self.policy.accepts(self.heads, bitmap);
+        self.heads += 1;
+        self.lines += &lines::head(bitmap, &ids);
+        if !accepted {
+            self.lines += lines::DECLINED;
+        }
+        accepted
+    }
+
+    fn way(&mut self, way: Way) {
+        self.accepted += 1;
+        self.lines += &lines::body(&way);
     }
 }

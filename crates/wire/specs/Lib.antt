@@ -2,3 +2,4 @@ pub mod Wire
 pub mod Verdicts
 pub mod Index
 pub mod Header
+pub mod Codecs

@@ -2,7 +2,7 @@
 use Prim.Native.Nat.{ℕ}
 use lib.IntN.{ℤ}
 use mathlib.Core.Bool.{Bool, cond}
-use mathlib.Core.Path.{_≡_, sym, ap, _∙_, subst}
+use mathlib.Core.Path.{_≡_, ap, _∙_}
 use mathlib.Core.List.{List, []}
 use lib.Ieee.{Float}
 use lib.Dec.{ltb}
@@ -23,14 +23,18 @@ pub record Crosses {A : Type 0} (encode : A → Wire) (Is : A → Type 0) (w : W
   pub is : Is answer
   pub crossed : w ≡ encode answer
 
--- Encode, then decode, is the identity.
-pub record Codec {A : Type 0} (encode : A → Wire) : Type 0 where
-  pub decode : Wire → A
-  pub back : (a : A) → decode (encode a) ≡ a
+-- Encode, then decode, gives what the other program needs of the answer,
+pub record Decoder {A B : Type 0} (encode : A → Wire) (view : A → B) : Type 0 where
+  pub decode : Wire → B
+  pub back : (a : A) → decode (encode a) ≡ view a
 
--- So what the other program decodes is an answer for which the inner contract holds.
-pub received : {A : Type 0} (encode : A → Wire) (c : Codec encode) (Is : A → Type 0) (w : Wire) → Crosses encode Is w → Is (c .decode w)
-received encode c Is w x = subst Is (sym (ap (c .decode) (x .crossed) ∙ c .back (x .answer))) (x .is)
+-- and if it needs the whole answer, is the identity.
+abbrev pub Codec : {A : Type 0} → (A → Wire) → Type 0
+Codec encode = Decoder encode (λ a. a)
+
+-- So what the other program decodes is seen of an answer for which the inner contract holds.
+pub received : {A B : Type 0} (encode : A → Wire) (view : A → B) (c : Decoder encode view) (Is : A → Type 0) (w : Wire) (x : Crosses encode Is w) → c .decode w ≡ view (x .answer)
+received encode view c Is w x = ap (c .decode) (x .crossed) ∙ c .back (x .answer)
 
 -- word i of list k
 abbrev pub word : Wire → (k i : ℕ) → ℕ

@@ -2,19 +2,26 @@
 
 use super::reader::{Read, Reader};
 use super::tags::letter;
-use crate::tiles::feature::{Block, Point, Position, Text, Way};
+use crate::tiles::feature::{Block, Head, Point, Position, Text, Way};
 
 /// The most nodes of a block.
 const NODE_LIMIT: u64 = 1 << 20;
 
 /// "next way head (bitmap, layer, tag ids, tag values skipped)".
 pub struct WayHead {
-    pub bitmap: u16,
-    pub ids: Vec<u64>,
+    bitmap: u16,
+    ids: Vec<u64>,
     /// "data start, the byte behind the size field, plus stored size".
     pub stored_end: u128,
     layer: u64,
-    signature: bool,
+    signature: Option<Text>,
+}
+
+impl WayHead {
+    /// What a stream delivers of it.
+    pub fn shown(&self) -> Head {
+        Head { bitmap: self.bitmap, ids: self.ids.clone(), layer: Some(self.layer) }
+    }
 }
 
 impl Reader<'_> {
@@ -109,7 +116,7 @@ impl Reader<'_> {
     }
 
     /// The coordinate blocks of all data blocks.
-    fn blocks(&mut self, data_blocks: u64, double: bool) -> Read<Vec<Block>> {
+    pub fn blocks(&mut self, data_blocks: u64, double: bool) -> Read<Vec<Block>> {
         let mut blocks = Vec::new();
         for _ in 0..data_blocks {
             for _ in 0..self.unsigned()? {

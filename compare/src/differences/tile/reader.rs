@@ -1,5 +1,7 @@
 //! Bytes, numbers and texts of a tile, one behind the other.
 
+use std::ops::Range;
+
 use super::super::{self as differences, TEXT_LIMIT};
 use super::Opened;
 use crate::answer::Answer;
@@ -46,6 +48,13 @@ pub enum Cause {
 pub struct Reader<'a> {
     pub opened: Opened<'a>,
     pub parting: Option<Parting>,
+    /// Where the tile's bytes start, once its entry is read.
+    pub tile_start: Option<u128>,
+    /// The places of the signatures and of the texts that were read, in their order.
+    pub signatures: Vec<u64>,
+    pub texts: Vec<u64>,
+    /// The places of the numbers that were read, if they are wanted.
+    pub trace: Option<Vec<Range<usize>>>,
     view: View,
     at: u128,
     furthest: u128,
@@ -53,7 +62,15 @@ pub struct Reader<'a> {
 
 impl<'a> Reader<'a> {
     pub fn new(opened: Opened<'a>, view: View) -> Self {
-        Reader { opened, parting: None, view, at: 0, furthest: 0 }
+        let (signatures, texts) = (Vec::new(), Vec::new());
+        let (parting, tile_start, trace) = (None, None, None);
+        Reader { opened, parting, tile_start, signatures, texts, trace, view, at: 0, furthest: 0 }
+    }
+
+    /// The place behind the furthest byte that was read, and the numbers' places.
+    #[cfg(feature = "both")]
+    pub fn traced(self) -> (usize, Vec<Range<usize>>) {
+        (self.furthest as usize, self.trace.unwrap_or_default())
     }
 
     /// Notes a parting here, if it is the first one.
@@ -116,6 +133,7 @@ impl<'a> Reader<'a> {
         if length > TEXT_LIMIT {
             return Err(vec![9]);
         }
+        self.texts.push(self.at as u64);
         let stored = self.bytes(length)?;
         Ok(match self.view {
             View::Collected => String::from_utf8_lossy(stored).into_owned().into_bytes(),
@@ -137,6 +155,10 @@ impl<'a> Reader<'a> {
             return Err(self.parted(Cause::Number, refusal));
         }
         let groups = differences::number(left).ok_or(vec![1])?;
+        if let Some(trace) = &mut self.trace {
+            let start = self.at as usize;
+            trace.push(start..start + groups.len());
+        }
         self.pass(groups.len());
         Ok(groups)
     }

@@ -37,6 +37,12 @@ pub fn add(records: &mut Records) -> io::Result<()> {
     Ok(())
 }
 
+/// The files of the maps.
+#[cfg(feature = "both")]
+pub fn paths() -> Vec<PathBuf> {
+    MAPS.iter().map(|(name, _)| folder().join(name)).collect()
+}
+
 /// The folder of the maps is beside this package's.
 fn folder() -> PathBuf {
     Path::new(env!("CARGO_MANIFEST_DIR")).with_file_name("maps")

@@ -1,6 +1,6 @@
 //! Way data of a stated shape, the same in every run.
 
-#[path = "../../compare/src/random.rs"]
+#[path = "../../../compare/src/random.rs"]
 #[allow(dead_code)]
 mod random;
 

@@ -1,29 +1,6 @@
-//! The port's exported functions. A slice is passed as its address and its length.
+//! The library's functions. A slice is passed as its address and its length.
 
-extern "C" {
-    fn mapsforge_measure_way_data(
-        map: *const u8,
-        map_len: usize,
-        at: usize,
-        data_blocks: u64,
-        out: *mut u64,
-        out_len: usize,
-    ) -> u64;
-
-    fn mapsforge_read_way_data(
-        map: *const u8,
-        map_len: usize,
-        at: usize,
-        data_blocks: u64,
-        double: bool,
-        counts: *mut u64,
-        counts_len: usize,
-        latitudes: *mut f64,
-        latitudes_len: usize,
-        longitudes: *mut f64,
-        longitudes_len: usize,
-    ) -> u64;
-}
+use mapsforge::sys;
 
 /// The lists that a caller lends.
 #[derive(Clone, PartialEq)]
@@ -37,7 +14,7 @@ pub struct Lists {
 pub fn measure(map: &[u8], data_blocks: u64, out: &mut [u64; 3]) -> u64 {
     // SAFETY: each pair is the address and the length of a live slice, and no two overlap.
     unsafe {
-        mapsforge_measure_way_data(
+        sys::mapsforge_measure_way_data(
             map.as_ptr(),
             map.len(),
             0,
@@ -52,7 +29,7 @@ pub fn measure(map: &[u8], data_blocks: u64, out: &mut [u64; 3]) -> u64 {
 pub fn read(map: &[u8], data_blocks: u64, double: bool, lists: &mut Lists) -> u64 {
     // SAFETY: each pair is the address and the length of a live slice, and no two overlap.
     unsafe {
-        mapsforge_read_way_data(
+        sys::mapsforge_read_way_data(
             map.as_ptr(),
             map.len(),
             0,

@@ -1,8 +1,8 @@
 //! Both sides give the same, and entries behind the result keep their values.
 
-use crate::data::Shape;
-use crate::port::{self, Lists};
-use crate::rust::{self, Blocks};
+use super::data::Shape;
+use super::ours::{self, Lists};
+use super::rust::{self, Blocks};
 
 /// Entries of a list behind the result, and what they hold.
 const BEHIND: usize = 3;
@@ -20,11 +20,11 @@ pub fn same(shape: &Shape, bytes: &[u8], double: bool) {
     assert_eq!(used, shape.blocks);
 
     let mut sizes = [0; 3];
-    assert_eq!(port::measure(bytes, 1, &mut sizes), 0);
+    assert_eq!(ours::measure(bytes, 1, &mut sizes), 0);
     assert_eq!(sizes, [shape.blocks as u64, shape.all_nodes() as u64, bytes.len() as u64]);
 
     let mut got = lists(shape);
-    assert_eq!(port::read(bytes, 1, double, &mut got), 0);
+    assert_eq!(ours::read(bytes, 1, double, &mut got), 0);
     let wanted = from_rust(shape, &blocks);
     assert_eq!(got.counts, wanted.counts);
     assert_eq!(bits(&got.latitudes), bits(&wanted.latitudes));
@@ -47,11 +47,11 @@ pub fn limits() {
     let bytes = shape.bytes();
     assert!(rust::read(&mut &bytes[..], 1, false, &mut Blocks::new()).is_err());
     let mut got = lists(&shape);
-    assert_eq!(port::read(&bytes, 1, false, &mut got), 10);
+    assert_eq!(ours::read(&bytes, 1, false, &mut got), 10);
     assert!(got == lists(&shape));
 }
 
-/// The Rust's blocks in the port's lists.
+/// The Rust's blocks in our lists.
 fn from_rust(shape: &Shape, blocks: &Blocks) -> Lists {
     let mut out = lists(shape);
     let mut at = 0;
@@ -70,7 +70,7 @@ fn from_rust(shape: &Shape, blocks: &Blocks) -> Lists {
 fn refused(shape: &Shape, bytes: &[u8], double: bool) {
     let mut got = lists(shape);
     let cut = &bytes[..bytes.len() - 1];
-    assert_eq!(port::read(cut, 1, double, &mut got), 1);
+    assert_eq!(ours::read(cut, 1, double, &mut got), 1);
     assert!(got == lists(shape));
 }
 

@@ -1,0 +1,231 @@
+//! The calls of the library, and the rows and lists that they fill.
+
+use std::hint::black_box;
+
+use mapsforge::sys;
+use mapsforge_rs::grid::Grid;
+
+/// Where a tile is asked for.
+pub struct Address {
+    pub sub_file: usize,
+    pub grid: Grid,
+    pub tile: usize,
+}
+
+pub struct Calls<'a> {
+    pub map: &'a [u8],
+    pub opened: Opened,
+    state: [u64; 7],
+    pub next: Next,
+    pub accepted: Accepted,
+    pub collected: Collected,
+    pub fetched: Fetched,
+    pub lists: Lists,
+}
+
+pub struct Opened {
+    pub words: [u64; 34],
+    pub degrees: [f64; 6],
+    layout: [u64; 5],
+}
+
+pub struct Next {
+    pub words: [u64; 21],
+    pub signed: [i64; 2],
+    pub degrees: [f64; 2],
+    pub ids: [u64; 15],
+}
+
+pub struct Accepted {
+    pub words: [u64; 18],
+    pub degrees: [f64; 2],
+}
+
+pub struct Collected {
+    pub words: [u64; 14],
+    pub points: [u64; 256],
+    pub ways: [u64; 256],
+}
+
+pub struct Fetched {
+    pub words: [u64; 35],
+    pub signed: [i64; 2],
+    pub degrees: [f64; 2],
+    pub ids: [u64; 15],
+    pub tags: [u64; 75],
+}
+
+pub struct Lists {
+    pub node_counts: Vec<u64>,
+    pub latitudes: Vec<f64>,
+    pub longitudes: Vec<f64>,
+    pub initial_latitudes: Vec<f64>,
+    pub initial_longitudes: Vec<f64>,
+    pub buffer: Vec<u8>,
+}
+
+impl Lists {
+    /// A block or a node takes a byte or more. A byte of a text gives at most three, and a feature
+    /// has up to 18 texts; tags may share theirs.
+    fn for_map(size: usize) -> Self {
+        Lists {
+            node_counts: vec![0; size],
+            latitudes: vec![0.0; size],
+            longitudes: vec![0.0; size],
+            initial_latitudes: vec![0.0; size],
+            initial_longitudes: vec![0.0; size],
+            buffer: vec![0; 3 * 18 * size],
+        }
+    }
+}
+
+/// Each call answers 0 or the number of the refusal.
+///
+/// SAFETY, of every one: a slice goes by its own address and length, a row by the address of an array
+/// of the length that the header file states, and no two of them overlap.
+impl<'a> Calls<'a> {
+    pub fn new(map: &'a [u8]) -> Self {
+        Calls {
+            map,
+            opened: Opened { words: [0; 34], degrees: [0.0; 6], layout: [0; 5] },
+            state: [0; 7],
+            next: Next { words: [0; 21], signed: [0; 2], degrees: [0.0; 2], ids: [0; 15] },
+            accepted: Accepted { words: [0; 18], degrees: [0.0; 2] },
+            collected: Collected { words: [0; 14], points: [0; 256], ways: [0; 256] },
+            fetched: Fetched {
+                words: [0; 35],
+                signed: [0; 2],
+                degrees: [0.0; 2],
+                ids: [0; 15],
+                tags: [0; 75],
+            },
+            lists: Lists::for_map(map.len()),
+        }
+    }
+
+    pub fn open(&mut self) -> u64 {
+        let map = black_box(self.map);
+        let Opened { words, degrees, layout } = &mut self.opened;
+        unsafe { sys::mapsforge_open(map.as_ptr(), map.len(), words, degrees, layout) }
+    }
+
+    pub fn interval(&self, sub_file: usize, words: &mut [u64; 12]) -> u64 {
+        unsafe { sys::mapsforge_interval(self.map.as_ptr(), self.map.len(), sub_file, words) }
+    }
+
+    pub fn stream_open(&mut self, address: &Address, zoom: u8) -> u64 {
+        let Address { sub_file, grid, tile } = *address;
+        let mut words = [0; 6];
+        unsafe {
+            sys::mapsforge_stream_open(
+                self.map.as_ptr(),
+                self.map.len(),
+                sub_file,
+                grid.x_min,
+                grid.y_min,
+                grid.x_max,
+                grid.y_max,
+                tile,
+                zoom,
+                &mut self.state,
+                &mut words,
+            )
+        }
+    }
+
+    pub fn stream_next(&mut self) -> u64 {
+        let Next { words, signed, degrees, ids } = &mut self.next;
+        unsafe {
+            sys::mapsforge_stream_next(
+                self.map.as_ptr(),
+                self.map.len(),
+                &self.opened.layout,
+                &mut self.state,
+                words,
+                signed,
+                degrees,
+                ids,
+            )
+        }
+    }
+
+    pub fn stream_accept(&mut self) -> u64 {
+        let Lists { node_counts, latitudes, longitudes, .. } = &mut self.lists;
+        unsafe {
+            sys::mapsforge_stream_accept(
+                self.map.as_ptr(),
+                self.map.len(),
+                &mut self.state,
+                node_counts.as_mut_ptr(),
+                node_counts.len(),
+                latitudes.as_mut_ptr(),
+                latitudes.len(),
+                longitudes.as_mut_ptr(),
+                longitudes.len(),
+                &mut self.accepted.words,
+                &mut self.accepted.degrees,
+            )
+        }
+    }
+
+    pub fn stream_decline(&mut self) -> u64 {
+        let mut words = [0; 6];
+        unsafe { sys::mapsforge_stream_decline(&mut self.state, &mut words) }
+    }
+
+    pub fn collect(&mut self, address: &Address) -> u64 {
+        let Address { sub_file, grid, tile } = *address;
+        let Collected { words, points, ways } = &mut self.collected;
+        unsafe {
+            sys::mapsforge_collect(
+                self.map.as_ptr(),
+                self.map.len(),
+                sub_file,
+                grid.x_min,
+                grid.y_min,
+                grid.x_max,
+                grid.y_max,
+                tile,
+                words,
+                points,
+                ways,
+            )
+        }
+    }
+
+    pub fn fetch(&mut self, address: &Address, feature: u64) -> u64 {
+        let Address { sub_file, grid, tile } = *address;
+        let lists = &mut self.lists;
+        let Fetched { words, signed, degrees, ids, tags } = &mut self.fetched;
+        unsafe {
+            sys::mapsforge_fetch(
+                self.map.as_ptr(),
+                self.map.len(),
+                sub_file,
+                grid.x_min,
+                grid.y_min,
+                grid.x_max,
+                grid.y_max,
+                tile,
+                feature,
+                lists.node_counts.as_mut_ptr(),
+                lists.node_counts.len(),
+                lists.latitudes.as_mut_ptr(),
+                lists.latitudes.len(),
+                lists.longitudes.as_mut_ptr(),
+                lists.longitudes.len(),
+                lists.initial_latitudes.as_mut_ptr(),
+                lists.initial_latitudes.len(),
+                lists.initial_longitudes.as_mut_ptr(),
+                lists.initial_longitudes.len(),
+                lists.buffer.as_mut_ptr(),
+                lists.buffer.len(),
+                words,
+                signed,
+                degrees,
+                ids,
+                tags,
+            )
+        }
+    }
+}

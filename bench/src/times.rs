@@ -1,0 +1,128 @@
+//! The times of both sides, over whole maps.
+
+use std::time::Instant;
+
+use crate::map::Map;
+use crate::ours::Ours;
+use crate::rust::Rust;
+use crate::tally::Tally;
+use crate::work::{Side, Work, WORKS};
+
+/// What a side should take in a round, so that the clock's own time does not count.
+const SECONDS: f64 = 0.002;
+/// What all rounds of a line should take, and the least and the most of them.
+const LINE_SECONDS: f64 = 2.0;
+const LEAST_ROUNDS: usize = 5;
+const MOST_ROUNDS: usize = 400;
+
+type Sides<'a> = [Box<dyn Side + 'a>; 2];
+
+/// What is in the maps, by their streams.
+pub fn contents(maps: &[Map]) {
+    println!("| map | bytes | sub files | tiles | refused tiles | points | ways | nodes |");
+    println!("|---|---:|---:|---:|---:|---:|---:|---:|");
+    for map in maps {
+        let Tally { tiles, refused, points, ways, nodes, .. } =
+            same(&map.name, Work::Accept, &mut sides(map));
+        println!(
+            "| {} | {} | {} | {tiles} | {refused} | {points} | {ways} | {nodes} |",
+            map.name,
+            map.bytes.len(),
+            map.sub_files.len()
+        );
+    }
+}
+
+pub fn table(maps: &[Map]) {
+    println!("| map | work | items | ours, ns an item | Rust, ns an item | ours / Rust | median |");
+    println!("|---|---|---:|---:|---:|---:|---:|");
+    for map in maps {
+        let mut sides = sides(map);
+        let mut lines = WORKS.map(|work| Line::new(map, work, &mut sides));
+        // all lines go on side by side, so that a busy spell of the machine does not spoil one of them
+        for round in 0..MOST_ROUNDS {
+            let due = lines.iter_mut().filter(|line| line.has_round(round));
+            due.for_each(|line| line.round(&mut sides));
+        }
+        lines.into_iter().for_each(|line| line.print(&map.name));
+    }
+}
+
+/// A work on a map, and its times so far.
+struct Line {
+    work: Work,
+    wanted: Tally,
+    /// How often each side does the work in a round.
+    times: [u32; 2],
+    rounds: usize,
+    /// The least seconds of each side, and the rounds' ratios.
+    least: [f64; 2],
+    ratios: Vec<f64>,
+}
+
+impl Line {
+    fn new(map: &Map, work: Work, sides: &mut Sides) -> Self {
+        let wanted = same(&map.name, work, sides);
+        let once = sides.each_mut().map(|side| seconds(side.as_mut(), work, 1, &wanted));
+        let times = once.map(|once| (SECONDS / once).ceil() as u32);
+        let round: f64 = once.iter().map(|once| once.max(SECONDS)).sum();
+        let rounds = ((LINE_SECONDS / round) as usize).clamp(LEAST_ROUNDS, MOST_ROUNDS);
+        Line { work, wanted, times, rounds, least: [f64::MAX; 2], ratios: Vec::new() }
+    }
+
+    /// Whether one of its rounds, spread over the most of them, is due.
+    fn has_round(&self, round: usize) -> bool {
+        let before = |round: usize| round * self.rounds / MOST_ROUNDS;
+        before(round) < before(round + 1)
+    }
+
+    /// Each side has its turn, so that a load on the machine hits both.
+    fn round(&mut self, sides: &mut Sides) {
+        let mut took =
+            |side: usize| seconds(sides[side].as_mut(), self.work, self.times[side], &self.wanted);
+        let [ours, rust] = [took(0), took(1)];
+        self.least = [self.least[0].min(ours), self.least[1].min(rust)];
+        self.ratios.push(ours / rust);
+    }
+
+    fn print(mut self, map: &str) {
+        let (item, count) = self.work.items(&self.wanted);
+        let plural = if count == 1 { "" } else { "s" };
+        let [ours, rust] = self.least.map(|seconds| seconds * 1e9 / count as f64);
+        self.ratios.sort_by(f64::total_cmp);
+        println!(
+            "| {map} | {} | {count} {item}{plural} | {ours:.1} | {rust:.1} | {:.2} | {:.2} |",
+            self.work.name(),
+            ours / rust,
+            self.ratios[self.ratios.len() / 2]
+        );
+    }
+}
+
+fn sides(map: &Map) -> Sides<'_> {
+    [Box::new(Ours::new(map)), Box::new(Rust::new(map))]
+}
+
+/// Both sides give the same: counts, and the digest of all that they give.
+fn same(map: &str, work: Work, sides: &mut Sides) -> Tally {
+    let [ours, rust] = sides.each_mut().map(|side| {
+        let mut tally = Tally::with_digest();
+        side.run(work, &mut tally);
+        tally
+    });
+    assert_eq!(ours, rust, "the sides differ: {map}, {}", work.name());
+    rust
+}
+
+/// The seconds of one of so many times. The counts of the last are those that are wanted.
+fn seconds(side: &mut dyn Side, work: Work, times: u32, wanted: &Tally) -> f64 {
+    let mut tally = Tally::counts();
+    let start = Instant::now();
+    for _ in 0..times {
+        tally = Tally::counts();
+        side.run(work, &mut tally);
+    }
+    let took = start.elapsed().as_secs_f64() / f64::from(times);
+    assert!(tally.same_counts(wanted), "a side gave other counts than before");
+    took
+}

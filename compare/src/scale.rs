@@ -1,0 +1,192 @@
+//! Both readers in one process: every answer of our library against the Rust's, on whole maps and on
+//! damaged ones.
+
+mod asked;
+mod bases;
+mod book;
+mod cases;
+mod check;
+mod choices;
+mod collected;
+mod damage;
+mod held;
+mod indexed;
+mod known;
+mod lent;
+mod library;
+mod opening;
+mod streamed;
+mod way_data;
+mod whole;
+
+use std::io;
+use std::path::PathBuf;
+use std::process::ExitCode;
+use std::thread;
+use std::time::Instant;
+
+use crate::random::Random;
+use bases::Base;
+use cases::Cases;
+use check::{caught, Check};
+use lent::Lent;
+
+const CASES: u64 = 100_000;
+const QUICK_CASES: u64 = 1_200_000;
+const SEED: u64 = 1;
+
+/// What is asked for on the command line.
+struct Options {
+    cases: u64,
+    seed: u64,
+    threads: u64,
+    /// A single case, to look at it again.
+    only: Option<u64>,
+    maps: Vec<PathBuf>,
+}
+
+impl Options {
+    /// None if they make no sense.
+    fn of(arguments: &[&str]) -> Option<Self> {
+        let maps = Vec::new();
+        let mut options = Options { cases: CASES, seed: SEED, threads: 1, only: None, maps };
+        let mut arguments = arguments.iter();
+        while let Some(&argument) = arguments.next() {
+            let mut number = || arguments.next()?.parse::<u64>().ok();
+            match argument {
+                "--quick" => options.cases = QUICK_CASES,
+                "--cases" => options.cases = number()?,
+                "--seed" => options.seed = number()?,
+                "--threads" => options.threads = number()?.max(1),
+                "--only" => options.only = Some(number()?),
+                _ if argument.starts_with('-') => return None,
+                _ => options.maps.push(argument.into()),
+            }
+        }
+        Some(options)
+    }
+}
+
+/// Holds our stream to document 01's book; None if the arguments make no sense.
+pub fn run_book(arguments: &[&str]) -> io::Result<Option<ExitCode>> {
+    let is_other = |argument: &&str| argument.starts_with('-') && *argument != "--cases";
+    let Some(options) = Options::of(arguments) else { return Ok(None) };
+    if arguments.iter().any(is_other) {
+        return Ok(None);
+    }
+    check::keep_panics();
+    let good = book::compare(&bases(&options)?, options.cases);
+    Ok(Some(if good { ExitCode::SUCCESS } else { ExitCode::FAILURE }))
+}
+
+/// Compares all; None if the arguments make no sense.
+pub fn run(arguments: &[&str]) -> io::Result<Option<ExitCode>> {
+    let Some(options) = Options::of(arguments) else { return Ok(None) };
+    check::keep_panics();
+    let bases = bases(&options)?;
+    let start = Instant::now();
+    let mut all = Check::default();
+    // a single case is asked for to be looked at again
+    let whole = options.only.is_some() || whole_maps(&bases, &mut all);
+    let good = whole && damaged_maps(&bases, &options, &mut all);
+    println!();
+    all.print();
+    println!("time: {:.1} s", start.elapsed().as_secs_f64());
+    Ok(Some(if good { ExitCode::SUCCESS } else { ExitCode::FAILURE }))
+}
+
+fn bases(options: &Options) -> io::Result<Vec<Base>> {
+    let mut bases = bases::crafted()?;
+    bases.extend(bases::repository()?);
+    for path in &options.maps {
+        bases.push(bases::of_file(path)?);
+    }
+    Ok(bases)
+}
+
+fn whole_maps(bases: &[Base], all: &mut Check) -> bool {
+    let start = Instant::now();
+    let mut differences = 0;
+    for base in bases {
+        let (mut lent, mut random) = (Lent::default(), Random::new(SEED));
+        let compared = caught(|| whole::compare(all, &mut lent, base, &mut random));
+        all.end_case();
+        if let Err(why) = compared.and_then(|compared| compared) {
+            println!("UNEXPLAINED: {}, undamaged: {why}", base.name);
+            if base.map.len() < 2000 {
+                println!("  the whole map {:02x?}", base.map);
+            }
+            differences += 1;
+        }
+    }
+    let tiles: usize = bases.iter().map(|base| base.tiles.len()).sum();
+    println!(
+        "undamaged: {} maps, {tiles} tiles, {differences} of the maps differ; {:.1} s",
+        bases.len(),
+        start.elapsed().as_secs_f64()
+    );
+    differences == 0
+}
+
+/// The cases, shared out among threads by their numbers.
+fn damaged_maps(bases: &[Base], options: &Options, all: &mut Check) -> bool {
+    let start = Instant::now();
+    let ended: Vec<_> = thread::scope(|scope| {
+        let run = |thread| scope.spawn(move || of_thread(bases, options, thread));
+        let running: Vec<_> = (0..options.threads).map(run).collect();
+        running.into_iter().map(|thread| thread.join()).collect()
+    });
+    let (mut cases, mut differences) = (0, 0);
+    for thread in ended {
+        let Ok(thread) = thread else {
+            println!("UNEXPLAINED: a thread of the driver ended early");
+            differences += 1;
+            continue;
+        };
+        all.add(thread.check);
+        cases += thread.cases;
+        differences += thread.differences;
+    }
+    println!(
+        "damaged: {cases} cases, seed {}, {differences} differ; {:.1} s",
+        options.seed,
+        start.elapsed().as_secs_f64()
+    );
+    differences == 0
+}
+
+/// What a thread has done.
+#[derive(Default)]
+struct Thread {
+    check: Check,
+    cases: u64,
+    differences: u64,
+}
+
+/// Behind so many differences a thread ends.
+const ENOUGH: u64 = 5;
+
+/// Each difference is told where it is found, since a long run may not come to its end.
+fn of_thread(bases: &[Base], options: &Options, thread: u64) -> Thread {
+    let mut done = Thread::default();
+    let mut cases = match Cases::new(options.seed, bases) {
+        Ok(cases) => cases,
+        Err(why) => {
+            println!("UNEXPLAINED: {why}");
+            return Thread { differences: 1, ..done };
+        }
+    };
+    let numbers = (thread..options.cases).step_by(options.threads as usize);
+    let only = options.only.filter(|_| thread == 0);
+    for case in numbers.filter(|_| options.only.is_none()).chain(only) {
+        done.cases += 1;
+        if let Err(why) = cases.run(&mut done.check, case) {
+            println!("UNEXPLAINED: {why}");
+            done.differences += 1;
+        }
+        if done.differences >= ENOUGH {
+            break;
+        }
+    }
+    done
+}

@@ -1,0 +1,99 @@
+//! What is asked of a damaged map and of one of its tiles.
+
+use super::check::{Check, Checked};
+use super::known::{self, Plan};
+use super::lent::Lent;
+use super::opening::{self, Opening, Said};
+use super::streamed::{self, Question};
+use super::{collected, indexed, way_data};
+use crate::differences::tile::Opened;
+use crate::random::Random;
+use crate::tiles::Address;
+
+/// One in so many places of a stream has a call that must be refused.
+const REFUSED_CALLS: usize = 5;
+
+/// Some of the header's tags and intervals.
+pub fn of_header(
+    check: &mut Check,
+    map: &[u8],
+    opening: &Opening,
+    said: &Said,
+    random: &mut Random,
+) -> Checked {
+    let intervals =
+        opening.as_ref().map_or(0, |file| file.header.zoom_interval_configuration.len());
+    opening::interval(check, map, opening, random.below(intervals + 1))?;
+    opening::sub_file(check, map, opening, random.byte())?;
+    let Ok(file) = opening else { return Ok(()) };
+    for (ways, tags) in [(false, &file.header.poi_tags), (true, &file.header.way_tags)] {
+        let k = random.below(tags.len() + 1);
+        opening::tag(check, map, said.table(ways), tags, k)?;
+    }
+    Ok(())
+}
+
+/// Opening, entry, collecting, some fetches, a stream, and at times the rest.
+pub fn of_tile(
+    check: &mut Check,
+    lent: &mut Lent,
+    map: &[u8],
+    opening: &mut Opening,
+    said: &Said,
+    at: Address,
+    random: &mut Random,
+) -> Checked {
+    said.check(check, map)?;
+    let at = if random.below(32) == 0 { random.other_place(at) } else { at };
+    indexed::entry(check, map, opening, &at)?;
+    let tile = match opening {
+        Ok(file) => known::tile(check, file, &at)?,
+        Err(refusal) => Err(refusal.clone()),
+    };
+    collected::collect(check, map, &at, &tile)?;
+    for k in random.features(tile.as_ref().map_or(0, |tile| tile.texts.len())) {
+        let place = |why| format!("feature {k}: {why}");
+        collected::fetch(check, lent, map, &at, &tile, k, random).map_err(place)?;
+    }
+    let zoom = random.zoom(opening, &at);
+    let plan = Plan::of(random.policy());
+    let (layout, refused_calls) = (said.layout, REFUSED_CALLS);
+    let question = Question { map, layout, at, zoom, refused_calls };
+    let place = |why| format!("stream at zoom {zoom}, ways {:?}: {why}", plan.policy);
+    streamed::stream(check, lent, opening, &question, &plan, random).map_err(place)?;
+    if random.below(8) == 0 {
+        others(check, lent, map, opening, &at, random)?;
+    }
+    Ok(())
+}
+
+/// Grid, columns and a text.
+fn others(
+    check: &mut Check,
+    lent: &mut Lent,
+    map: &[u8],
+    opening: &Opening,
+    at: &Address,
+    random: &mut Random,
+) -> Checked {
+    indexed::count(check, map, opening, at)?;
+    let grid = at.grid;
+    let near = |random: &mut Random, min: i32, max: i32| {
+        let side = [min, max, min.saturating_add(random.below(5) as i32)][random.below(3)];
+        side.saturating_add(random.below(3) as i32 - 1)
+    };
+    let place = [near(random, grid.x_min, grid.x_max), near(random, grid.y_min, grid.y_max)];
+    indexed::tile(check, map, opening, at, place)?;
+    opening::sub_file(check, map, opening, random.below(32) as u8)?;
+    let zoom = random.below(70) as u8;
+    indexed::column(check, random.longitude(), zoom)?;
+    indexed::longitude(check, random.next() as u32 >> random.below(32), zoom)?;
+    if let Ok(file) = opening {
+        let question = random.way_data(map.len());
+        way_data::compare(check, lent, Opened::of(file), question, random)?;
+    }
+    let start = random.below(map.len() + 1);
+    let longest = [4, 16, 64][random.below(3)].min(map.len() - start + 1);
+    let size = random.below(longest);
+    indexed::text(check, lent, &map[start..start + size], random)
+}

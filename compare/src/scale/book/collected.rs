@@ -1,0 +1,144 @@
+//! A tile as our library collects and fetches it, with its texts as stored.
+
+use super::super::check::Checked;
+use super::super::lent::{Fronts, Lengths};
+use super::super::library::{self, degree, Fetch, Lists, Nodes, BYTE, WORD};
+use super::super::opening::Opening;
+use super::Counts;
+use crate::differences::tile::Opened;
+use crate::tiles::feature::{Feature, Text, Tile};
+use crate::tiles::Address;
+
+/// A feature: what was fetched of it, its lists, and its texts as a stream gives them.
+pub struct Fetched {
+    pub fetch: Fetch,
+    pub fronts: Fronts,
+    /// Name, house number and reference.
+    pub texts: [Option<Text>; 3],
+}
+
+/// "the collected tile, as collecting and fetches with long enough lists give it, together with its texts
+/// as stored, its sub file and its entry's water mark".
+pub struct Collected<'a> {
+    pub map: &'a [u8],
+    pub at: Address,
+    features: Vec<Fetched>,
+    /// The zoom table: points and ways of each row.
+    rows: Vec<[u64; 2]>,
+    points: usize,
+    water: u64,
+    lowest: u8,
+    highest: u8,
+}
+
+/// A tile's book at a zoom.
+pub struct Book<'a> {
+    pub tile: &'a Collected<'a>,
+    /// "P and W sum its zoom table's point and way counts up to the clamped zoom."
+    pub points: usize,
+    pub ways: usize,
+}
+
+impl<'a> Collected<'a> {
+    /// None if the tile is not in the theorem, which is counted.
+    pub fn of(
+        map: &'a [u8],
+        opening: &Opening,
+        at: &Address,
+        counts: &mut Counts,
+    ) -> Checked<Option<Self>> {
+        let tile = library::collect(map, at);
+        if tile.got.number != 0 {
+            counts.refused += 1;
+            return Ok(None);
+        }
+        let [rows, points, ways, exact] = [9, 11, 12, 13].map(|k| tile.got.words[k]);
+        if exact == 0 {
+            counts.inexact += 1;
+            return Ok(None);
+        }
+        let file = opening.as_ref().map_err(|_| "collects although it does not open")?;
+        let stored = Opened::of(file).streamed_tile(at);
+        let stored = stored.map_err(|refusal| format!("collects, but document 01: {refusal:?}"))?;
+        let features = (0..points + ways)
+            .map(|k| fetched(map, at, k, &stored))
+            .collect::<Checked<Vec<_>>>()?;
+        let interval = library::interval(map, at.sub_file as usize).words;
+        let rows = (0..rows as usize).map(|k| [tile.points[k], tile.ways[k]]).collect();
+        Ok(Some(Collected {
+            map,
+            at: *at,
+            features,
+            rows,
+            points: points as usize,
+            water: library::index_entry(map, at).words[6],
+            lowest: interval[8] as u8,
+            highest: interval[9] as u8,
+        }))
+    }
+
+    pub fn features(&self) -> usize {
+        self.features.len()
+    }
+
+    /// Point `k`.
+    pub fn point(&self, k: usize) -> &Fetched {
+        &self.features[k]
+    }
+
+    /// Way `k`, "the first is 0".
+    pub fn way(&self, k: usize) -> &Fetched {
+        &self.features[self.points + k]
+    }
+
+    pub fn water(&self) -> u64 {
+        self.water
+    }
+
+    /// All zooms of the interval, and one beside it on each side.
+    pub fn zooms(&self) -> impl Iterator<Item = u8> {
+        self.lowest.saturating_sub(1)..=self.highest.saturating_add(1)
+    }
+
+    pub fn book(&self, zoom: u8) -> Book<'_> {
+        let row = usize::from(zoom.clamp(self.lowest, self.highest) - self.lowest);
+        let sum = |column: usize| self.rows[..=row].iter().map(|row| row[column] as usize).sum();
+        Book { tile: self, points: sum(0), ways: sum(1) }
+    }
+}
+
+/// Fetches feature `k`: first with no lists, which tells the lengths.
+fn fetched(map: &[u8], at: &Address, k: u64, stored: &Tile) -> Checked<Fetched> {
+    let (first, _) = fetch(map, at, k, [0; 6]);
+    let lengths: Lengths = match first.got.number {
+        0 => [0; 6],
+        15 => std::array::from_fn(|k| first.got.words[k] as usize),
+        number => return Err(format!("feature {k} is not fetched: {number}")),
+    };
+    let (fetch, fronts) = fetch(map, at, k, lengths);
+    if fetch.got.number != 0 {
+        return Err(format!("feature {k} is not fetched: {}", fetch.got.number));
+    }
+    let texts = match stored.feature(k as usize) {
+        Some(Feature::Point(point)) => [point.name.clone(), point.house_number.clone(), None],
+        Some(Feature::Way(way)) => {
+            [way.name.clone(), way.house_number.clone(), way.reference.clone()]
+        }
+        None => return Err(format!("document 01 has no feature {k}")),
+    };
+    Ok(Fetched { fetch, fronts, texts })
+}
+
+fn fetch(map: &[u8], at: &Address, k: u64, lengths: Lengths) -> (Fetch, Fronts) {
+    let [counts, a, b, c, d, buffer] = lengths;
+    let mut fronts = Fronts {
+        counts: vec![WORD; counts],
+        floats: [a, b, c, d].map(|length| vec![degree(); length]),
+        buffer: vec![BYTE; buffer],
+    };
+    let [latitudes, longitudes, initial_latitudes, initial_longitudes] = &mut fronts.floats;
+    let nodes = Nodes { counts: &mut fronts.counts, latitudes, longitudes };
+    let lists = Lists { nodes, initial_latitudes, initial_longitudes, buffer: &mut fronts.buffer };
+    let fetch = library::fetch(map, at, k, lists);
+    (fetch, fronts)
+}

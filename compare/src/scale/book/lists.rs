@@ -1,0 +1,265 @@
+//! Lists of calls. Each call is made of the stream, and its answer held to what the book says to it.
+
+use super::super::check::{front, Call as Kind, Check, Checked};
+use super::super::collected::stored_part;
+use super::super::lent::{suffice, Fronts, Lengths, Lent};
+use super::super::library::{self, Layout, Next, State};
+use super::collected::{Book, Fetched};
+use crate::random::Random;
+
+/// A call, an accept with what it lends.
+#[derive(Clone, Copy, Debug)]
+pub enum Call {
+    Next,
+    Accept(Lend),
+    Decline,
+}
+
+#[derive(Clone, Copy, Debug)]
+pub enum Lend {
+    /// No entries.
+    Nothing,
+    /// Long enough for every way.
+    Enough,
+    /// By the numbers that start here: none, one short, exact or longer.
+    Random(u64),
+}
+
+const ALL: [Call; 4] =
+    [Call::Next, Call::Accept(Lend::Enough), Call::Accept(Lend::Nothing), Call::Decline];
+
+/// "Its state: a number k, first 0, and whether a way waits, first no."
+#[derive(Clone, Copy)]
+struct Page {
+    k: usize,
+    waits: bool,
+}
+
+/// The stream and the book, side by side.
+#[derive(Clone, Copy)]
+struct Both {
+    stream: State,
+    page: Page,
+}
+
+impl Both {
+    fn at_first(stream: State) -> Self {
+        Both { stream, page: Page { k: 0, waits: false } }
+    }
+}
+
+/// A tile at a zoom, and the calls of the list so far.
+pub struct Run<'a> {
+    pub book: Book<'a>,
+    pub layout: Layout,
+    pub check: &'a mut Check,
+    pub lent: &'a mut Lent,
+    pub calls: Vec<Call>,
+    pub made: u64,
+}
+
+impl Run<'_> {
+    /// Every list of up to so many calls; answers how many there are. A stream's state is a value, so what
+    /// two lists start with is run once for both.
+    pub fn all(&mut self, stream: State, longest: u32) -> Checked<u64> {
+        self.calls.clear();
+        self.longer(Both::at_first(stream), longest)
+    }
+
+    fn longer(&mut self, both: Both, left: u32) -> Checked<u64> {
+        if left == 0 {
+            return Ok(0);
+        }
+        let mut lists = 0;
+        for call in ALL {
+            let mut next = both;
+            self.step(call, &mut next)?;
+            lists += 1 + self.longer(next, left - 1)?;
+            self.calls.pop();
+        }
+        Ok(lists)
+    }
+
+    /// A list of random calls.
+    pub fn random(&mut self, stream: State, length: usize, random: &mut Random) -> Checked {
+        self.calls.clear();
+        let mut both = Both::at_first(stream);
+        for _ in 0..length {
+            let call = match random.below(10) {
+                0..=4 => Call::Next,
+                5 | 6 => Call::Accept(Lend::Enough),
+                7 => Call::Accept([Lend::Nothing, Lend::Random(random.next())][random.below(2)]),
+                _ => Call::Decline,
+            };
+            self.step(call, &mut both)?;
+        }
+        Ok(())
+    }
+
+    /// Makes a call; what differs is told by the whole list.
+    fn step(&mut self, call: Call, both: &mut Both) -> Checked {
+        self.calls.push(call);
+        self.made += 1;
+        let held = match call {
+            Call::Next => self.next(both),
+            Call::Accept(lend) => self.accept(lend, both),
+            Call::Decline => self.decline(both),
+        };
+        held.map_err(|why| format!("calls {:?}: {why}", self.calls))
+    }
+
+    /// "Next: 16 if a way waits; with k below P, point k, and k grows by 1; with k below P + W, the head of
+    /// way k − P (the first is 0), which then waits; else the end, with sub file and water mark."
+    fn next(&mut self, both: &mut Both) -> Checked {
+        let before = both.stream;
+        let ours = library::stream_next(self.book.tile.map, &self.layout, &mut both.stream);
+        let (points, ways) = (self.book.points, self.book.ways);
+        let tile = self.book.tile;
+        let page = &mut both.page;
+        if page.waits {
+            self.check.refused(Kind::StreamNext, &ours.got, &[16])?;
+            self.nothing(&ours)?;
+            return self.check.words("the state behind 16", &both.stream, &before);
+        }
+        if page.k < points {
+            self.point(&ours, tile.point(page.k))?;
+            page.k += 1;
+            return Ok(());
+        }
+        if page.k < points + ways {
+            self.head(&ours, tile.way(page.k - points))?;
+            page.waits = true;
+            return Ok(());
+        }
+        let mut words = [0; 21];
+        (words[6], words[19], words[20]) = (2, tile.at.sub_file, tile.water());
+        self.check.got(Kind::StreamNext, &ours.got, 0, &words)?;
+        self.nothing(&ours)
+    }
+
+    /// "Accept: 16 if none waits; 15 with the way's counts of blocks, nodes and nodes if a list is shorter;
+    /// else its other fields, its lists written as above, k grows by 1 and none waits."
+    fn accept(&mut self, lend: Lend, both: &mut Both) -> Checked {
+        let page = &mut both.page;
+        let tile = self.book.tile;
+        let waiting = page.waits.then(|| tile.way(page.k - self.book.points));
+        let needed = waiting.map_or([1, 2, 2, 0, 0, 0], three_lists);
+        let lengths = lengths(lend, &needed);
+        let before = both.stream;
+        let lists = self.lent.lists(lengths);
+        let ours = library::stream_accept(tile.map, &mut both.stream, lists.nodes);
+        let refusal = match waiting {
+            None => vec![16],
+            Some(_) if !suffice(&lengths, &needed) => {
+                vec![15, needed[0] as u64, needed[1] as u64, needed[2] as u64]
+            }
+            Some(way) => {
+                let words = self.body(&ours.got.words, way)?;
+                self.check.got(Kind::StreamAccept, &ours.got, 0, &words)?;
+                self.check.floats("a label", &ours.degrees, &way.fetch.degrees)?;
+                *page = Page { k: page.k + 1, waits: false };
+                return self.lent.check(self.check, lengths, &way.streamed_lists());
+            }
+        };
+        self.check.refused(Kind::StreamAccept, &ours.got, &refusal)?;
+        self.check.floats("no label", &ours.degrees, &[0.0; 2])?;
+        self.check.words("the state behind a refusal", &both.stream, &before)?;
+        self.lent.check(self.check, lengths, &Fronts::default())
+    }
+
+    /// "Decline: 16 if none waits; else k grows by 1 and none waits."
+    fn decline(&mut self, both: &mut Both) -> Checked {
+        let before = both.stream;
+        let number = library::stream_decline(&mut both.stream);
+        self.check.call(Kind::StreamDecline, number);
+        if both.page.waits {
+            both.page = Page { k: both.page.k + 1, waits: false };
+            return self.check.same("a decline", number, 0);
+        }
+        self.check.same("a decline out of turn", number, 16)?;
+        self.check.words("the state behind 16", &both.stream, &before)
+    }
+
+    fn point(&mut self, ours: &Next, point: &Fetched) -> Checked {
+        let fetched = &point.fetch;
+        let mut words = [0; 21];
+        words[7] = fetched.got.words[7];
+        self.part(&ours.got.words, &mut words, 11, point, 0)?;
+        self.part(&ours.got.words, &mut words, 14, point, 1)?;
+        words[17] = fetched.got.words[29];
+        self.check.same("a point", fetched.got.words[6], 0)?;
+        self.check.got(Kind::StreamNext, &ours.got, 0, &words)?;
+        self.check.same("layer and elevation", ours.signed, fetched.signed)?;
+        self.check.floats("a position", &ours.degrees, &fetched.degrees)?;
+        self.check.words("ids", &ours.ids, &fetched.ids)
+    }
+
+    fn head(&mut self, ours: &Next, way: &Fetched) -> Checked {
+        let fetched = &way.fetch;
+        let mut words = [0; 21];
+        (words[6], words[7], words[18]) = (1, fetched.got.words[7], fetched.got.words[30]);
+        self.check.same("a way", fetched.got.words[6], 1)?;
+        self.check.got(Kind::StreamNext, &ours.got, 0, &words)?;
+        self.check.same("a layer", ours.signed, fetched.signed)?;
+        self.check.floats("no position", &ours.degrees, &[0.0; 2])?;
+        self.check.words("ids", &ours.ids, &fetched.ids)
+    }
+
+    /// The words of a body.
+    fn body(&mut self, ours: &[u64; 18], way: &Fetched) -> Checked<[u64; 18]> {
+        let fetched = &way.fetch.got.words;
+        let mut words = front(&[0, 0, 0, 0, 0, 0, fetched[32], fetched[33]]);
+        self.part(ours, &mut words, 8, way, 0)?;
+        self.part(ours, &mut words, 11, way, 1)?;
+        self.part(ours, &mut words, 14, way, 2)?;
+        words[17] = fetched[34];
+        Ok(words)
+    }
+
+    /// The words of text `k`, from the word `at` on: "a text is its stored bytes, or empty if they aren't
+    /// valid UTF-8". It is there if the fetched one is.
+    fn part(
+        &mut self,
+        ours: &[u64],
+        words: &mut [u64],
+        at: usize,
+        feature: &Fetched,
+        k: usize,
+    ) -> Checked {
+        let text = &feature.texts[k];
+        let there = feature.fetch.got.words[11 + 6 * k];
+        self.check.same("whether a text is there", u64::from(text.is_some()), there)?;
+        let part = stored_part(self.check, self.book.tile.map, &ours[at..at + 3], text)?;
+        words[at..at + 3].copy_from_slice(&part);
+        Ok(())
+    }
+
+    fn nothing(&mut self, ours: &Next) -> Checked {
+        self.check.same("no layer", ours.signed, [0; 2])?;
+        self.check.floats("no position", &ours.degrees, &[0.0; 2])?;
+        self.check.words("no ids", &ours.ids, &[0; 15])
+    }
+}
+
+/// The lengths of node counts, latitudes and longitudes that a way needs.
+fn three_lists(way: &Fetched) -> Lengths {
+    let [blocks, nodes] = [32, 33].map(|k| way.fetch.got.words[k] as usize);
+    [blocks, nodes, nodes, 0, 0, 0]
+}
+
+fn lengths(lend: Lend, needed: &Lengths) -> Lengths {
+    match lend {
+        Lend::Nothing => [0; 6],
+        Lend::Enough => needed.map(|needed| needed + 1),
+        Lend::Random(seed) => Random::new(seed | 1).lengths(needed),
+    }
+}
+
+impl Fetched {
+    /// The first three of the fetched lists.
+    fn streamed_lists(&self) -> Fronts {
+        let [latitudes, longitudes, ..] = &self.fronts.floats;
+        let floats = [latitudes.clone(), longitudes.clone(), Vec::new(), Vec::new()];
+        Fronts { counts: self.fronts.counts.clone(), floats, buffer: Vec::new() }
+    }
+}

@@ -1,0 +1,227 @@
+//! What was compared so far, and what differs.
+
+use std::cell::Cell;
+use std::fmt::Debug;
+use std::panic::{self, AssertUnwindSafe};
+
+use super::library::Got;
+use crate::differences::tile::Cause;
+
+/// The calls of the library.
+#[derive(Clone, Copy, Debug)]
+pub enum Call {
+    Open,
+    Interval,
+    SubFile,
+    Tag,
+    Text,
+    TileCount,
+    TileIndex,
+    IndexEntry,
+    Column,
+    Longitude,
+    StreamOpen,
+    StreamNext,
+    StreamAccept,
+    StreamDecline,
+    Collect,
+    Fetch,
+    MeasureWayData,
+    ReadWayData,
+}
+
+/// In the order of their numbers.
+const CALLS: [Call; 18] = [
+    Call::Open,
+    Call::Interval,
+    Call::SubFile,
+    Call::Tag,
+    Call::Text,
+    Call::TileCount,
+    Call::TileIndex,
+    Call::IndexEntry,
+    Call::Column,
+    Call::Longitude,
+    Call::StreamOpen,
+    Call::StreamNext,
+    Call::StreamAccept,
+    Call::StreamDecline,
+    Call::Collect,
+    Call::Fetch,
+    Call::MeasureWayData,
+    Call::ReadWayData,
+];
+
+/// Why the model answers in place of the Rust.
+#[derive(Clone, Copy, PartialEq)]
+pub enum Reason {
+    /// A header text whose length the Rust cannot hold.
+    HeaderText,
+    /// A tile's number that i32 does not hold.
+    TileNumber,
+    /// A zoom above 63 in columns and longitudes.
+    Zoom,
+    Tile(Cause),
+}
+
+const REASONS: [(Reason, &str); 10] = [
+    (Reason::HeaderText, "a header text's length has over 32 bits"),
+    (Reason::TileNumber, "a tile's number above 2^31 - 1, or as many columns"),
+    (Reason::Zoom, "a zoom above 63"),
+    (Reason::Tile(Cause::TextLength), "a collected text's length has over 32 bits"),
+    (Reason::Tile(Cause::Number), "a number of more than nine bytes"),
+    (Reason::Tile(Cause::Coordinate), "a coordinate above 2^53"),
+    (Reason::Tile(Cause::Sum), "counts that sum past 64 bits"),
+    (Reason::Tile(Cause::Grid), "a bad grid"),
+    (Reason::Tile(Cause::Entry), "an index entry past all places"),
+    (Reason::Tile(Cause::Interval), "a reversed interval"),
+];
+
+/// Nothing, or what differs.
+pub type Checked<T = ()> = Result<T, String>;
+
+/// Rows of document 01's table, and 0.
+const ANSWERS: usize = 19;
+
+#[derive(Default)]
+pub struct Check {
+    /// By the numbers of the calls.
+    calls: [u64; CALLS.len()],
+    pub answers: [u64; ANSWERS],
+    pub values: u64,
+    /// Answers that document 01's model gave in place of the Rust, by reason, and the cases with such.
+    answers_settled: [u64; REASONS.len()],
+    cases_settled: [u64; REASONS.len()],
+    /// Whether the case so far has such an answer.
+    in_case: [bool; REASONS.len()],
+}
+
+impl Check {
+    /// Counts a call by its answer.
+    pub fn call(&mut self, call: Call, number: u64) {
+        self.calls[call as usize] += 1;
+        // a number that no row has differs from every answer, and is not counted
+        if let Some(count) = self.answers.get_mut(number as usize) {
+            *count += 1;
+        }
+    }
+
+    /// Counts an answer of the model.
+    pub fn settle(&mut self, reason: Reason) {
+        let k = REASONS.iter().position(|(known, _)| *known == reason).expect("all are listed");
+        self.answers_settled[k] += 1;
+        self.in_case[k] = true;
+    }
+
+    /// A case, or an undamaged map, ends here.
+    pub fn end_case(&mut self) {
+        let cases = self.cases_settled.iter_mut().zip(&mut self.in_case);
+        cases.for_each(|(count, in_case)| *count += u64::from(std::mem::take(in_case)));
+    }
+
+    pub fn same<T: PartialEq + Debug>(&mut self, what: &str, ours: T, theirs: T) -> Checked {
+        self.values += 1;
+        if ours == theirs {
+            return Ok(());
+        }
+        Err(format!("{what}: ours {ours:x?}, it should be {theirs:x?}"))
+    }
+
+    pub fn words(&mut self, what: &str, ours: &[u64], theirs: &[u64]) -> Checked {
+        self.values += ours.len() as u64;
+        if ours == theirs {
+            return Ok(());
+        }
+        Err(format!("{what}: ours {ours:x?}, it should be {theirs:x?}"))
+    }
+
+    /// Floats by their bits.
+    pub fn floats(&mut self, what: &str, ours: &[f64], theirs: &[f64]) -> Checked {
+        self.values += ours.len() as u64;
+        let bits = |floats: &[f64]| floats.iter().map(|float| float.to_bits()).collect::<Vec<_>>();
+        let same = |(a, b): (&f64, &f64)| a.to_bits() == b.to_bits();
+        if ours.len() == theirs.len() && ours.iter().zip(theirs).all(same) {
+            return Ok(());
+        }
+        Err(format!("{what}: ours {:x?}, it should be {:x?}", bits(ours), bits(theirs)))
+    }
+
+    /// An answer and all its words.
+    pub fn got<const N: usize>(
+        &mut self,
+        call: Call,
+        ours: &Got<N>,
+        number: u64,
+        words: &[u64; N],
+    ) -> Checked {
+        self.call(call, ours.number);
+        self.values += 1 + N as u64;
+        if ours.number == number && ours.words == *words {
+            return Ok(());
+        }
+        let (our_number, ours) = (ours.number, ours.words);
+        Err(format!("{call:?}: ours {our_number} {ours:x?}, it should be {number} {words:x?}"))
+    }
+
+    /// A refusal: its number, its values in the front words, and zeros behind them.
+    pub fn refused<const N: usize>(
+        &mut self,
+        call: Call,
+        ours: &Got<N>,
+        refusal: &[u64],
+    ) -> Checked {
+        self.got(call, ours, refusal[0], &front(&refusal[1..]))
+    }
+
+    pub fn add(&mut self, other: Check) {
+        self.calls.iter_mut().zip(other.calls).for_each(|(sum, count)| *sum += count);
+        let add = |sums: &mut [u64], counts: &[u64]| {
+            sums.iter_mut().zip(counts).for_each(|(sum, count)| *sum += count);
+        };
+        add(&mut self.answers, &other.answers);
+        add(&mut self.answers_settled, &other.answers_settled);
+        add(&mut self.cases_settled, &other.cases_settled);
+        self.values += other.values;
+    }
+
+    pub fn print(&self) {
+        println!("calls compared: {}", self.calls.iter().sum::<u64>());
+        for (call, count) in CALLS.iter().zip(self.calls) {
+            println!("  {:<16} {count:>14}", format!("{call:?}"));
+        }
+        println!("answers by number (0 is a result)");
+        for (number, count) in self.answers.iter().enumerate().filter(|(_, count)| **count > 0) {
+            println!("  {number:<16} {count:>14}");
+        }
+        println!(
+            "settled by document 01's model, where the Rust parts: answers, and cases with such"
+        );
+        let settled = self.answers_settled.iter().zip(self.cases_settled);
+        for ((_, name), (answers, cases)) in REASONS.iter().zip(settled) {
+            println!("  {name:<48} {answers:>10} {cases:>10}");
+        }
+        println!("values compared: {}", self.values);
+    }
+}
+
+/// The first words, and zeros behind them.
+pub fn front<const N: usize>(first: &[u64]) -> [u64; N] {
+    let mut words = [0; N];
+    words[..first.len()].copy_from_slice(first);
+    words
+}
+
+thread_local! {
+    /// What the last panic of this thread said, and where.
+    static PANIC: Cell<String> = const { Cell::new(String::new()) };
+}
+
+/// Panics are told by the case that they are in, not where they happen.
+pub fn keep_panics() {
+    panic::set_hook(Box::new(|panic| PANIC.set(panic.to_string())));
+}
+
+/// What the Rust gives; a panic that no guard foresaw is a difference.
+pub fn caught<T>(run: impl FnOnce() -> T) -> Checked<T> {
+    panic::catch_unwind(AssertUnwindSafe(run)).map_err(|_| PANIC.take())
+}

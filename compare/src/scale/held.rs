@@ -1,0 +1,91 @@
+//! A map of which copies are damaged in place.
+
+use std::ops::Range;
+
+use mapsforge_rs::header::DEBUG_INFO_MASK;
+use mapsforge_rs::types::{MapFile, MapHeader};
+
+use super::asked;
+use super::bases::{opening_reads, Base};
+use super::check::{caught, Check, Checked};
+use super::damage::Damage;
+use super::lent::Lent;
+use super::opening::{self, header_end, Opening, Said};
+use crate::answer::Answer;
+use crate::differences::header_parts;
+use crate::random::Random;
+use crate::source::Source;
+use crate::tiles::Address;
+
+/// A map that is damaged, and what is known of it undamaged.
+pub struct Held {
+    pub name: String,
+    pub map: Vec<u8>,
+    header: Option<MapHeader>,
+    refusal: Answer,
+    said: Said,
+    /// Damages behind this place leave the header as it is.
+    opening: usize,
+    pub header_end: usize,
+    /// The last byte of the length of each of the header's texts.
+    pub lengths: Vec<Range<usize>>,
+}
+
+impl Held {
+    pub fn of(base: &Base, opening: Opening) -> Checked<Self> {
+        let map = &base.map;
+        let said = Said::of(map, &opening)?;
+        let reads = opening_reads(map, &opening);
+        let header_end = opening.as_ref().map_or(map.len(), |file| header_end(map, &file.header));
+        let refusal = opening.as_ref().err().cloned().unwrap_or_default();
+        let texts = header_parts(map).map_or(Vec::new(), |parts| parts.texts);
+        let lengths = texts.iter().map(|text| text.start - 1..text.start).collect();
+        let header = opening.ok().map(|file| file.header);
+        let (name, map) = (base.name.clone(), map.clone());
+        Ok(Held { name, map, header, refusal, said, opening: reads, header_end, lengths })
+    }
+
+    /// Where a tile's entry stands, and the bytes around it.
+    pub fn entry(&self, at: &Address) -> Range<usize> {
+        let header = self.header.as_ref();
+        let intervals = header.map_or(&[][..], |header| &header.zoom_interval_configuration);
+        let interval = usize::try_from(at.sub_file).ok().and_then(|k| intervals.get(k));
+        let debug = header.is_some_and(|header| header.flags & DEBUG_INFO_MASK != 0);
+        let start = interval.map_or(0, |interval| interval.sub_file_start);
+        let place = start.saturating_add(at.tile.saturating_mul(5)).saturating_add(16);
+        let place = if debug { place } else { place.saturating_sub(16) };
+        let place = usize::try_from(place).unwrap_or(0).min(self.map.len());
+        place..place.saturating_add(5)
+    }
+
+    /// Everything about the damaged map and one of its tiles. The header is read anew only if it is damaged.
+    pub fn compare(
+        &mut self,
+        check: &mut Check,
+        lent: &mut Lent,
+        at: Address,
+        damage: &Damage,
+        seed: u64,
+    ) -> Checked {
+        let mut random = Random::new(seed);
+        let map = &self.map[..damage.cut.unwrap_or(usize::MAX).min(self.map.len())];
+        if !damage.is_behind(self.opening) {
+            let mut opening = opening::of(check, map)?;
+            let said = Said::of(map, &opening)?;
+            return caught(|| {
+                asked::of_header(check, map, &opening, &said, &mut random)?;
+                asked::of_tile(check, lent, map, &mut opening, &said, at, &mut random)
+            })?;
+        }
+        let reader = Source::new(map);
+        let mut opening = match self.header.take() {
+            Some(header) => Ok(MapFile { header, reader }),
+            None => Err(self.refusal.clone()),
+        };
+        let said = &self.said;
+        let compared =
+            caught(|| asked::of_tile(check, lent, map, &mut opening, said, at, &mut random));
+        self.header = opening.ok().map(|file| file.header);
+        compared?
+    }
+}

@@ -1,0 +1,125 @@
+//! Index and grid of a sub file, columns, and texts.
+
+use mapsforge_rs::types::MapFile;
+
+use super::check::{front, Call, Check, Checked, Reason};
+use super::lent::{Fronts, Lent};
+use super::library;
+use super::opening::{maybe, Opening};
+use crate::answer::Answer;
+use crate::differences;
+use crate::differences::tile::Cause;
+use crate::maps::calls::on_grid;
+use crate::maps::index;
+use crate::random::Random;
+use crate::source::Source;
+use crate::tiles::Address;
+
+/// The grid of a call for the driver's own questions.
+fn input(at: &Address, rest: &[u8]) -> Vec<u8> {
+    on_grid(at.sub_file, at.grid, rest)
+}
+
+/// `tile_count`. A map is opened at each call about a sub file, which may be refused.
+pub fn count(check: &mut Check, map: &[u8], opening: &Opening, at: &Address) -> Checked {
+    let rust = match opening {
+        Ok(file) => index::tile_count(file, &mut Source::new(&input(at, &[]))),
+        Err(refusal) => refusal.clone(),
+    };
+    one(check, Call::TileCount, &library::tile_count(map, at), &rust)
+}
+
+/// `tile_index_of`.
+pub fn tile(
+    check: &mut Check,
+    map: &[u8],
+    opening: &Opening,
+    at: &Address,
+    [x, y]: [i32; 2],
+) -> Checked {
+    let place = [x.to_be_bytes(), y.to_be_bytes()];
+    let rust = match opening {
+        Ok(file) => {
+            let rust = index::tile_index(file, &mut Source::new(&input(at, place.as_flattened())));
+            // only of a good grid of a sub file that is there
+            if matches!(rust[..], [0, 1, _]) && differences::tile_index(&at.grid, x, y).is_some() {
+                check.settle(Reason::TileNumber);
+            }
+            rust
+        }
+        Err(refusal) => refusal.clone(),
+    };
+    one(check, Call::TileIndex, &library::tile_index(map, at, [x, y]), &rust)
+}
+
+/// An answer of none or one number.
+fn one(check: &mut Check, call: Call, ours: &library::Got<8>, rust: &Answer) -> Checked {
+    if *rust == [14] {
+        check.settle(Reason::Tile(Cause::Grid));
+    }
+    match rust[..] {
+        [0, 0] => check.got(call, ours, 0, &maybe(None)),
+        [0, 1, number] => check.got(call, ours, 0, &maybe(Some(number))),
+        _ => check.refused(call, ours, rust),
+    }
+}
+
+/// `tile_index_entry`.
+pub fn entry(check: &mut Check, map: &[u8], opening: &mut Opening, at: &Address) -> Checked {
+    let rust = match opening {
+        Ok(file) => index::entry(file, &mut Source::new(&input(at, &at.tile.to_be_bytes()))),
+        Err(refusal) => refusal.clone(),
+    };
+    let ours = library::index_entry(map, at);
+    match rust[..] {
+        [0, water, offset, place] => {
+            let words = [0, 0, 0, 0, 0, 0, water, offset, place];
+            check.got(Call::IndexEntry, &ours, 0, &words)
+        }
+        _ => check.refused(Call::IndexEntry, &ours, &rust),
+    }
+}
+
+/// The column of a longitude.
+pub fn column(check: &mut Check, longitude: f64, zoom: u8) -> Checked {
+    let (number, column) = library::column(longitude, zoom);
+    check.call(Call::Column, number);
+    let rust = match differences::zoom(zoom) {
+        Some(refusal) => {
+            check.settle(Reason::Zoom);
+            (refusal[0], 0)
+        }
+        None => (0, i64::from(MapFile::<Source>::get_tiles_column(longitude, zoom))),
+    };
+    check.same("a column", (number, column), rust)
+}
+
+/// The longitude of a column.
+pub fn longitude(check: &mut Check, column: u32, zoom: u8) -> Checked {
+    let (number, longitude) = library::longitude(column, zoom);
+    check.call(Call::Longitude, number);
+    let rust = match differences::zoom(zoom) {
+        Some(refusal) => {
+            check.settle(Reason::Zoom);
+            (refusal[0], 0.0_f64)
+        }
+        None => (0, MapFile::<Source>::tilex2long(column, zoom)),
+    };
+    check.same("a longitude", (number, longitude.to_bits()), (rust.0, rust.1.to_bits()))
+}
+
+/// A text with its ill-formed parts replaced, to a buffer of a random length.
+pub fn text(check: &mut Check, lent: &mut Lent, text: &[u8], random: &mut Random) -> Checked {
+    let replaced = String::from_utf8_lossy(text).into_owned().into_bytes();
+    let needed = [0, 0, 0, 0, 0, replaced.len()];
+    let lengths = random.lengths(&needed);
+    let ours = library::text(text, lent.lists(lengths).buffer);
+    if lengths[5] < needed[5] {
+        let refusal = [15, 0, 0, 0, 0, 0, needed[5] as u64];
+        check.refused(Call::Text, &ours, &refusal)?;
+        return lent.check(check, lengths, &Fronts::default());
+    }
+    let words = [0, 0, 0, 0, 0, 0, needed[5] as u64];
+    check.got(Call::Text, &ours, 0, &front(&words))?;
+    lent.check(check, lengths, &Fronts { buffer: replaced, ..Fronts::default() })
+}

@@ -1,0 +1,227 @@
+//! What must come of a tile and of a stream: the Rust's own, or where it parts from document 01 the
+//! model's.
+
+use mapsforge_rs::grid;
+use mapsforge_rs::types::MapFile;
+
+use super::check::{caught, Check, Checked, Reason};
+use crate::answer::Answer;
+use crate::differences::tile::{Cause, Opened, Parting, Port};
+use crate::random::Random;
+use crate::source::Source;
+use crate::tiles::feature::{Collected, Head, Point, Text, Way};
+use crate::tiles::fetched::trimmed;
+use crate::tiles::tally::Delivery;
+use crate::tiles::{rust, Address};
+
+/// A tile that collects, or the refusal.
+pub type Tile = Result<Collected, Answer>;
+
+pub fn tile(check: &mut Check, file: &mut MapFile<Source>, at: &Address) -> Checked<Tile> {
+    let (model, parting) = Opened::of(file).fetched(at);
+    if let Some(parting) = parting {
+        check.settle(Reason::Tile(parting.cause));
+        return Ok(model);
+    }
+    grid::lend(at.grid);
+    let mut rust = caught(|| rust::fetched(file, at))?;
+    if let (Ok(rust), Ok(model)) = (&mut rust, model) {
+        rust.signatures = model.signatures;
+        said_by_the_model(&mut rust.tile, model.tile)?;
+    }
+    Ok(rust)
+}
+
+/// The Rust does not compare sizes, and trims signatures: these two are the model's.
+fn said_by_the_model(
+    rust: &mut crate::tiles::feature::Tile,
+    model: crate::tiles::feature::Tile,
+) -> Checked {
+    rust.exact = model.exact;
+    signature(&mut rust.signature, model.signature)?;
+    for (rust, model) in rust.points.iter_mut().zip(model.points) {
+        signature(&mut rust.signature, model.signature)?;
+    }
+    for (rust, model) in rust.ways.iter_mut().zip(model.ways) {
+        signature(&mut rust.signature, model.signature)?;
+    }
+    Ok(())
+}
+
+fn signature(rust: &mut Option<Text>, stored: Option<Text>) -> Checked {
+    if *rust != stored.as_ref().map(trimmed) {
+        return Err(format!("a signature: the Rust's {rust:x?}, the model's {stored:x?}"));
+    }
+    *rust = stored;
+    Ok(())
+}
+
+/// Which ways a stream accepts.
+#[derive(Clone)]
+pub struct Plan {
+    pub policy: Policy,
+    /// Ways whose accept was refused, and which are then declined.
+    pub declined: Vec<usize>,
+}
+
+#[derive(Clone, Copy, Debug)]
+pub enum Policy {
+    All,
+    None,
+    /// By the bits of numbers that start here.
+    Random(u64),
+}
+
+impl Plan {
+    pub fn of(policy: Policy) -> Self {
+        Plan { policy, declined: Vec::new() }
+    }
+
+    /// Whether way number `k` of the stream is accepted.
+    pub fn accepts(&self, k: usize) -> bool {
+        let wanted = match self.policy {
+            Policy::All => true,
+            Policy::None => false,
+            Policy::Random(seed) => Random::new(seed ^ (k as u64 + 1) << 20 | 1).below(2) == 0,
+        };
+        wanted && !self.declined.contains(&k)
+    }
+}
+
+/// What a stream delivers, one behind the other.
+pub enum Event {
+    Point(Point),
+    Head(Head),
+    Way(Way),
+}
+
+/// The events of a stream, and how it ends: 0, sub file and water mark, or a refusal.
+pub struct Script {
+    pub plan: Plan,
+    pub events: Vec<Event>,
+    pub end: Answer,
+    /// Whether the stream opens; if not, its end is the refusal.
+    pub opens: bool,
+    /// The places of its texts, in their order.
+    pub texts: Vec<u64>,
+    heads: usize,
+}
+
+impl Script {
+    /// What must come of a stream at a zoom.
+    pub fn of(
+        check: &mut Check,
+        file: &mut MapFile<Source>,
+        at: &Address,
+        zoom: u8,
+        plan: &Plan,
+    ) -> Checked<Self> {
+        let opened = Opened::of(file);
+        let mut model = Script::new(plan);
+        let Port { answer, parting, texts } = opened.stream(at, zoom, &mut model);
+        (model.end, model.texts) = (answer, texts);
+        model.opens = opened.unopened(at).is_none();
+        if let Some(parting) = parting {
+            check.settle(Reason::Tile(parting.cause));
+            model.same_before(file, at, zoom, &parting)?;
+            return Ok(model);
+        }
+        let mut rust = Script::new(plan);
+        rust.visit(file, at, zoom)?;
+        (rust.opens, rust.texts) = (model.opens, model.texts);
+        rust.events.iter_mut().zip(model.events).for_each(|(rust, model)| rust.complete(model));
+        Ok(rust)
+    }
+
+    fn visit(&mut self, file: &mut MapFile<Source>, at: &Address, zoom: u8) -> Checked {
+        grid::lend(at.grid);
+        self.end = caught(|| rust::visit(file, at, zoom, self))?;
+        Ok(())
+    }
+
+    /// What the model delivers before a bad number is also the Rust's: it is refused there, by 1, if the
+    /// map ends there. A map read backwards would be refused earlier.
+    fn same_before(
+        &self,
+        file: &mut MapFile<Source>,
+        at: &Address,
+        zoom: u8,
+        parting: &Parting,
+    ) -> Checked {
+        let map = file.reader.map();
+        let numbers = matches!(parting.cause, Cause::Number | Cause::Coordinate);
+        let Some(front) = usize::try_from(parting.place).ok().and_then(|end| map.get(..end)) else {
+            return Ok(());
+        };
+        if !numbers || !parting.untouched {
+            return Ok(());
+        }
+        file.reader = Source::new(front);
+        let mut rust = Script::new(&self.plan);
+        let visited = rust.visit(file, at, zoom);
+        file.reader = Source::new(map);
+        visited?;
+        let same = |(rust, model): (&Event, &Event)| rust.is(model);
+        let all = rust.events.len() == self.events.len() && rust.end == [1];
+        if all && rust.events.iter().zip(&self.events).all(same) {
+            return Ok(());
+        }
+        Err(format!("before {} the Rust and the model deliver other features", parting.place))
+    }
+
+    fn new(plan: &Plan) -> Self {
+        let (events, end, texts) = (Vec::new(), Answer::new(), Vec::new());
+        Script { plan: plan.clone(), events, end, opens: false, texts, heads: 0 }
+    }
+}
+
+impl Event {
+    /// Whether it is what the model has, but for what the Rust does not say in a stream.
+    fn is(&self, model: &Event) -> bool {
+        match (self, model) {
+            (Event::Point(rust), Event::Point(model)) => {
+                *rust == Point { signature: None, ..model.clone() }
+            }
+            (Event::Head(rust), Event::Head(model)) => {
+                rust.bitmap == model.bitmap && rust.ids == model.ids
+            }
+            (Event::Way(rust), Event::Way(model)) => {
+                let nodes = |way: &Way| -> Vec<_> {
+                    way.blocks.iter().map(|block| block.nodes.clone()).collect()
+                };
+                let fields = |way: &Way| Way {
+                    signature: None,
+                    double: false,
+                    blocks: Vec::new(),
+                    ..way.clone()
+                };
+                nodes(rust) == nodes(model) && fields(rust) == fields(model)
+            }
+            _ => false,
+        }
+    }
+
+    /// The Rust says a layer only of an accepted way.
+    fn complete(&mut self, model: Event) {
+        if let (Event::Head(rust), Event::Head(model)) = (self, model) {
+            rust.layer = model.layer;
+        }
+    }
+}
+
+impl Delivery for Script {
+    fn point(&mut self, point: Point) {
+        self.events.push(Event::Point(point));
+    }
+
+    fn head(&mut self, head: Head) -> bool {
+        let accepts = self.plan.accepts(self.heads);
+        self.heads += 1;
+        self.events.push(Event::Head(head));
+        accepts
+    }
+
+    fn way(&mut self, way: Way) {
+        self.events.push(Event::Way(way));
+    }
+}

@@ -1,0 +1,356 @@
+//! Our reader's calls. What each word is, include/mapsforge.h says. Every array holds a pattern before
+//! the call, so that a word that the library does not write shows.
+
+use mapsforge::sys;
+
+use crate::tiles::Address;
+
+/// What stands in words, degrees and lists before a call.
+pub const WORD: u64 = 0xA5A5_0F0F_5A5A_F0F0;
+pub const BYTE: u8 = 0xA5;
+
+/// A float that no map gives.
+pub fn degree() -> f64 {
+    f64::from_bits(WORD)
+}
+
+/// The state of a stream.
+pub type State = [u64; 7];
+/// What `stream_next` needs of the header.
+pub type Layout = [u64; 5];
+
+/// The answer of a call: 0 or the number of a refusal, and its words.
+#[derive(Clone, Copy)]
+pub struct Got<const N: usize> {
+    pub number: u64,
+    pub words: [u64; N],
+}
+
+impl<const N: usize> Got<N> {
+    fn of(call: impl FnOnce(&mut [u64; N]) -> u64) -> Self {
+        let mut words = [WORD; N];
+        let number = call(&mut words);
+        Got { number, words }
+    }
+}
+
+/// The number alone, of calls whose refusals have no values: with a word that is not 0, a number that no
+/// call has.
+fn bare(got: Got<6>) -> u64 {
+    if got.words == [0; 6] {
+        got.number
+    } else {
+        u64::MAX
+    }
+}
+
+pub struct Open {
+    pub got: Got<34>,
+    pub degrees: [f64; 6],
+    pub layout: Layout,
+}
+
+pub fn open(map: &[u8]) -> Open {
+    let (mut degrees, mut layout) = ([degree(); 6], [WORD; 5]);
+    // SAFETY: each call lends what include/mapsforge.h asks for, and nothing of it overlaps
+    let got = Got::of(|words| unsafe {
+        sys::mapsforge_open(map.as_ptr(), map.len(), words, &mut degrees, &mut layout)
+    });
+    Open { got, degrees, layout }
+}
+
+pub fn interval(map: &[u8], sub_file: usize) -> Got<12> {
+    // SAFETY: as above
+    Got::of(|words| unsafe { sys::mapsforge_interval(map.as_ptr(), map.len(), sub_file, words) })
+}
+
+pub fn sub_file(map: &[u8], zoom: u8) -> Got<8> {
+    // SAFETY: as above
+    Got::of(|words| unsafe { sys::mapsforge_sub_file(map.as_ptr(), map.len(), zoom, words) })
+}
+
+/// Tag `k` of a table that starts at a place and has so many tags.
+pub fn tag(map: &[u8], [start, count]: [u64; 2], k: usize) -> Got<10> {
+    // SAFETY: as above
+    Got::of(|words| unsafe {
+        sys::mapsforge_tag(map.as_ptr(), map.len(), start as usize, count as usize, k, words)
+    })
+}
+
+pub fn text(text: &[u8], buffer: &mut [u8]) -> Got<7> {
+    // SAFETY: as above
+    Got::of(|words| unsafe {
+        sys::mapsforge_text(text.as_ptr(), text.len(), buffer.as_mut_ptr(), buffer.len(), words)
+    })
+}
+
+pub fn tile_count(map: &[u8], at: &Address) -> Got<8> {
+    let Address { sub_file, grid, .. } = *at;
+    // SAFETY: as above
+    Got::of(|words| unsafe {
+        sys::mapsforge_tile_count(
+            map.as_ptr(),
+            map.len(),
+            sub_file as usize,
+            grid.x_min,
+            grid.y_min,
+            grid.x_max,
+            grid.y_max,
+            words,
+        )
+    })
+}
+
+pub fn tile_index(map: &[u8], at: &Address, [x, y]: [i32; 2]) -> Got<8> {
+    let Address { sub_file, grid, .. } = *at;
+    // SAFETY: as above
+    Got::of(|words| unsafe {
+        sys::mapsforge_tile_index(
+            map.as_ptr(),
+            map.len(),
+            sub_file as usize,
+            grid.x_min,
+            grid.y_min,
+            grid.x_max,
+            grid.y_max,
+            x,
+            y,
+            words,
+        )
+    })
+}
+
+pub fn index_entry(map: &[u8], at: &Address) -> Got<9> {
+    let Address { sub_file, grid, tile } = *at;
+    // SAFETY: as above
+    Got::of(|words| unsafe {
+        sys::mapsforge_index_entry(
+            map.as_ptr(),
+            map.len(),
+            sub_file as usize,
+            grid.x_min,
+            grid.y_min,
+            grid.x_max,
+            grid.y_max,
+            tile as usize,
+            words,
+        )
+    })
+}
+
+pub fn column(longitude: f64, zoom: u8) -> (u64, i64) {
+    let mut column = [WORD as i64];
+    // SAFETY: as above
+    let got =
+        Got::of(|words| unsafe { sys::mapsforge_column(longitude, zoom, words, &mut column) });
+    (bare(got), column[0])
+}
+
+pub fn longitude(column: u32, zoom: u8) -> (u64, f64) {
+    let mut longitude = [degree()];
+    // SAFETY: as above
+    let got =
+        Got::of(|words| unsafe { sys::mapsforge_longitude(column, zoom, words, &mut longitude) });
+    (bare(got), longitude[0])
+}
+
+pub fn stream_open(map: &[u8], at: &Address, zoom: u8, state: &mut State) -> Got<6> {
+    let Address { sub_file, grid, tile } = *at;
+    // SAFETY: as above
+    Got::of(|words| unsafe {
+        sys::mapsforge_stream_open(
+            map.as_ptr(),
+            map.len(),
+            sub_file as usize,
+            grid.x_min,
+            grid.y_min,
+            grid.x_max,
+            grid.y_max,
+            tile as usize,
+            zoom,
+            state,
+            words,
+        )
+    })
+}
+
+/// A point, a way's head or the end.
+pub struct Next {
+    pub got: Got<21>,
+    pub signed: [i64; 2],
+    pub degrees: [f64; 2],
+    pub ids: [u64; 15],
+}
+
+pub fn stream_next(map: &[u8], layout: &Layout, state: &mut State) -> Next {
+    let (mut signed, mut degrees, mut ids) = ([WORD as i64; 2], [degree(); 2], [WORD; 15]);
+    // SAFETY: as above
+    let got = Got::of(|words| unsafe {
+        let (signed, degrees, ids) = (&mut signed, &mut degrees, &mut ids);
+        sys::mapsforge_stream_next(
+            map.as_ptr(),
+            map.len(),
+            layout,
+            state,
+            words,
+            signed,
+            degrees,
+            ids,
+        )
+    });
+    Next { got, signed, degrees, ids }
+}
+
+/// The fronts of three lists that are lent.
+pub struct Nodes<'a> {
+    pub counts: &'a mut [u64],
+    pub latitudes: &'a mut [f64],
+    pub longitudes: &'a mut [f64],
+}
+
+/// A way's body.
+pub struct Accept {
+    pub got: Got<18>,
+    pub degrees: [f64; 2],
+}
+
+pub fn stream_accept(map: &[u8], state: &mut State, nodes: Nodes) -> Accept {
+    let Nodes { counts, latitudes, longitudes } = nodes;
+    let mut degrees = [degree(); 2];
+    // SAFETY: as above
+    let got = Got::of(|words| unsafe {
+        sys::mapsforge_stream_accept(
+            map.as_ptr(),
+            map.len(),
+            state,
+            counts.as_mut_ptr(),
+            counts.len(),
+            latitudes.as_mut_ptr(),
+            latitudes.len(),
+            longitudes.as_mut_ptr(),
+            longitudes.len(),
+            words,
+            &mut degrees,
+        )
+    });
+    Accept { got, degrees }
+}
+
+pub fn stream_decline(state: &mut State) -> u64 {
+    // SAFETY: as above
+    bare(Got::of(|words| unsafe { sys::mapsforge_stream_decline(state, words) }))
+}
+
+/// A collected tile's words, and its zoom table.
+pub struct Collect {
+    pub got: Got<14>,
+    pub points: [u64; 256],
+    pub ways: [u64; 256],
+}
+
+pub fn collect(map: &[u8], at: &Address) -> Collect {
+    let Address { sub_file, grid, tile } = *at;
+    let (mut points, mut ways) = ([WORD; 256], [WORD; 256]);
+    // SAFETY: as above
+    let got = Got::of(|words| unsafe {
+        sys::mapsforge_collect(
+            map.as_ptr(),
+            map.len(),
+            sub_file as usize,
+            grid.x_min,
+            grid.y_min,
+            grid.x_max,
+            grid.y_max,
+            tile as usize,
+            words,
+            &mut points,
+            &mut ways,
+        )
+    });
+    Collect { got, points, ways }
+}
+
+/// All that is lent to a fetch.
+pub struct Lists<'a> {
+    pub nodes: Nodes<'a>,
+    pub initial_latitudes: &'a mut [f64],
+    pub initial_longitudes: &'a mut [f64],
+    pub buffer: &'a mut [u8],
+}
+
+/// A fetched feature.
+pub struct Fetch {
+    pub got: Got<35>,
+    pub signed: [i64; 2],
+    pub degrees: [f64; 2],
+    pub ids: [u64; 15],
+    pub tags: [u64; 75],
+}
+
+pub fn fetch(map: &[u8], at: &Address, feature: u64, lists: Lists) -> Fetch {
+    let Address { sub_file, grid, tile } = *at;
+    let Lists { nodes, initial_latitudes, initial_longitudes, buffer } = lists;
+    let Nodes { counts, latitudes, longitudes } = nodes;
+    let (mut signed, mut degrees) = ([WORD as i64; 2], [degree(); 2]);
+    let (mut ids, mut tags) = ([WORD; 15], [WORD; 75]);
+    // SAFETY: as above
+    let got = Got::of(|words| unsafe {
+        sys::mapsforge_fetch(
+            map.as_ptr(),
+            map.len(),
+            sub_file as usize,
+            grid.x_min,
+            grid.y_min,
+            grid.x_max,
+            grid.y_max,
+            tile as usize,
+            feature,
+            counts.as_mut_ptr(),
+            counts.len(),
+            latitudes.as_mut_ptr(),
+            latitudes.len(),
+            longitudes.as_mut_ptr(),
+            longitudes.len(),
+            initial_latitudes.as_mut_ptr(),
+            initial_latitudes.len(),
+            initial_longitudes.as_mut_ptr(),
+            initial_longitudes.len(),
+            buffer.as_mut_ptr(),
+            buffer.len(),
+            words,
+            &mut signed,
+            &mut degrees,
+            &mut ids,
+            &mut tags,
+        )
+    });
+    Fetch { got, signed, degrees, ids, tags }
+}
+
+pub fn measure_way_data(map: &[u8], at: usize, data_blocks: u64, measured: &mut [u64]) -> u64 {
+    let (list, length) = (measured.as_mut_ptr(), measured.len());
+    // SAFETY: as above
+    unsafe {
+        sys::mapsforge_measure_way_data(map.as_ptr(), map.len(), at, data_blocks, list, length)
+    }
+}
+
+pub fn read_way_data(map: &[u8], at: usize, data_blocks: u64, double: bool, nodes: Nodes) -> u64 {
+    let Nodes { counts, latitudes, longitudes } = nodes;
+    // SAFETY: as above
+    unsafe {
+        sys::mapsforge_read_way_data(
+            map.as_ptr(),
+            map.len(),
+            at,
+            data_blocks,
+            double,
+            counts.as_mut_ptr(),
+            counts.len(),
+            latitudes.as_mut_ptr(),
+            latitudes.len(),
+            longitudes.as_mut_ptr(),
+            longitudes.len(),
+        )
+    }
+}

@@ -1,0 +1,272 @@
+//! Streams, with lists that are too short and calls out of turn thrown in.
+
+use mapsforge_rs::types::MapFile;
+
+use super::check::{front, Call, Check, Checked};
+use super::collected::{padded, placed};
+use super::known::{Event, Plan, Script};
+use super::lent::{suffice, Fronts, Lengths, Lent};
+use super::library::{self, Accept, Layout, Next, State, WORD};
+use crate::answer::Answer;
+use crate::random::Random;
+use crate::source::Source;
+use crate::tiles::feature::{Head, Point, Way};
+use crate::tiles::Address;
+
+/// A tile's stream at a zoom, and what to call at random beside it.
+pub struct Question<'a> {
+    pub map: &'a [u8],
+    pub layout: Layout,
+    pub at: Address,
+    pub zoom: u8,
+    /// One in so many places has a call that must be refused.
+    pub refused_calls: usize,
+}
+
+/// A run of our stream.
+struct Run<'a, 'b> {
+    question: &'a Question<'a>,
+    state: State,
+    check: &'b mut Check,
+    lent: &'b mut Lent,
+    random: &'b mut Random,
+    /// The places of the stream's texts.
+    texts: Vec<u64>,
+    /// How many texts came so far.
+    text: usize,
+}
+
+/// Streams a tile by a plan to its end.
+pub fn stream(
+    check: &mut Check,
+    lent: &mut Lent,
+    file: &mut Result<MapFile<Source>, Answer>,
+    question: &Question,
+    plan: &Plan,
+    random: &mut Random,
+) -> Checked {
+    let script = match file {
+        Ok(file) => Ok(Script::of(check, file, &question.at, question.zoom, plan)?),
+        Err(refusal) => Err(refusal.clone()),
+    };
+    let (state, texts) = ([WORD; 7], Vec::new());
+    let mut run = Run { question, state, check, lent, random, texts, text: 0 };
+    let script = match script {
+        Ok(script) => script,
+        Err(refusal) => return run.unopened(&refusal),
+    };
+    if !script.opens {
+        return run.unopened(&script.end);
+    }
+    let opened = library::stream_open(question.map, &question.at, question.zoom, &mut run.state);
+    run.check.got(Call::StreamOpen, &opened, 0, &[0; 6])?;
+    let file = file.as_mut().expect("it has a script");
+    run.all(file, script)
+}
+
+impl Run<'_, '_> {
+    /// "On a refusal the state keeps its words."
+    fn unopened(mut self, refusal: &Answer) -> Checked {
+        let Question { map, at, zoom, .. } = self.question;
+        let ours = library::stream_open(map, at, *zoom, &mut self.state);
+        self.check.refused(Call::StreamOpen, &ours, refusal)?;
+        self.check.words("the state of a stream that does not open", &self.state, &[WORD; 7])
+    }
+
+    /// All events, and the end twice.
+    fn all(&mut self, file: &mut MapFile<Source>, mut script: Script) -> Checked {
+        let (mut at, mut heads) = (0, 0);
+        self.texts = std::mem::take(&mut script.texts);
+        while let Some(event) = script.events.get(at) {
+            self.out_of_turn()?;
+            at += 1;
+            let head = match event {
+                Event::Point(point) => {
+                    self.point(point)?;
+                    continue;
+                }
+                Event::Head(head) => head,
+                Event::Way(_) => return Err("the Rust gives a way without a head".into()),
+            };
+            self.head(head)?;
+            self.next_while_waiting()?;
+            heads += 1;
+            if !script.plan.accepts(heads - 1) {
+                self.decline()?;
+                continue;
+            }
+            match script.events.get(at) {
+                Some(Event::Way(way)) => {
+                    same_head(head, way)?;
+                    self.accept(way)?;
+                    at += 1;
+                }
+                // the way cannot be decoded: it still waits, and can be declined
+                _ => {
+                    self.refused_accepts(&script.end)?;
+                    let mut plan = script.plan.clone();
+                    plan.declined.push(heads - 1);
+                    let Question { at: tile, zoom, .. } = self.question;
+                    script = Script::of(self.check, file, tile, *zoom, &plan)?;
+                    self.texts = std::mem::take(&mut script.texts);
+                    self.decline()?;
+                }
+            }
+        }
+        self.out_of_turn()?;
+        self.end(&script.end)?;
+        self.out_of_turn()?;
+        self.end(&script.end)
+    }
+
+    fn next(&mut self) -> (Next, State) {
+        let before = self.state;
+        let Question { map, layout, .. } = self.question;
+        (library::stream_next(map, layout, &mut self.state), before)
+    }
+
+    /// A streamed feature has no signature.
+    fn point(&mut self, point: &Point) -> Checked {
+        let (ours, _) = self.next();
+        let mut words = [0; 21];
+        words[7] = point.ids.len() as u64;
+        self.parts(&mut words, 11, &point.name)?;
+        self.parts(&mut words, 14, &point.house_number)?;
+        words[17] = u64::from(point.elevation.is_some());
+        self.check.got(Call::StreamNext, &ours.got, 0, &words)?;
+        let metres = i64::from(point.elevation.unwrap_or(0));
+        self.check.same("a point's layer", ours.signed, [point.layer as i64 - 5, metres])?;
+        self.check.floats("a point's position", &ours.degrees, &point.position)?;
+        self.check.words("a point's ids", &ours.ids, &padded::<15>(&point.ids))
+    }
+
+    fn head(&mut self, head: &Head) -> Checked {
+        let (ours, _) = self.next();
+        let layer = head.layer.ok_or("the model has no such head")?;
+        let mut words = [0; 21];
+        words[6] = 1;
+        words[7] = head.ids.len() as u64;
+        words[18] = u64::from(head.bitmap);
+        self.check.got(Call::StreamNext, &ours.got, 0, &words)?;
+        self.check.same("a head's layer", ours.signed, [layer as i64 - 5, 0])?;
+        self.check.floats("a head's position", &ours.degrees, &[0.0; 2])?;
+        self.check.words("a head's ids", &ours.ids, &padded::<15>(&head.ids))
+    }
+
+    /// The end with sub file and water mark, or the refusal, which leaves the stream where it was.
+    fn end(&mut self, end: &Answer) -> Checked {
+        let (ours, before) = self.next();
+        let mut words = front(&end[1..]);
+        if let [0, sub_file, water] = end[..] {
+            words = [0; 21];
+            (words[6], words[19], words[20]) = (2, sub_file, water);
+        }
+        self.check.got(Call::StreamNext, &ours.got, end[0], &words)?;
+        self.nothing(&ours)?;
+        self.check.words("the state at the end", &self.state, &before)
+    }
+
+    fn nothing(&mut self, ours: &Next) -> Checked {
+        self.check.same("no layer", ours.signed, [0; 2])?;
+        self.check.floats("no position", &ours.degrees, &[0.0; 2])?;
+        self.check.words("no ids", &ours.ids, &[0; 15])
+    }
+
+    /// At random: next while a way waits.
+    fn next_while_waiting(&mut self) -> Checked {
+        if self.random.below(self.question.refused_calls) > 0 {
+            return Ok(());
+        }
+        let (ours, before) = self.next();
+        self.check.refused(Call::StreamNext, &ours.got, &[16])?;
+        self.nothing(&ours)?;
+        self.check.words("the state of a next out of turn", &self.state, &before)
+    }
+
+    /// At random: accept and decline while no way waits.
+    fn out_of_turn(&mut self) -> Checked {
+        if self.random.below(self.question.refused_calls) > 0 {
+            return Ok(());
+        }
+        let lengths = self.random.lengths(&[1, 2, 2, 0, 0, 0]);
+        self.refused_accept(lengths, &[16])?;
+        let before = self.state;
+        let number = library::stream_decline(&mut self.state);
+        self.check.call(Call::StreamDecline, number);
+        self.check.same("a decline out of turn", number, 16)?;
+        self.check.words("the state of a decline out of turn", &self.state, &before)
+    }
+
+    fn decline(&mut self) -> Checked {
+        let number = library::stream_decline(&mut self.state);
+        self.check.call(Call::StreamDecline, number);
+        self.check.same("a decline", number, 0)
+    }
+
+    fn accept(&mut self, way: &Way) -> Checked {
+        let fronts = Fronts::of_way(way);
+        let needed = fronts.lengths();
+        let lengths = self.random.lengths(&needed);
+        if !suffice(&lengths, &needed) {
+            let lists = needed.map(|length| length as u64);
+            self.refused_accept(lengths, &[&[15], &lists[..]].concat())?;
+            self.next_while_waiting()?;
+        }
+        let lengths = self.random.enough(&needed);
+        let ours = self.call_accept(lengths);
+        self.body(&ours, way, &needed)?;
+        self.lent.check(self.check, lengths, &fronts)
+    }
+
+    fn body(&mut self, ours: &Accept, way: &Way, needed: &Lengths) -> Checked {
+        let mut words = [0; 18];
+        (words[6], words[7]) = (needed[0] as u64, needed[1] as u64);
+        self.parts(&mut words, 8, &way.name)?;
+        self.parts(&mut words, 11, &way.house_number)?;
+        self.parts(&mut words, 14, &way.reference)?;
+        words[17] = u64::from(way.label.is_some());
+        self.check.got(Call::StreamAccept, &ours.got, 0, &words)?;
+        self.check.floats("a label position", &ours.degrees, &way.label.unwrap_or_default())
+    }
+
+    /// A way that cannot be decoded is refused again and again, whatever is lent.
+    fn refused_accepts(&mut self, refusal: &Answer) -> Checked {
+        for _ in 0..2 {
+            let lengths = self.random.lengths(&[1, 2, 2, 0, 0, 0]);
+            self.refused_accept(lengths, refusal)?;
+            self.next_while_waiting()?;
+        }
+        Ok(())
+    }
+
+    /// "A refused call leaves the way waiting and the lists alone."
+    fn refused_accept(&mut self, lengths: Lengths, refusal: &[u64]) -> Checked {
+        let before = self.state;
+        let ours = self.call_accept(lengths);
+        self.check.refused(Call::StreamAccept, &ours.got, refusal)?;
+        self.check.floats("a refused accept's label", &ours.degrees, &[0.0; 2])?;
+        self.check.words("the state of a refused accept", &self.state, &before)?;
+        self.lent.check(self.check, lengths, &Fronts::default())
+    }
+
+    fn call_accept(&mut self, lengths: Lengths) -> Accept {
+        library::stream_accept(self.question.map, &mut self.state, self.lent.lists(lengths).nodes)
+    }
+
+    /// The three words of a part, from the word `at` on.
+    fn parts(&mut self, words: &mut [u64], at: usize, text: &Option<Vec<u8>>) -> Checked {
+        let place = text.as_ref().and_then(|_| self.texts.get(self.text).copied());
+        self.text += usize::from(text.is_some());
+        let part = placed(self.check, self.question.map, text, place)?;
+        words[at..at + 3].copy_from_slice(&part);
+        Ok(())
+    }
+}
+
+/// The head's layer is the model's; the Rust says it with the way.
+fn same_head(head: &Head, way: &Way) -> Checked {
+    if head.layer == Some(way.layer) {
+        return Ok(());
+    }
+    Err(format!("a way's layer + 5: the Rust's {}, the model's {:?}", way.layer, head.layer))
+}

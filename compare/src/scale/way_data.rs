@@ -1,0 +1,115 @@
+//! The data of a way alone, measured and read, from any place of a map.
+
+use mapsforge_rs::io::ByteSource;
+use mapsforge_rs::utils::read_vbe_u_int;
+
+use super::check::{caught, Call, Check, Checked, Reason};
+use super::lent::{suffice, Fronts, Lent};
+use super::library;
+use crate::answer::{refused, Answer};
+use crate::differences::tile::Opened;
+use crate::random::Random;
+use crate::source::Source;
+
+/// Node counts, latitudes and longitudes, and the place behind them; or the refusal.
+type Data = Result<(Fronts, u64), Answer>;
+
+/// So many data blocks from a place on, with one of the two forms of deltas.
+#[derive(Clone, Copy)]
+pub struct Question {
+    pub at: usize,
+    pub data_blocks: u64,
+    pub double: bool,
+}
+
+/// Measures and reads, with lists of random lengths.
+pub fn compare(
+    check: &mut Check,
+    lent: &mut Lent,
+    opened: Opened,
+    question: Question,
+    random: &mut Random,
+) -> Checked {
+    let map = opened.map;
+    let known = known(check, opened, question)?;
+    measure(check, lent, map, question, &known, random)?;
+    read(check, lent, map, question, &known, random)
+}
+
+/// The Rust's, by its own readers of numbers and nodes; where it parts, the model's.
+fn known(check: &mut Check, opened: Opened, question: Question) -> Checked<Data> {
+    let Question { at, data_blocks, double } = question;
+    let (model, parting) = opened.way_data(at, data_blocks, double);
+    if let Some(parting) = parting {
+        check.settle(Reason::Tile(parting.cause));
+        return Ok(model.map(|data| (Fronts::of_blocks(&data.blocks), data.end)));
+    }
+    caught(|| rust(opened.map, question).map_err(|error| refused(&error)))
+}
+
+fn rust(map: &[u8], question: Question) -> mapsforge_rs::Result<(Fronts, u64)> {
+    let mut source = Source::new(map);
+    source.seek_to(question.at as u64)?;
+    let (mut fronts, mut nodes) = (Fronts::default(), Vec::new());
+    for _ in 0..question.data_blocks {
+        for _ in 0..read_vbe_u_int(&mut source)? {
+            let count = read_vbe_u_int(&mut source)?;
+            mapsforge_rs::decode_way_nodes(&mut source, count, question.double, &mut nodes)?;
+            fronts.counts.push(nodes.len() as u64);
+            fronts.floats[0].extend(nodes.iter().map(|node| node.latitude));
+            fronts.floats[1].extend(nodes.iter().map(|node| node.longitude));
+        }
+    }
+    Ok((fronts, source.at()))
+}
+
+/// Blocks, nodes and the place behind them, to the front of a list of at least three entries.
+fn measure(
+    check: &mut Check,
+    lent: &mut Lent,
+    map: &[u8],
+    question: Question,
+    known: &Data,
+    random: &mut Random,
+) -> Checked {
+    let lengths = random.lengths(&[3, 0, 0, 0, 0, 0]);
+    let measured = lent.lists(lengths).nodes.counts;
+    let number = library::measure_way_data(map, question.at, question.data_blocks, measured);
+    check.call(Call::MeasureWayData, number);
+    let mut written = Fronts::default();
+    let expected = match known {
+        Err(refusal) => refusal[0],
+        Ok(_) if lengths[0] < 3 => 15,
+        Ok((fronts, end)) => {
+            let [blocks, nodes, ..] = fronts.lengths().map(|length| length as u64);
+            written.counts = vec![blocks, nodes, *end];
+            0
+        }
+    };
+    check.same("a way's data, measured", number, expected)?;
+    lent.check(check, lengths, &written)
+}
+
+fn read(
+    check: &mut Check,
+    lent: &mut Lent,
+    map: &[u8],
+    question: Question,
+    known: &Data,
+    random: &mut Random,
+) -> Checked {
+    let nothing = Fronts::default();
+    let needed = known.as_ref().map_or([1, 2, 2, 0, 0, 0], |(fronts, _)| fronts.lengths());
+    let lengths = random.lengths(&needed);
+    let Question { at, data_blocks, double } = question;
+    let lists = lent.lists(lengths).nodes;
+    let number = library::read_way_data(map, at, data_blocks, double, lists);
+    check.call(Call::ReadWayData, number);
+    let (expected, written) = match known {
+        Err(refusal) => (refusal[0], &nothing),
+        Ok(_) if !suffice(&lengths, &needed) => (15, &nothing),
+        Ok((fronts, _)) => (0, fronts),
+    };
+    check.same("a way's data, read", number, expected)?;
+    lent.check(check, lengths, written)
+}

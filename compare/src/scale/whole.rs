@@ -1,0 +1,132 @@
+//! Undamaged maps, compared in full.
+
+use std::collections::BTreeSet;
+
+use super::bases::Base;
+use super::check::{Check, Checked};
+use super::known::{self, Plan, Policy};
+use super::lent::Lent;
+use super::opening::{self, Opening, Said};
+use super::streamed::{self, Question};
+use super::{collected, indexed};
+use crate::differences::header_parts;
+use crate::random::Random;
+use crate::tiles::Address;
+
+/// Up to so many tiles of a grid all entries and numbers are compared; else so many of them.
+const ALL_TILES: u64 = 1 << 13;
+const SOME_TILES: u64 = 16;
+/// One in so many places of a stream has a call that must be refused.
+const REFUSED_CALLS: usize = 6;
+
+/// Header, index and all tiles of a map.
+pub fn compare(check: &mut Check, lent: &mut Lent, base: &Base, random: &mut Random) -> Checked {
+    let map = &base.map[..];
+    let mut opening = opening::of(check, map)?;
+    let said = Said::of(map, &opening)?;
+    header(check, map, &opening, &said)?;
+    for text in header_parts(map).iter().flat_map(|parts| &parts.texts) {
+        indexed::text(check, lent, &map[text.clone()], random)?;
+    }
+    index(check, map, &mut opening, &base.tiles)?;
+    for at in &base.tiles {
+        let place = |why| format!("sub file {}, tile {}: {why}", at.sub_file, at.tile);
+        tile(check, lent, map, &mut opening, &said, at, random).map_err(place)?;
+    }
+    Ok(())
+}
+
+fn header(check: &mut Check, map: &[u8], opening: &Opening, said: &Said) -> Checked {
+    said.check(check, map)?;
+    if let Ok(file) = opening {
+        opening::tags(check, map, said, &file.header)?;
+    }
+    let intervals =
+        opening.as_ref().map_or(0, |file| file.header.zoom_interval_configuration.len());
+    for sub_file in (0..=intervals).chain([255, usize::MAX]) {
+        opening::interval(check, map, opening, sub_file)?;
+    }
+    (0..=u8::MAX).try_for_each(|zoom| opening::sub_file(check, map, opening, zoom))
+}
+
+/// Count, numbers and entries of each grid that is asked for.
+fn index(check: &mut Check, map: &[u8], opening: &mut Opening, tiles: &[Address]) -> Checked {
+    let mut seen = BTreeSet::new();
+    for at in tiles {
+        let Address { sub_file, grid, .. } = *at;
+        if !seen.insert((sub_file, grid.x_min, grid.y_min, grid.x_max, grid.y_max)) {
+            continue;
+        }
+        indexed::count(check, map, opening, at)?;
+        let count = grid.tiles().map_or(1, u64::from);
+        let first = if count > ALL_TILES { SOME_TILES } else { count };
+        for tile in (0..=first).chain([count - 1, count, u64::MAX]) {
+            indexed::entry(check, map, opening, &Address { tile, ..*at })?;
+        }
+        for place in places(at) {
+            indexed::tile(check, map, opening, at, place)?;
+        }
+    }
+    Ok(())
+}
+
+/// All places of a grid and those around it; of a large one, its corners and those around them.
+fn places(at: &Address) -> Vec<[i32; 2]> {
+    let grid = at.grid;
+    let large = grid.tiles().is_none_or(|tiles| u64::from(tiles) > ALL_TILES);
+    let side = |min: i32, max: i32| -> Vec<i32> {
+        let (before, behind) = (min.saturating_sub(1), max.saturating_add(1));
+        if large {
+            return vec![before, min, max, behind];
+        }
+        (before..=behind).collect()
+    };
+    let rows = side(grid.y_min, grid.y_max);
+    let columns = side(grid.x_min, grid.x_max);
+    columns.iter().flat_map(|&x| rows.iter().map(move |&y| [x, y])).collect()
+}
+
+/// A tile collected, all its features, and its streams at each zoom.
+fn tile(
+    check: &mut Check,
+    lent: &mut Lent,
+    map: &[u8],
+    opening: &mut Opening,
+    said: &Said,
+    at: &Address,
+    random: &mut Random,
+) -> Checked {
+    indexed::entry(check, map, opening, at)?;
+    let tile = match opening {
+        Ok(file) => known::tile(check, file, at)?,
+        Err(refusal) => Err(refusal.clone()),
+    };
+    collected::collect(check, map, at, &tile)?;
+    let features = tile.as_ref().map_or(0, |tile| tile.texts.len() as u64);
+    for k in (0..=features).chain([u64::MAX]) {
+        let feature = |why| format!("feature {k}: {why}");
+        collected::fetch(check, lent, map, at, &tile, k, random).map_err(feature)?;
+    }
+    for zoom in zooms(opening, at) {
+        for policy in [Policy::All, Policy::None, Policy::Random(random.next())] {
+            let (layout, at, refused_calls) = (said.layout, *at, REFUSED_CALLS);
+            let question = Question { map, layout, at, zoom, refused_calls };
+            let place = |why| format!("stream at zoom {zoom}, ways {policy:?}: {why}");
+            streamed::stream(check, lent, opening, &question, &Plan::of(policy), random)
+                .map_err(place)?;
+        }
+    }
+    Ok(())
+}
+
+/// Those of the sub file's interval and one beside it on each side.
+fn zooms(opening: &Opening, at: &Address) -> Vec<u8> {
+    let intervals =
+        opening.as_ref().map_or(&[][..], |file| &file.header.zoom_interval_configuration);
+    let interval = usize::try_from(at.sub_file).ok().and_then(|k| intervals.get(k));
+    interval.map_or(vec![0, u8::MAX], |interval| {
+        let (lowest, highest) = (interval.min_zoom_level, interval.max_zoom_level);
+        let (low, high) = (lowest.min(highest), lowest.max(highest));
+        (low.saturating_sub(1)..=high.saturating_add(1)).collect()
+    })
+}

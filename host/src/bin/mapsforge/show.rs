@@ -1,0 +1,241 @@
+//! `mapsforge show`
+
+use crate::args::{Args, Choice};
+use crate::output::{clean, count, name, position, tile as named};
+use crate::{open, open_map, target, Failure, Outcome};
+use mapsforge::{closed, Feature, Position, Step, SubFile, TilePlace};
+use std::io::{self, Write};
+
+pub const HELP: &str = "\
+mapsforge show MAP TILE [--zoom ZOOM] [--nodes]
+
+The features of a tile: names, tags and positions, in degrees. TILE is SUBFILE:NUMBER,
+SUBFILE:X,Y (at the sub file's base zoom) or ZOOM/X/Y.
+
+    --zoom ZOOM    what a stream delivers at this zoom, instead of the whole tile
+    --nodes        all nodes of the ways, not only the first
+";
+
+pub const OPTIONS: &[Choice] = &[
+    Choice { long: "--zoom", short: Some("-z"), valued: true },
+    Choice { long: "--nodes", short: None, valued: false },
+];
+
+pub fn run(args: &Args, out: &mut impl Write) -> Outcome {
+    if let Some(help) = args.help() {
+        out.write_all(help.as_bytes())?;
+        return Ok(true);
+    }
+    let [path, tile] = args.plain(["a MAP", "a TILE"])?;
+    let zoom: Option<u8> = args.number("--zoom", "a number from 0 to 255")?;
+    let file = open(path)?;
+    let map = open_map(path, &file)?;
+    let (sub_file, place) = target::find(&map, tile)?;
+    let corner = sub_file.corner(place)?;
+    write!(out, "{}", named(&sub_file, place))?;
+    // The entry is refused below, by what reads the tile.
+    if let Ok(entry) = sub_file.entry(place.number) {
+        write!(out, ", byte {}{}", entry.place, if entry.water { ", water" } else { "" })?;
+    }
+    writeln!(out, ", north-western corner {}", position(corner))?;
+    if sub_file.marked_empty(place.number).unwrap_or(false) {
+        writeln!(
+            out,
+            "The tile is marked empty: its entry leads to the next tile, or to the sub file's end."
+        )?;
+        return Ok(true);
+    }
+    let mut shown = Shown { corner, nodes: args.has("--nodes"), out };
+    match zoom {
+        Some(zoom) => streamed(&sub_file, place, zoom, &mut shown)?,
+        None => collected(&sub_file, place, &mut shown)?,
+    }
+    Ok(true)
+}
+
+fn collected<W: Write>(
+    sub_file: &SubFile<'_, '_>,
+    place: TilePlace,
+    shown: &mut Shown<'_, W>,
+) -> Result<(), Failure> {
+    let tile = sub_file.collect(place.number)?;
+    let (points, ways) = (tile.point_count(), tile.way_count());
+    write!(shown.out, "{}, {}", count(points, "point"), count(ways, "way"))?;
+    if let Some(signature) = tile.signature() {
+        write!(shown.out, ", signature {:?}", signature.to_text().trim())?;
+    }
+    writeln!(shown.out)?;
+    if !tile.exact() {
+        writeln!(shown.out, "A way's stored size is wrong: `mapsforge check` says which.")?;
+    }
+    for (number, feature) in tile.features().enumerate() {
+        let number = number as u64;
+        match feature? {
+            Feature::Point(point) => {
+                shown.head("point", number)?;
+                shown.position(point.position)?;
+                shown.texts(point.name, point.house_number, None)?;
+                shown.numbers(point.layer, point.elevation, None)?;
+                // Texts are shown as such, not once more as tags.
+                let tags = point.tags.iter().take(point.tag_ids.len());
+                shown.tags(tags.map(|tag| joined(&tag.key, &tag.value)))?;
+            }
+            Feature::Way(way) => {
+                shown.head("way", number - points)?;
+                let blocks: Vec<_> = way.blocks.iter().map(|block| &block.nodes[..]).collect();
+                shown.first(&blocks)?;
+                shown.texts(way.name, way.house_number, way.reference)?;
+                shown.numbers(way.layer, None, Some(way.bitmap))?;
+                let tags = way.tags.iter().take(way.tag_ids.len());
+                shown.tags(tags.map(|tag| joined(&tag.key, &tag.value)))?;
+                shown.blocks(&blocks, way.label)?;
+            }
+        }
+    }
+    Ok(())
+}
+
+fn joined(key: &str, value: &str) -> String {
+    if value.is_empty() {
+        return key.into();
+    }
+    format!("{key}={value}")
+}
+
+fn streamed<W: Write>(
+    sub_file: &SubFile<'_, '_>,
+    place: TilePlace,
+    zoom: u8,
+    shown: &mut Shown<'_, W>,
+) -> Result<(), Failure> {
+    let mut stream = sub_file.stream(place.number, zoom)?;
+    let interval = sub_file.interval();
+    let clamped = zoom.clamp(interval.min_zoom, interval.max_zoom);
+    writeln!(shown.out, "streamed at zoom {clamped}, all ways accepted")?;
+    let (mut points, mut ways) = (0, 0);
+    loop {
+        match stream.next()? {
+            Step::Point(point) => {
+                shown.head("point", points)?;
+                shown.position(point.position)?;
+                let text = |part: Option<mapsforge::Part<'_>>| part.map(|part| part.to_text());
+                shown.texts(text(point.name), text(point.house_number), None)?;
+                shown.numbers(point.layer, point.elevation, None)?;
+                shown.tags(point.tags().map(|tag| tag.text.to_text()))?;
+                points += 1;
+            }
+            Step::Way(head) => {
+                let body = stream.accept()?;
+                shown.head("way", ways)?;
+                let blocks: Vec<_> = body.blocks.iter().map(|nodes| &nodes[..]).collect();
+                shown.first(&blocks)?;
+                let text = |part: Option<mapsforge::Part<'_>>| part.map(|part| part.to_text());
+                shown.texts(text(body.name), text(body.house_number), text(body.reference))?;
+                shown.numbers(head.layer, None, Some(head.bitmap))?;
+                shown.tags(head.tags().map(|tag| tag.text.to_text()))?;
+                shown.blocks(&blocks, body.label)?;
+                ways += 1;
+            }
+            Step::End(_) => {
+                writeln!(shown.out, "end: {}, {}", count(points, "point"), count(ways, "way"))?;
+                return Ok(());
+            }
+        }
+    }
+}
+
+/// Where features are written to, a line for each.
+struct Shown<'o, W> {
+    corner: Position,
+    nodes: bool,
+    out: &'o mut W,
+}
+
+impl<W: Write> Shown<'_, W> {
+    fn head(&mut self, kind: &str, number: u64) -> io::Result<()> {
+        write!(self.out, "{:<10}", format!("{kind} {number}"))
+    }
+
+    fn position(&mut self, at: Position) -> io::Result<()> {
+        write!(self.out, " {}", position(self.corner.offset(at)))
+    }
+
+    /// A way's first node stands for it.
+    fn first(&mut self, blocks: &[&[Position]]) -> io::Result<()> {
+        match blocks.iter().find_map(|nodes| nodes.first()) {
+            Some(&first) => self.position(first),
+            None => write!(self.out, " no nodes"),
+        }
+    }
+
+    fn texts(
+        &mut self,
+        text: Option<String>,
+        house_number: Option<String>,
+        reference: Option<String>,
+    ) -> io::Result<()> {
+        if let Some(text) = text {
+            write!(self.out, "  {}", name(&text))?;
+        }
+        if let Some(text) = house_number {
+            write!(self.out, "  house number \"{}\"", clean(&text))?;
+        }
+        if let Some(text) = reference {
+            write!(self.out, "  reference \"{}\"", clean(&text))?;
+        }
+        Ok(())
+    }
+
+    fn numbers(
+        &mut self,
+        layer: i8,
+        elevation: Option<i32>,
+        bitmap: Option<u16>,
+    ) -> io::Result<()> {
+        if layer != 0 {
+            write!(self.out, "  layer {layer}")?;
+        }
+        if let Some(elevation) = elevation {
+            write!(self.out, "  elevation {elevation} m")?;
+        }
+        if let Some(bitmap) = bitmap {
+            write!(self.out, "  cells {bitmap:04x}")?;
+        }
+        Ok(())
+    }
+
+    /// The tags end a point's line.
+    fn tags(&mut self, tags: impl Iterator<Item = String>) -> io::Result<()> {
+        for (k, tag) in tags.enumerate() {
+            write!(self.out, "{}{}", if k == 0 { "  " } else { " " }, clean(&tag))?;
+        }
+        writeln!(self.out)
+    }
+
+    /// A way's blocks, in a line of their own.
+    fn blocks(&mut self, blocks: &[&[Position]], label: Option<Position>) -> io::Result<()> {
+        write!(self.out, "{:11}", "")?;
+        for (k, nodes) in blocks.iter().enumerate() {
+            let word = count(nodes.len() as u64, "node");
+            write!(
+                self.out,
+                "{}{word}{}",
+                if k == 0 { "" } else { " + " },
+                if closed(nodes) { " (closed)" } else { "" }
+            )?;
+        }
+        if let (Some(label), Some(first)) = (label, blocks.iter().find_map(|nodes| nodes.first())) {
+            write!(self.out, ", label at {}", position(self.corner.offset(*first).offset(label)))?;
+        }
+        writeln!(self.out)?;
+        if !self.nodes {
+            return Ok(());
+        }
+        for (k, nodes) in blocks.iter().enumerate() {
+            for &at in *nodes {
+                writeln!(self.out, "{:11}block {k}: {}", "", position(self.corner.offset(at)))?;
+            }
+        }
+        Ok(())
+    }
+}

@@ -1,0 +1,446 @@
+//! The library's functions as they are, with slices and arrays for addresses: safe to call with anything.
+//!
+//! include/mapsforge.h says what each word is. Each function gives 0, or the number of a refusal, whose values are then
+//! words 0 to 5 (see [`crate::Refusal::check`]). All `unsafe` code of this crate is in this file.
+//!
+//! ```
+//! use mapsforge::raw;
+//!
+//! // Nothing waits in a stream of zeros: refusal 16.
+//! assert_eq!(raw::stream_decline(&mut [0; 7], &mut [0; 6]), 16);
+//! ```
+//!
+//! Each call is sound for one reason, which holds for every block below unless it says otherwise: a slice or array is
+//! borrowed for the call, at its true length; a written one is borrowed alone, so that no two overlap; an empty slice's
+//! address is aligned and not null; and the library reads and writes nothing else.
+
+use crate::sys;
+use std::ffi::{c_int, c_void};
+use std::fs::File;
+use std::io;
+use std::os::fd::AsRawFd;
+
+/// Opens a map: the header's words and degrees, and the layout that a stream takes.
+pub fn open(
+    map: &[u8],
+    words: &mut [u64; 34],
+    degrees: &mut [f64; 6],
+    layout: &mut [u64; 5],
+) -> u64 {
+    // SAFETY: borrowed for the call, at their lengths.
+    unsafe { sys::mapsforge_open(map.as_ptr(), map.len(), words, degrees, layout) }
+}
+
+/// The zoom interval of a sub file.
+pub fn interval(map: &[u8], sub_file: usize, words: &mut [u64; 12]) -> u64 {
+    // SAFETY: borrowed for the call, at their lengths.
+    unsafe { sys::mapsforge_interval(map.as_ptr(), map.len(), sub_file, words) }
+}
+
+/// The first sub file whose interval has the zoom.
+pub fn sub_file(map: &[u8], zoom: u8, words: &mut [u64; 8]) -> u64 {
+    // SAFETY: borrowed for the call, at their lengths.
+    unsafe { sys::mapsforge_sub_file(map.as_ptr(), map.len(), zoom, words) }
+}
+
+/// Tag k of a table of the header.
+pub fn tag(map: &[u8], start: usize, count: usize, k: usize, words: &mut [u64; 10]) -> u64 {
+    // SAFETY: borrowed for the call, at their lengths.
+    unsafe { sys::mapsforge_tag(map.as_ptr(), map.len(), start, count, k, words) }
+}
+
+/// A text with each ill-formed part replaced by U+FFFD.
+pub fn text(text: &[u8], buffer: &mut [u8], words: &mut [u64; 7]) -> u64 {
+    // SAFETY: borrowed for the call, at their lengths.
+    unsafe {
+        sys::mapsforge_text(text.as_ptr(), text.len(), buffer.as_mut_ptr(), buffer.len(), words)
+    }
+}
+
+/// How many tiles a sub file has. A grid is x_min, y_min, x_max, y_max.
+pub fn tile_count(map: &[u8], sub_file: usize, grid: [i32; 4], words: &mut [u64; 8]) -> u64 {
+    let [x_min, y_min, x_max, y_max] = grid;
+    // SAFETY: borrowed for the call, at their lengths.
+    unsafe {
+        sys::mapsforge_tile_count(
+            map.as_ptr(),
+            map.len(),
+            sub_file,
+            x_min,
+            y_min,
+            x_max,
+            y_max,
+            words,
+        )
+    }
+}
+
+/// The number of a tile.
+pub fn tile_index(
+    map: &[u8],
+    sub_file: usize,
+    grid: [i32; 4],
+    x: i32,
+    y: i32,
+    words: &mut [u64; 8],
+) -> u64 {
+    let [x_min, y_min, x_max, y_max] = grid;
+    // SAFETY: borrowed for the call, at their lengths.
+    unsafe {
+        sys::mapsforge_tile_index(
+            map.as_ptr(),
+            map.len(),
+            sub_file,
+            x_min,
+            y_min,
+            x_max,
+            y_max,
+            x,
+            y,
+            words,
+        )
+    }
+}
+
+/// A tile's entry in the index.
+pub fn index_entry(
+    map: &[u8],
+    sub_file: usize,
+    grid: [i32; 4],
+    tile: usize,
+    words: &mut [u64; 9],
+) -> u64 {
+    let [x_min, y_min, x_max, y_max] = grid;
+    // SAFETY: borrowed for the call, at their lengths.
+    unsafe {
+        sys::mapsforge_index_entry(
+            map.as_ptr(),
+            map.len(),
+            sub_file,
+            x_min,
+            y_min,
+            x_max,
+            y_max,
+            tile,
+            words,
+        )
+    }
+}
+
+/// The column that a longitude lies in.
+pub fn column(longitude: f64, zoom: u8, words: &mut [u64; 6], column: &mut [i64; 1]) -> u64 {
+    // SAFETY: borrowed for the call, at its length.
+    unsafe { sys::mapsforge_column(longitude, zoom, words, column) }
+}
+
+/// The longitude at which a column starts.
+pub fn longitude(column: u32, zoom: u8, words: &mut [u64; 6], longitude: &mut [f64; 1]) -> u64 {
+    // SAFETY: borrowed for the call, at its length.
+    unsafe { sys::mapsforge_longitude(column, zoom, words, longitude) }
+}
+
+/// Opens a stream of a tile at a zoom.
+pub fn stream_open(
+    map: &[u8],
+    sub_file: usize,
+    grid: [i32; 4],
+    tile: usize,
+    zoom: u8,
+    state: &mut [u64; 7],
+    words: &mut [u64; 6],
+) -> u64 {
+    let [x_min, y_min, x_max, y_max] = grid;
+    // SAFETY: borrowed for the call, at their lengths.
+    unsafe {
+        sys::mapsforge_stream_open(
+            map.as_ptr(),
+            map.len(),
+            sub_file,
+            x_min,
+            y_min,
+            x_max,
+            y_max,
+            tile,
+            zoom,
+            state,
+            words,
+        )
+    }
+}
+
+/// The next point, the next way's head or the end.
+pub fn stream_next(
+    map: &[u8],
+    layout: &[u64; 5],
+    state: &mut [u64; 7],
+    words: &mut [u64; 21],
+    signed_words: &mut [i64; 2],
+    degrees: &mut [f64; 2],
+    ids: &mut [u64; 15],
+) -> u64 {
+    // SAFETY: borrowed for the call, at their lengths.
+    unsafe {
+        sys::mapsforge_stream_next(
+            map.as_ptr(),
+            map.len(),
+            layout,
+            state,
+            words,
+            signed_words,
+            degrees,
+            ids,
+        )
+    }
+}
+
+/// Decodes the waiting way.
+pub fn stream_accept(
+    map: &[u8],
+    state: &mut [u64; 7],
+    node_counts: &mut [u64],
+    latitudes: &mut [f64],
+    longitudes: &mut [f64],
+    words: &mut [u64; 18],
+    degrees: &mut [f64; 2],
+) -> u64 {
+    // SAFETY: borrowed for the call, at their lengths.
+    unsafe {
+        sys::mapsforge_stream_accept(
+            map.as_ptr(),
+            map.len(),
+            state,
+            node_counts.as_mut_ptr(),
+            node_counts.len(),
+            latitudes.as_mut_ptr(),
+            latitudes.len(),
+            longitudes.as_mut_ptr(),
+            longitudes.len(),
+            words,
+            degrees,
+        )
+    }
+}
+
+/// Goes past the waiting way, by its stored size.
+pub fn stream_decline(state: &mut [u64; 7], words: &mut [u64; 6]) -> u64 {
+    // SAFETY: borrowed for the call, at its length.
+    unsafe { sys::mapsforge_stream_decline(state, words) }
+}
+
+/// Collects a tile.
+pub fn collect(
+    map: &[u8],
+    sub_file: usize,
+    grid: [i32; 4],
+    tile: usize,
+    words: &mut [u64; 14],
+    points: &mut [u64; 256],
+    ways: &mut [u64; 256],
+) -> u64 {
+    let [x_min, y_min, x_max, y_max] = grid;
+    // SAFETY: borrowed for the call, at their lengths.
+    unsafe {
+        sys::mapsforge_collect(
+            map.as_ptr(),
+            map.len(),
+            sub_file,
+            x_min,
+            y_min,
+            x_max,
+            y_max,
+            tile,
+            words,
+            points,
+            ways,
+        )
+    }
+}
+
+/// The lists and the buffer that [`fetch`] writes to.
+pub struct FetchLists<'a> {
+    /// The blocks' numbers of nodes.
+    pub node_counts: &'a mut [u64],
+    /// The latitudes of all nodes.
+    pub latitudes: &'a mut [f64],
+    /// Their longitudes.
+    pub longitudes: &'a mut [f64],
+    /// The blocks' initial latitudes.
+    pub initial_latitudes: &'a mut [f64],
+    /// Their initial longitudes.
+    pub initial_longitudes: &'a mut [f64],
+    /// The texts.
+    pub buffer: &'a mut [u8],
+}
+
+/// The words that [`fetch`] writes.
+#[derive(Clone, Debug)]
+pub struct FetchWords {
+    /// As mapsforge.h has them.
+    pub words: [u64; 35],
+    /// The layer and the elevation.
+    pub signed_words: [i64; 2],
+    /// The position, or the label position.
+    pub degrees: [f64; 2],
+    /// The tag ids.
+    pub ids: [u64; 15],
+    /// Five words for each tag.
+    pub tags: [u64; 75],
+}
+
+impl Default for FetchWords {
+    fn default() -> FetchWords {
+        FetchWords {
+            words: [0; 35],
+            signed_words: [0; 2],
+            degrees: [0.0; 2],
+            ids: [0; 15],
+            tags: [0; 75],
+        }
+    }
+}
+
+/// Fetches a feature of a collected tile: points from 0, ways behind them.
+pub fn fetch(
+    map: &[u8],
+    sub_file: usize,
+    grid: [i32; 4],
+    tile: usize,
+    feature: u64,
+    lists: FetchLists<'_>,
+    got: &mut FetchWords,
+) -> u64 {
+    let [x_min, y_min, x_max, y_max] = grid;
+    // SAFETY: borrowed for the call, at their lengths.
+    unsafe {
+        sys::mapsforge_fetch(
+            map.as_ptr(),
+            map.len(),
+            sub_file,
+            x_min,
+            y_min,
+            x_max,
+            y_max,
+            tile,
+            feature,
+            lists.node_counts.as_mut_ptr(),
+            lists.node_counts.len(),
+            lists.latitudes.as_mut_ptr(),
+            lists.latitudes.len(),
+            lists.longitudes.as_mut_ptr(),
+            lists.longitudes.len(),
+            lists.initial_latitudes.as_mut_ptr(),
+            lists.initial_latitudes.len(),
+            lists.initial_longitudes.as_mut_ptr(),
+            lists.initial_longitudes.len(),
+            lists.buffer.as_mut_ptr(),
+            lists.buffer.len(),
+            &mut got.words,
+            &mut got.signed_words,
+            &mut got.degrees,
+            &mut got.ids,
+            &mut got.tags,
+        )
+    }
+}
+
+/// The number of blocks and nodes of a way's data, and the place behind them.
+pub fn measure_way_data(map: &[u8], at: usize, data_blocks: u64, measured: &mut [u64]) -> u64 {
+    // SAFETY: borrowed for the call, at their lengths.
+    unsafe {
+        sys::mapsforge_measure_way_data(
+            map.as_ptr(),
+            map.len(),
+            at,
+            data_blocks,
+            measured.as_mut_ptr(),
+            measured.len(),
+        )
+    }
+}
+
+/// The nodes of a way's data.
+pub fn read_way_data(
+    map: &[u8],
+    at: usize,
+    data_blocks: u64,
+    double_delta: bool,
+    node_counts: &mut [u64],
+    latitudes: &mut [f64],
+    longitudes: &mut [f64],
+) -> u64 {
+    // SAFETY: borrowed for the call, at their lengths.
+    unsafe {
+        sys::mapsforge_read_way_data(
+            map.as_ptr(),
+            map.len(),
+            at,
+            data_blocks,
+            double_delta,
+            node_counts.as_mut_ptr(),
+            node_counts.len(),
+            latitudes.as_mut_ptr(),
+            latitudes.len(),
+            longitudes.as_mut_ptr(),
+            longitudes.len(),
+        )
+    }
+}
+
+// The C library's, as on Linux: `off_t` has 64 bits there.
+extern "C" {
+    fn mmap(
+        address: *mut c_void,
+        length: usize,
+        protection: c_int,
+        flags: c_int,
+        file: c_int,
+        offset: i64,
+    ) -> *mut c_void;
+    fn munmap(address: *mut c_void, length: usize) -> c_int;
+}
+
+const PROT_READ: c_int = 1;
+const MAP_PRIVATE: c_int = 2;
+
+/// A file's bytes, mapped into memory for reading. [`crate::MapFile`] says what to beware of.
+#[derive(Debug)]
+pub(crate) struct Mapping {
+    address: *mut c_void,
+    length: usize,
+}
+
+// SAFETY: the bytes are only read, and belong to this value alone until it is dropped.
+unsafe impl Send for Mapping {}
+// SAFETY: as above; reading from several threads is no race.
+unsafe impl Sync for Mapping {}
+
+impl Mapping {
+    /// Maps the first `length` bytes of the file, at least one.
+    pub(crate) fn new(file: &File, length: usize) -> io::Result<Mapping> {
+        if length == 0 {
+            return Err(io::Error::from(io::ErrorKind::InvalidInput));
+        }
+        // SAFETY: a new mapping at an address that the system chooses touches no other memory.
+        let address = unsafe {
+            mmap(std::ptr::null_mut(), length, PROT_READ, MAP_PRIVATE, file.as_raw_fd(), 0)
+        };
+        // The C library's MAP_FAILED is the address -1.
+        if address as isize == -1 {
+            return Err(io::Error::last_os_error());
+        }
+        Ok(Mapping { address, length })
+    }
+
+    /// The bytes.
+    pub(crate) fn bytes(&self) -> &[u8] {
+        // SAFETY: `length` readable bytes stand at the address until the mapping is dropped.
+        unsafe { std::slice::from_raw_parts(self.address.cast(), self.length) }
+    }
+}
+
+impl Drop for Mapping {
+    fn drop(&mut self) {
+        // SAFETY: this mapping is ours, and nothing borrows it any more. It cannot fail with these arguments.
+        unsafe { munmap(self.address, self.length) };
+    }
+}

@@ -1,0 +1,296 @@
+//! A tile's stream.
+
+use crate::feature::{grow, split_nodes};
+use crate::{raw, Map, Part, Position, Refusal, SubFile, TagName, TagNames};
+
+/// A tile's stream: points, then ways' heads, each of which waits until it is accepted or declined, then the end.
+///
+/// A call out of turn is refused with 16 ([`Refusal::OutOfTurn`]): [`Stream::next`] while a way waits,
+/// [`Stream::accept`] and [`Stream::decline`] while none does. A refused call leaves the stream where it was.
+///
+/// ```
+/// # use mapsforge::{MapFile, Refusal, Step};
+/// # let file = MapFile::open(concat!(env!("CARGO_MANIFEST_DIR"), "/../maps/islands.map"))?;
+/// # let map = file.map()?;
+/// let mut stream = map.sub_file(2)?.stream(9, 13)?;
+/// let Step::Way(head) = stream.next()? else { panic!("the tile has no points") };
+/// assert!(head.has_tag("natural", "coastline"));
+/// assert_eq!(stream.next().unwrap_err(), Refusal::OutOfTurn);
+/// assert_eq!(stream.accept()?.blocks.len(), 1);
+/// assert_eq!(stream.decline(), Err(Refusal::OutOfTurn));
+/// # Ok::<(), Box<dyn std::error::Error>>(())
+/// ```
+#[derive(Clone, Debug)]
+pub struct Stream<'m, 'a> {
+    map: &'m Map<'a>,
+    state: [u64; 7],
+    lists: Lists,
+}
+
+/// A streamed point. Texts are parts of the map, empty where they are no UTF-8.
+#[derive(Clone, Debug)]
+pub struct StreamedPoint<'m, 'a> {
+    names: &'m TagNames<'a>,
+    /// The offset from the tile's north-western corner.
+    pub position: Position,
+    /// The layer, from -5 to 10.
+    pub layer: i8,
+    /// The tags' numbers in [`Map::point_tags`].
+    pub tag_ids: Vec<usize>,
+    /// The name.
+    pub name: Option<Part<'a>>,
+    /// The house number.
+    pub house_number: Option<Part<'a>>,
+    /// The elevation in metres.
+    pub elevation: Option<i32>,
+}
+
+/// A way's head, which waits.
+#[derive(Clone, Debug)]
+pub struct WayHead<'m, 'a> {
+    names: &'m TagNames<'a>,
+    /// Which of the tile's 4 by 4 cells the way touches, row by row, the highest bit first.
+    pub bitmap: u16,
+    /// The layer, from -5 to 10.
+    pub layer: i8,
+    /// The tags' numbers in [`Map::way_tags`].
+    pub tag_ids: Vec<usize>,
+}
+
+/// The end of a stream.
+#[derive(Clone, Copy, Debug, PartialEq, Eq)]
+pub struct StreamEnd {
+    /// The tile's sub file.
+    pub sub_file: usize,
+    /// Whether the tile is marked as water.
+    pub water: bool,
+}
+
+/// What [`Stream::next`] gives.
+#[derive(Clone, Debug)]
+pub enum Step<'m, 'a> {
+    /// A point.
+    Point(StreamedPoint<'m, 'a>),
+    /// A way's head, which waits for [`Stream::accept`] or [`Stream::decline`].
+    Way(WayHead<'m, 'a>),
+    /// The end, again and again.
+    End(StreamEnd),
+}
+
+/// An accepted way's body. Texts are parts of the map, empty where they are no UTF-8.
+#[derive(Clone, Debug, PartialEq)]
+pub struct StreamedBody<'a, Blocks = Vec<Vec<Position>>> {
+    /// The name.
+    pub name: Option<Part<'a>>,
+    /// The house number.
+    pub house_number: Option<Part<'a>>,
+    /// The reference.
+    pub reference: Option<Part<'a>>,
+    /// Where to put a label, as an offset from the first node.
+    pub label: Option<Position>,
+    /// The blocks of nodes, as offsets from the tile's north-western corner; or, with lent lists, how many node counts
+    /// and how many nodes went to their fronts.
+    pub blocks: Blocks,
+}
+
+/// The three lists that accepting writes to.
+#[derive(Clone, Debug, Default)]
+pub struct Lists {
+    /// The blocks' numbers of nodes.
+    pub node_counts: Vec<u64>,
+    /// The latitudes of all nodes.
+    pub latitudes: Vec<f64>,
+    /// Their longitudes.
+    pub longitudes: Vec<f64>,
+}
+
+/// The tags of the numbers.
+fn named<'m, 'a>(
+    names: &'m TagNames<'a>,
+    ids: &'m [usize],
+) -> impl Iterator<Item = TagName<'a>> + 'm {
+    ids.iter().filter_map(|&id| names.get(id))
+}
+
+impl<'a> StreamedPoint<'_, 'a> {
+    /// The tags' names.
+    pub fn tags(&self) -> impl Iterator<Item = TagName<'a>> + '_ {
+        named(self.names, &self.tag_ids)
+    }
+
+    /// Whether the point has this tag.
+    pub fn has_tag(&self, key: &str, value: &str) -> bool {
+        self.tags().any(|tag| tag.is(key, value))
+    }
+}
+
+impl<'a> WayHead<'_, 'a> {
+    /// The tags' names.
+    pub fn tags(&self) -> impl Iterator<Item = TagName<'a>> + '_ {
+        named(self.names, &self.tag_ids)
+    }
+
+    /// Whether the way has this tag.
+    pub fn has_tag(&self, key: &str, value: &str) -> bool {
+        self.tags().any(|tag| tag.is(key, value))
+    }
+}
+
+impl<'m, 'a> Stream<'m, 'a> {
+    pub(crate) fn open(sub_file: SubFile<'m, 'a>, tile: usize, zoom: u8) -> Result<Self, Refusal> {
+        let (mut state, mut words) = ([0; 7], [0; 6]);
+        let map = sub_file.map();
+        let corners = sub_file.grid().corners();
+        let number = raw::stream_open(
+            map.bytes(),
+            sub_file.number(),
+            corners,
+            tile,
+            zoom,
+            &mut state,
+            &mut words,
+        );
+        Refusal::check(number, &words)?;
+        Ok(Stream { map, state, lists: Lists::default() })
+    }
+
+    /// The words in which the library keeps the stream.
+    pub fn state(&self) -> &[u64; 7] {
+        &self.state
+    }
+
+    /// The next point; after the last one the next way's head; at last the end.
+    #[allow(clippy::should_implement_trait)]
+    pub fn next(&mut self) -> Result<Step<'m, 'a>, Refusal> {
+        self.next_in(self.map.bytes())
+    }
+
+    /// The same in another map of the same layout: here, the front of this one.
+    pub(crate) fn next_in(&mut self, bytes: &'a [u8]) -> Result<Step<'m, 'a>, Refusal> {
+        let (mut words, mut signed, mut degrees, mut ids) = ([0; 21], [0; 2], [0.0; 2], [0; 15]);
+        let number = raw::stream_next(
+            bytes,
+            self.map.layout(),
+            &mut self.state,
+            &mut words,
+            &mut signed,
+            &mut degrees,
+            &mut ids,
+        );
+        Refusal::check(number, &words)?;
+        let tag_ids = ids.iter().take(words[7] as usize).map(|&id| id as usize).collect();
+        let layer = signed[0] as i8;
+        Ok(match words[6] {
+            0 => Step::Point(StreamedPoint {
+                names: self.map.point_tags(),
+                position: Position::of(degrees),
+                layer,
+                tag_ids,
+                name: Part::from_words(bytes, &words[11..14]),
+                house_number: Part::from_words(bytes, &words[14..17]),
+                elevation: (words[17] != 0).then_some(signed[1] as i32),
+            }),
+            1 => Step::Way(WayHead {
+                names: self.map.way_tags(),
+                bitmap: words[18] as u16,
+                layer,
+                tag_ids,
+            }),
+            _ => Step::End(StreamEnd { sub_file: words[19] as usize, water: words[20] != 0 }),
+        })
+    }
+
+    /// Decodes the waiting way, into lists of the stream's own that grow as needed.
+    pub fn accept(&mut self) -> Result<StreamedBody<'a>, Refusal> {
+        let mut lists = std::mem::take(&mut self.lists);
+        let got = self.accept_growing(self.map.bytes(), &mut lists);
+        let got = got.map(|body| {
+            let (blocks, nodes) = body.blocks;
+            StreamedBody {
+                name: body.name,
+                house_number: body.house_number,
+                reference: body.reference,
+                label: body.label,
+                blocks: split_nodes(
+                    &lists.node_counts[..blocks],
+                    &lists.latitudes[..nodes],
+                    &lists.longitudes[..nodes],
+                ),
+            }
+        });
+        self.lists = lists;
+        got
+    }
+
+    /// Decodes the waiting way into lists that are lent and grow as needed. The body has how many node counts, and how
+    /// many nodes, went to their fronts.
+    pub fn accept_with(
+        &mut self,
+        lists: &mut Lists,
+    ) -> Result<StreamedBody<'a, (usize, usize)>, Refusal> {
+        self.accept_growing(self.map.bytes(), lists)
+    }
+
+    /// Decodes the waiting way into slices that are lent. Refusal 15 with the lengths needed if one is too short: the way
+    /// then still waits, and the slices have what they had.
+    pub fn accept_into(
+        &mut self,
+        node_counts: &mut [u64],
+        latitudes: &mut [f64],
+        longitudes: &mut [f64],
+    ) -> Result<StreamedBody<'a, (usize, usize)>, Refusal> {
+        self.accept_in(self.map.bytes(), node_counts, latitudes, longitudes)
+    }
+
+    /// As [`Stream::accept_with`], in the front of this map.
+    pub(crate) fn accept_growing(
+        &mut self,
+        bytes: &'a [u8],
+        lists: &mut Lists,
+    ) -> Result<StreamedBody<'a, (usize, usize)>, Refusal> {
+        loop {
+            let Lists { node_counts, latitudes, longitudes } = lists;
+            match self.accept_in(bytes, node_counts, latitudes, longitudes) {
+                Err(Refusal::TooShort(needed)) => {
+                    grow(node_counts, needed.lists[0]);
+                    grow(latitudes, needed.lists[1]);
+                    grow(longitudes, needed.lists[2]);
+                }
+                other => return other,
+            }
+        }
+    }
+
+    fn accept_in(
+        &mut self,
+        bytes: &'a [u8],
+        node_counts: &mut [u64],
+        latitudes: &mut [f64],
+        longitudes: &mut [f64],
+    ) -> Result<StreamedBody<'a, (usize, usize)>, Refusal> {
+        let (mut words, mut degrees) = ([0; 18], [0.0; 2]);
+        let number = raw::stream_accept(
+            bytes,
+            &mut self.state,
+            node_counts,
+            latitudes,
+            longitudes,
+            &mut words,
+            &mut degrees,
+        );
+        Refusal::check(number, &words)?;
+        Ok(StreamedBody {
+            name: Part::from_words(bytes, &words[8..11]),
+            house_number: Part::from_words(bytes, &words[11..14]),
+            reference: Part::from_words(bytes, &words[14..17]),
+            label: (words[17] != 0).then(|| Position::of(degrees)),
+            blocks: (words[6] as usize, words[7] as usize),
+        })
+    }
+
+    /// Goes past the waiting way, by its stored size.
+    pub fn decline(&mut self) -> Result<(), Refusal> {
+        let mut words = [0; 6];
+        Refusal::check(raw::stream_decline(&mut self.state, &mut words), &words)
+    }
+}

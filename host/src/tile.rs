@@ -1,0 +1,177 @@
+//! A collected tile.
+
+use crate::{raw, Buffers, Feature, Part, Point, Refusal, SubFile, Way};
+
+/// A collected tile: its counts, and its features by their numbers.
+///
+/// ```
+/// # use mapsforge::{Feature, MapFile};
+/// # let file = MapFile::open(concat!(env!("CARGO_MANIFEST_DIR"), "/../maps/islands.map"))?;
+/// let map = file.map()?;
+/// let tile = map.sub_file(2)?.collect(10)?;
+/// assert_eq!((tile.point_count(), tile.way_count()), (35, 141));
+/// assert_eq!(tile.rows()[0], (5, 22));
+///
+/// let way = tile.way(9)?;
+/// assert_eq!(way.name.as_deref(), Some("Kirkegata"));
+/// assert_eq!((&*way.tags[0].key, &*way.tags[0].value), ("highway", "residential"));
+/// # Ok::<(), Box<dyn std::error::Error>>(())
+/// ```
+#[derive(Clone, Debug)]
+pub struct Tile<'m, 'a> {
+    sub_file: SubFile<'m, 'a>,
+    number: usize,
+    signature: Option<Part<'a>>,
+    rows: Vec<(u64, u64)>,
+    first_way_offset: u64,
+    point_count: u64,
+    way_count: u64,
+    exact: bool,
+}
+
+impl<'m, 'a> Tile<'m, 'a> {
+    pub(crate) fn collect(sub_file: SubFile<'m, 'a>, tile: usize) -> Result<Self, Refusal> {
+        let map = sub_file.map().bytes();
+        let (mut words, mut points, mut ways) = ([0; 14], [0; 256], [0; 256]);
+        let corners = sub_file.grid().corners();
+        let number =
+            raw::collect(map, sub_file.number(), corners, tile, &mut words, &mut points, &mut ways);
+        Refusal::check(number, &words)?;
+        Ok(Tile {
+            sub_file,
+            number: tile,
+            signature: Part::from_words(map, &words[6..9]),
+            rows: points.into_iter().zip(ways).take(words[9] as usize).collect(),
+            first_way_offset: words[10],
+            point_count: words[11],
+            way_count: words[12],
+            exact: words[13] != 0,
+        })
+    }
+
+    /// The sub file.
+    pub fn sub_file(&self) -> SubFile<'m, 'a> {
+        self.sub_file
+    }
+
+    /// The tile's number.
+    pub fn number(&self) -> usize {
+        self.number
+    }
+
+    /// The tile's signature, in a debug map.
+    pub fn signature(&self) -> Option<Part<'a>> {
+        self.signature
+    }
+
+    /// The zoom table: the numbers of points and of ways that each zoom of the interval adds.
+    pub fn rows(&self) -> &[(u64, u64)] {
+        &self.rows
+    }
+
+    /// The stored offset of the first way, from behind this number.
+    pub fn first_way_offset(&self) -> u64 {
+        self.first_way_offset
+    }
+
+    /// How many points there are.
+    pub fn point_count(&self) -> u64 {
+        self.point_count
+    }
+
+    /// How many ways there are.
+    pub fn way_count(&self) -> u64 {
+        self.way_count
+    }
+
+    /// Whether every way's stored size is its decoded length. If so, a stream of this tile delivers what the tile has,
+    /// whichever ways are declined; if not, a declined way may lead it astray.
+    pub fn exact(&self) -> bool {
+        self.exact
+    }
+
+    /// Fetches a feature: points from 0, ways behind them. Refusal 17 if there is none.
+    pub fn fetch(&self, number: u64) -> Result<Feature<'a>, Refusal> {
+        self.fetch_with(number, &mut Buffers::new())
+    }
+
+    /// Fetches a point, counted from 0. Refusal 17 if there is none.
+    pub fn point(&self, number: u64) -> Result<Point<'a>, Refusal> {
+        match self.fetch(number)? {
+            Feature::Point(point) => Ok(point),
+            Feature::Way(_) => Err(Refusal::InvalidFeature),
+        }
+    }
+
+    /// Fetches a way, counted from 0. Refusal 17 if there is none.
+    pub fn way(&self, number: u64) -> Result<Way<'a>, Refusal> {
+        match self.fetch(self.point_count.saturating_add(number))? {
+            Feature::Way(way) => Ok(way),
+            Feature::Point(_) => Err(Refusal::InvalidFeature),
+        }
+    }
+
+    /// Fetches a feature by lists that are kept for the next fetch; they grow as needed.
+    pub fn fetch_with(&self, number: u64, buffers: &mut Buffers) -> Result<Feature<'a>, Refusal> {
+        let map = self.sub_file.map().bytes();
+        let corners = self.sub_file.grid().corners();
+        buffers.fetch(map, self.sub_file.number(), corners, self.number, number)
+    }
+
+    /// All features, points first. Each is found by a walk, so that a tile of many takes a time that grows with the
+    /// square of their number; a stream does not.
+    pub fn features(&self) -> Features<'_, 'm, 'a> {
+        self.range(0, self.point_count.saturating_add(self.way_count))
+    }
+
+    /// The points.
+    pub fn points(&self) -> impl Iterator<Item = Result<Point<'a>, Refusal>> + '_ {
+        self.range(0, self.point_count).filter_map(|got| match got {
+            Ok(Feature::Point(point)) => Some(Ok(point)),
+            Ok(Feature::Way(_)) => None,
+            Err(refusal) => Some(Err(refusal)),
+        })
+    }
+
+    /// The ways.
+    pub fn ways(&self) -> impl Iterator<Item = Result<Way<'a>, Refusal>> + '_ {
+        let end = self.point_count.saturating_add(self.way_count);
+        self.range(self.point_count, end).filter_map(|got| match got {
+            Ok(Feature::Way(way)) => Some(Ok(way)),
+            Ok(Feature::Point(_)) => None,
+            Err(refusal) => Some(Err(refusal)),
+        })
+    }
+
+    fn range(&self, next: u64, end: u64) -> Features<'_, 'm, 'a> {
+        Features { tile: self, next, end, buffers: Buffers::new() }
+    }
+}
+
+/// The features of a collected tile; see [`Tile::features`].
+#[derive(Debug)]
+pub struct Features<'t, 'm, 'a> {
+    tile: &'t Tile<'m, 'a>,
+    next: u64,
+    end: u64,
+    buffers: Buffers,
+}
+
+impl<'a> Iterator for Features<'_, '_, 'a> {
+    type Item = Result<Feature<'a>, Refusal>;
+
+    fn next(&mut self) -> Option<Self::Item> {
+        if self.next >= self.end {
+            return None;
+        }
+        let got = self.tile.fetch_with(self.next, &mut self.buffers);
+        self.next += 1;
+        Some(got)
+    }
+
+    // Skipping fetches nothing.
+    fn nth(&mut self, n: usize) -> Option<Self::Item> {
+        self.next = self.next.saturating_add(n as u64);
+        self.next()
+    }
+}

@@ -1,0 +1,358 @@
+//! include/mapsforge.h against the library's own source (crates/exports/src/lib.rt) and against src/sys.rs: the same
+//! functions, with the same parameters of the same types in the same order. And the header in use, from C.
+
+mod common;
+
+use common::{map_path, repository};
+use mapsforge::{MapFile, Refusal, Step};
+use std::collections::BTreeMap;
+use std::path::PathBuf;
+use std::process::Command;
+
+/// A function as all three write it in the end: its parameters, each name with its type in Rust's form, and the type of
+/// its answer.
+#[derive(Clone, Debug, PartialEq)]
+struct Signature {
+    parameters: Vec<(String, String)>,
+    answer: String,
+}
+
+type Functions = BTreeMap<String, Signature>;
+
+/// The three texts.
+#[derive(Clone)]
+struct Sources {
+    header: String,
+    rattle: String,
+    rust: String,
+}
+
+impl Sources {
+    fn read() -> Sources {
+        let text = |path: &str| {
+            std::fs::read_to_string(repository(path))
+                .unwrap_or_else(|error| panic!("{path}: {error}"))
+        };
+        Sources {
+            header: text("include/mapsforge.h"),
+            rattle: text("crates/exports/src/lib.rt"),
+            rust: text("host/src/sys.rs"),
+        }
+    }
+
+    /// What differs, a line for each function.
+    fn differences(&self) -> Vec<String> {
+        let header = of_header(&self.header);
+        let mut all = compare("lib.rt", &header, &of_rattle(&self.rattle));
+        all.extend(compare("sys.rs", &header, &of_rust(&self.rust)));
+        all
+    }
+}
+
+fn compare(name: &str, header: &Functions, other: &Functions) -> Vec<String> {
+    let mut differences = Vec::new();
+    for function in header.keys().chain(other.keys().filter(|key| !header.contains_key(*key))) {
+        let (ours, theirs) = (header.get(function), other.get(function));
+        if ours != theirs {
+            differences.push(format!(
+                "{function}\n  mapsforge.h: {}\n  {name}: {}",
+                shown(ours),
+                shown(theirs)
+            ));
+        }
+    }
+    differences
+}
+
+fn shown(signature: Option<&Signature>) -> String {
+    let Some(Signature { parameters, answer }) = signature else {
+        return "is not there".into();
+    };
+    let parameters: Vec<_> =
+        parameters.iter().map(|(name, kind)| format!("{name}: {kind}")).collect();
+    format!("({}) -> {answer}", parameters.join(", "))
+}
+
+/// The text without its comments.
+fn without_comments(text: &str) -> String {
+    let mut rest = text;
+    let mut plain = String::new();
+    while let Some(start) = rest.find("/*") {
+        plain.push_str(&rest[..start]);
+        let end = rest[start..].find("*/").expect("the comment ends");
+        rest = &rest[start + end + 2..];
+    }
+    plain.push_str(rest);
+    let lines = plain.lines().map(|line| line.split("//").next().unwrap_or(""));
+    lines.collect::<Vec<_>>().join("\n")
+}
+
+/// A text with single blanks.
+fn packed(text: &str) -> String {
+    text.split_whitespace().collect::<Vec<_>>().join(" ")
+}
+
+/// What is written between commas.
+fn listed(text: &str) -> impl Iterator<Item = String> + '_ {
+    text.split(',').map(packed).filter(|item| !item.is_empty())
+}
+
+// ---- C
+
+/// The functions of a header: each is `type name(parameters);`, and nothing else there has parentheses.
+fn of_header(text: &str) -> Functions {
+    let plain = without_comments(text);
+    let code: Vec<&str> =
+        plain.lines().filter(|line| !line.trim_start().starts_with('#')).collect();
+    let code = code.join("\n");
+    let mut functions = Functions::new();
+    for statement in code.split(';') {
+        let Some((front, behind)) = statement.split_once('(') else { continue };
+        let parameters = behind.trim_end().strip_suffix(')').expect("the parameters end");
+        let (answer, name) = declared(&packed(front));
+        let parameters = listed(parameters).map(|item| c_parameter(&item)).collect();
+        let answer = c_scalar(&answer).into();
+        let before = functions.insert(name.clone(), Signature { parameters, answer });
+        assert_eq!(before, None, "{name} is declared twice");
+    }
+    functions
+}
+
+/// The type and the name of a declaration.
+fn declared(text: &str) -> (String, String) {
+    let at = text.rfind([' ', '*']).unwrap_or_else(|| panic!("no type: {text:?}"));
+    (text[..=at].trim().into(), text[at + 1..].into())
+}
+
+fn c_scalar(kind: &str) -> &'static str {
+    match kind {
+        "uint8_t" => "u8",
+        "uint32_t" => "u32",
+        "uint64_t" => "u64",
+        "int32_t" => "i32",
+        "int64_t" => "i64",
+        "size_t" => "usize",
+        "double" => "f64",
+        "bool" => "bool",
+        other => panic!("mapsforge.h has the type {other:?}, which the test does not know"),
+    }
+}
+
+fn c_parameter(text: &str) -> (String, String) {
+    let (plain, access) = match text.strip_prefix("const ") {
+        Some(plain) => (plain, "const"),
+        None => (text, "mut"),
+    };
+    if let Some((front, length)) = plain.split_once('[') {
+        let (kind, name) = declared(front);
+        let length: usize = length.trim_end_matches(']').parse().expect("the array has a length");
+        return (name, format!("*{access} [{}; {length}]", c_scalar(&kind)));
+    }
+    let (kind, name) = declared(plain);
+    match kind.strip_suffix('*') {
+        Some(target) => (name, format!("*{access} {}", c_scalar(target.trim()))),
+        None => {
+            assert_eq!(access, "mut", "a number needs no const: {text:?}");
+            (name, c_scalar(&kind).into())
+        }
+    }
+}
+
+// ---- Rattle and Rust
+
+/// The functions behind a mark, as `mark name(parameters) -> type`.
+fn functions(
+    text: &str,
+    mark: &str,
+    parameter: impl Fn(&str, &str) -> Vec<(String, String)>,
+) -> Functions {
+    let plain = without_comments(text);
+    let mut functions = Functions::new();
+    for piece in plain.split(mark).skip(1) {
+        let (name, rest) = piece.split_once('(').expect("the function has parameters");
+        let (parameters, rest) = rest.split_once(')').expect("the parameters end");
+        let answer = rest.trim_start().strip_prefix("->").expect("the function has an answer");
+        let answer =
+            answer.split(|c: char| c.is_whitespace() || c == ';').find(|word| !word.is_empty());
+        let parameters = listed(parameters)
+            .flat_map(|item| {
+                let (name, kind) = item.split_once(':').expect("a parameter has a type");
+                parameter(name.trim(), kind.trim())
+            })
+            .collect();
+        let answer = answer.expect("the answer has a type").into();
+        let before = functions.insert(name.trim().into(), Signature { parameters, answer });
+        assert_eq!(before, None, "{name} is there twice");
+    }
+    functions
+}
+
+fn of_rust(text: &str) -> Functions {
+    functions(text, "pub fn ", |name, kind| vec![(name.into(), kind.into())])
+}
+
+/// A slice goes as its address and its length, an array by its address.
+fn of_rattle(text: &str) -> Functions {
+    functions(text, "pub extern \"C\" fn ", |name, kind| {
+        let (access, target) = match (kind.strip_prefix("&mut "), kind.strip_prefix('&')) {
+            (Some(target), _) => ("mut", target),
+            (None, Some(target)) => ("const", target),
+            (None, None) => return vec![(name.into(), kind.into())],
+        };
+        let inside = target.strip_prefix('[').and_then(|target| target.strip_suffix(']'));
+        let inside = inside.unwrap_or_else(|| {
+            panic!("lib.rt has the type {kind:?}, which the test does not know")
+        });
+        if inside.contains(';') {
+            return vec![(name.into(), format!("*{access} {target}"))];
+        }
+        vec![(name.into(), format!("*{access} {inside}")), (format!("{name}_len"), "usize".into())]
+    })
+}
+
+#[test]
+fn header_library_and_wrapper_declare_the_same() {
+    let sources = Sources::read();
+    assert_eq!(of_header(&sources.header).len(), 18);
+    let differences = sources.differences();
+    assert!(differences.is_empty(), "they differ:\n{}", differences.join("\n"));
+}
+
+/// Each of these small changes must be noticed: else the test above compares nothing.
+#[test]
+fn changes_are_noticed() {
+    let edits: [(&str, &str, &str); 21] = [
+        ("header", "mapsforge_open(", "mapsforge_opened("),
+        ("header", "uint64_t words[34]", "uint64_t words[33]"),
+        (
+            "header",
+            "double degrees[6], uint64_t layout[5]",
+            "uint64_t layout[5], double degrees[6]",
+        ),
+        ("header", "const uint64_t layout[5]", "uint64_t layout[5]"),
+        ("header", "int32_t x, int32_t y,", "int32_t y, int32_t x,"),
+        ("header", "double *latitudes, size_t latitudes_len, ", ""),
+        ("header", "uint32_t column", "int32_t column"),
+        ("header", "uint64_t mapsforge_stream_decline", "int64_t mapsforge_stream_decline"),
+        ("header", "uint64_t mapsforge_stream_decline(uint64_t state[7], uint64_t words[6]);", ""),
+        ("rattle", "zoom: u8,\n    state", "zoom: u32,\n    state"),
+        ("rattle", "x_min: i32,\n    y_min: i32,", "y_min: i32,\n    x_min: i32,"),
+        ("rattle", "tags: &mut [u64; 75]", "tags: &mut [u64; 70]"),
+        ("rattle", "initial_latitudes: &mut [f64]", "initial_latitudes: &[f64]"),
+        ("rattle", "fn mapsforge_sub_file(", "fn mapsforge_subfile("),
+        ("rattle", "pub extern \"C\" fn mapsforge_text", "pub fn mapsforge_text"),
+        ("rattle", "data_blocks: u64", "blocks: u64"),
+        ("rust", "column: *mut [i64; 1]", "column: *mut [i64; 2]"),
+        ("rust", "layout: *const [u64; 5]", "layout: *mut [u64; 5]"),
+        ("rust", "latitudes: *mut f64,\n        latitudes_len: usize,", "latitudes: *mut f64,"),
+        (
+            "rust",
+            "points: *mut [u64; 256],\n        ways: *mut [u64; 256]",
+            "ways: *mut [u64; 256],\n        points: *mut [u64; 256]",
+        ),
+        ("rust", "double_delta: bool", "double_delta: u8"),
+    ];
+    let sources = Sources::read();
+    let before = sources.differences();
+    for (which, old, new) in edits {
+        let mut edited = sources.clone();
+        let text = match which {
+            "header" => &mut edited.header,
+            "rattle" => &mut edited.rattle,
+            _ => &mut edited.rust,
+        };
+        assert!(text.contains(old), "{which} has no {old:?} to change");
+        *text = text.replacen(old, new, 1);
+        assert_ne!(edited.differences(), before, "{which}: {old:?} to {new:?} goes unnoticed");
+    }
+}
+
+/// The refusals' numbers have the names that the wrapper has for them.
+#[test]
+fn refusals_have_the_wrappers_names() {
+    let header = without_comments(&Sources::read().header);
+    let body = header.split("enum {").nth(1).and_then(|rest| rest.split('}').next());
+    let names: Vec<(String, u64)> = listed(body.expect("there is an enum"))
+        .map(|item| {
+            let (name, number) = item.split_once(" = ").expect("a refusal has a number");
+            (name.to_string(), number.parse().expect("it is a number"))
+        })
+        .collect();
+    assert_eq!(names.len(), 18);
+    for (k, (name, number)) in names.iter().enumerate() {
+        assert_eq!(*number, k as u64 + 1);
+        let refusal = format!("{:?}", Refusal::check(*number, &[]).unwrap_err());
+        let mut expected = String::from("MAPSFORGE");
+        for letter in refusal.chars().take_while(|letter| letter.is_alphabetic()) {
+            if letter.is_uppercase() {
+                expected.push('_');
+            }
+            expected.push(letter.to_ascii_uppercase());
+        }
+        assert_eq!(*name, expected);
+    }
+}
+
+/// A C program reads a map by the header, and sees what the wrapper sees.
+#[test]
+fn a_c_program_sees_the_same() {
+    let library = match std::env::var_os("MAPSFORGE_LIB") {
+        Some(folder) => PathBuf::from(folder),
+        None => repository("target/staticlib"),
+    };
+    let program = PathBuf::from(env!("CARGO_TARGET_TMPDIR")).join("header-in-c");
+    let compiled = Command::new("cc")
+        .args(["-std=c11", "-Wall", "-Wextra", "-Werror", "-pedantic", "-O1", "-I"])
+        .arg(repository("include"))
+        .arg(repository("host/tests/header.c"))
+        .arg(library.join("libexports.a"))
+        .arg("-o")
+        .arg(&program)
+        .output()
+        .expect("a C compiler is installed as cc");
+    assert!(compiled.status.success(), "{}", String::from_utf8_lossy(&compiled.stderr));
+
+    let map = map_path("islands.map");
+    let run = Command::new(&program).arg(&map).output().expect("the program runs");
+    assert!(run.status.success(), "{}", String::from_utf8_lossy(&run.stderr));
+    assert_eq!(String::from_utf8_lossy(&run.stdout), as_wrapped(&MapFile::open(map).unwrap()));
+}
+
+/// What tests/header.c prints, by the wrapper.
+fn as_wrapped(file: &MapFile) -> String {
+    let map = file.map().unwrap();
+    let sub_file = map.sub_file(2).unwrap();
+    let (grid, tile) = (sub_file.grid(), sub_file.collect(10).unwrap());
+    let mut stream = sub_file.stream(10, 13).unwrap();
+    let (mut ways, mut nodes) = (0, 0);
+    loop {
+        match stream.next().unwrap() {
+            Step::Point(_) => (),
+            Step::Way(_) => {
+                ways += 1;
+                nodes += stream.accept().unwrap().blocks.iter().map(Vec::len).sum::<usize>();
+            }
+            Step::End(_) => break,
+        }
+    }
+    let out_of_turn = u8::from(stream.decline() == Err(Refusal::OutOfTurn));
+    let (header, row) = (map.header(), tile.rows()[0]);
+    [
+        format!("version {}", header.version),
+        format!("size {}", header.file_size),
+        // Enough digits to tell any two numbers apart, and these need no exponent.
+        format!("south {:.15}", header.bounding_box.south),
+        format!("sub files {}", map.intervals().len()),
+        format!("columns {} to {}", grid.x_min, grid.x_max),
+        format!(
+            "tile {} points, {} ways, exact {}",
+            tile.point_count(),
+            tile.way_count(),
+            u8::from(tile.exact())
+        ),
+        format!("row 0: {}+{}", row.0, row.1),
+        format!("streamed {ways} ways, {nodes} nodes"),
+        format!("out of turn {out_of_turn}\n"),
+    ]
+    .join("\n")
+}

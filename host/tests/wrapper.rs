@@ -1,0 +1,657 @@
+//! The wrapper on the shipped maps and on changed ones.
+
+mod common;
+
+use common::{interval_place, map_bytes, map_path, repository, with_box, written, SHIPPED};
+use mapsforge::check::{self, Finding, MapFinding, Spot};
+use mapsforge::{
+    raw, row_of_latitude, BoundingBox, Feature, Grid, Lengths, Map, MapFile, Refusal, Step, SubFile,
+};
+use std::f64::consts::PI;
+use std::io::ErrorKind;
+
+// ---- what maps/islands.txt says
+
+/// The words of a line of `key number` pairs, as numbers by key.
+fn after<'a>(line: &'a str, key: &str) -> &'a str {
+    let rest = line.split(key).nth(1).unwrap_or_else(|| panic!("no {key:?} in {line:?}"));
+    rest.trim_start().split([' ', ',', ':']).next().unwrap_or("")
+}
+
+fn number(line: &str, key: &str) -> i64 {
+    after(line, key).parse().unwrap_or_else(|_| panic!("no number behind {key:?} in {line:?}"))
+}
+
+#[test]
+fn the_maps_are_as_their_summary_says() {
+    let summary = std::fs::read_to_string(repository("maps/islands.txt")).unwrap();
+    let mut name = "";
+    let mut sub_file = 0;
+    let mut tiles = 0;
+    for line in summary.lines() {
+        if let Some((file, _)) = line.split_once(".map: ") {
+            name = SHIPPED.iter().find(|known| known.trim_end_matches(".map") == file).unwrap();
+            let bytes = map_bytes(name);
+            let map = Map::open(&bytes).unwrap();
+            assert_eq!(bytes.len() as i64, number(line, "map:"));
+            assert_eq!(map.header().file_size as usize, bytes.len());
+            assert_eq!(map.point_tags().len() as i64, number(line, "bytes,"));
+            assert_eq!(map.way_tags().len() as i64, number(line, "points,"));
+        } else if line.starts_with("  sub file ") {
+            sub_file = number(line, "sub file") as usize;
+            let bytes = map_bytes(name);
+            sub_file_is(&Map::open(&bytes).unwrap(), sub_file, line);
+        } else if line.trim_start().starts_with(|c: char| c.is_ascii_digit()) {
+            let bytes = map_bytes(name);
+            tile_is(&Map::open(&bytes).unwrap().sub_file(sub_file).unwrap(), line);
+            tiles += 1;
+        }
+    }
+    assert_eq!(tiles, 60);
+}
+
+fn sub_file_is(map: &Map<'_>, sub_file: usize, line: &str) {
+    let found = map.sub_file(sub_file).unwrap();
+    let interval = found.interval();
+    assert_eq!(i64::from(interval.base_zoom), number(line, "base"));
+    assert_eq!(i64::from(interval.min_zoom), number(line, "zoom"));
+    assert_eq!(i64::from(interval.max_zoom), number(line, " to"));
+    assert_eq!(interval.start as i64, number(line, "start"));
+    assert_eq!(interval.size as i64, number(line, "size"));
+    let corners = ["x_min", "y_min", "x_max", "y_max"].map(|key| number(line, key) as i32);
+    assert_eq!(found.grid().corners(), corners);
+    assert_eq!(found.tile_count(), Ok(found.grid().tiles()));
+}
+
+/// A line of a tile: number, x, y, water, bytes, points+ways, double, and points+ways for each zoom.
+fn tile_is(sub_file: &SubFile<'_, '_>, line: &str) {
+    let water = line.contains(" sea ");
+    let line = line.replace(" sea ", " ");
+    let words: Vec<&str> = line.split_whitespace().collect();
+    let pair = |word: &str| {
+        let (points, ways) = word.split_once('+').unwrap();
+        (points.parse::<u64>().unwrap(), ways.parse::<u64>().unwrap())
+    };
+    let tile: usize = words[0].parse().unwrap();
+    let place = sub_file.tile(tile).unwrap();
+    assert_eq!([place.x.to_string(), place.y.to_string()], words[1..3]);
+    assert_eq!(sub_file.tile_at(place.x, place.y), Ok(Some(place)));
+    assert_eq!(sub_file.entry(tile).unwrap().water, water);
+    assert_eq!(sub_file.marked_empty(tile), Ok(false));
+
+    let collected = sub_file.collect(tile).unwrap();
+    assert_eq!((collected.point_count(), collected.way_count()), pair(words[4]));
+    let rows: Vec<_> = words[6..].iter().map(|word| pair(word)).collect();
+    assert_eq!(collected.rows(), rows);
+    let double = collected.ways().filter(|way| way.as_ref().unwrap().double_delta).count();
+    assert_eq!(double.to_string(), words[5]);
+    assert_eq!(collected.points().count() as u64, collected.point_count());
+    assert_eq!(collected.signature().is_some(), sub_file.map().header().debug());
+}
+
+// ---- features
+
+#[test]
+fn a_feature_has_its_fields() {
+    let bytes = map_bytes("islands.map");
+    let map = Map::open(&bytes).unwrap();
+    let tile = map.sub_file(2).unwrap().collect(10).unwrap();
+    let town = tile.point(0).unwrap();
+    assert_eq!(tile.points().next(), Some(Ok(town.clone())));
+    assert_eq!(town.name.as_deref(), Some("Havnby\ren\u{8}Harbour Town"));
+    assert_eq!((town.elevation, town.layer, town.house_number), (Some(12), 0, None));
+    let tags: Vec<_> = town.tags.iter().map(|tag| (&*tag.key, &*tag.value)).collect();
+    assert_eq!(tags[..2], [("place", "town"), ("population", "%i")]);
+    assert_eq!(tags[2], ("name", "Havnby\ren\u{8}Harbour Town"));
+    assert_eq!(town.tag_ids.len(), 2);
+
+    let ferry = tile.way(11).unwrap();
+    assert_eq!(tile.ways().nth(11), Some(Ok(ferry.clone())));
+    assert_eq!(tile.point(35).unwrap_err(), Refusal::InvalidFeature);
+    assert_eq!(tile.way(141).unwrap_err(), Refusal::InvalidFeature);
+    assert_eq!(tile.way(u64::MAX).unwrap_err(), Refusal::InvalidFeature);
+    assert_eq!(ferry.name.as_deref(), Some("Havnby–Storøya"));
+    assert_eq!(ferry.reference.as_deref(), Some("31"));
+    assert_eq!((ferry.bitmap, ferry.blocks.len()), (0x1000, 1));
+    assert_eq!(ferry.blocks[0].nodes.len(), 33);
+    assert_eq!(ferry.blocks[0].initial, ferry.blocks[0].nodes[0]);
+    // Document 01's figure: the hash of "ab" is 2777121825.
+    let hash = |text: &str| {
+        let letters: Vec<u64> = text.chars().map(u64::from).collect();
+        letters.iter().enumerate().fold(0u64, |sum, (i, letter)| {
+            let power = 31u64.wrapping_pow((letters.len() - i + 1) as u32);
+            sum.wrapping_add(*letter).wrapping_mul(power)
+        })
+    };
+    assert_eq!(hash("ab"), 2777121825);
+    for tag in &ferry.tags {
+        assert_eq!((tag.key_hash, tag.value_hash), (hash(&tag.key), hash(&tag.value)), "{tag:?}");
+    }
+}
+
+/// What stream and collected tile have in common, as a text.
+fn seen(feature: &Feature<'_>) -> String {
+    match feature {
+        Feature::Point(point) => format!(
+            "{:?} {} {:?} {:?} {:?} {:?}",
+            point.position,
+            point.layer,
+            point.tag_ids,
+            point.name,
+            point.house_number,
+            point.elevation
+        ),
+        Feature::Way(way) => {
+            let blocks: Vec<_> = way.blocks.iter().map(|block| &block.nodes).collect();
+            format!(
+                "{} {} {:?}: {:?} {:?} {:?} {:?} {blocks:?}",
+                way.bitmap,
+                way.layer,
+                way.tag_ids,
+                way.name,
+                way.house_number,
+                way.reference,
+                way.label
+            )
+        }
+    }
+}
+
+/// What a stream delivers, with every `skipped`th way declined (0 for none). A declined way is its head.
+fn streamed(sub_file: &SubFile<'_, '_>, tile: usize, zoom: u8, skipped: usize) -> Vec<String> {
+    let mut stream = sub_file.stream(tile, zoom).unwrap();
+    let mut all = Vec::new();
+    let mut ways = 0;
+    loop {
+        match stream.next().unwrap() {
+            Step::Point(point) => all.push(format!(
+                "{:?} {} {:?} {:?} {:?} {:?}",
+                point.position,
+                point.layer,
+                point.tag_ids,
+                point.name.map(|name| name.to_text()),
+                point.house_number.map(|text| text.to_text()),
+                point.elevation
+            )),
+            Step::Way(head) => {
+                ways += 1;
+                let start = format!("{} {} {:?}:", head.bitmap, head.layer, head.tag_ids);
+                if skipped > 0 && ways % skipped == 0 {
+                    stream.decline().unwrap();
+                    all.push(start);
+                    continue;
+                }
+                let body = stream.accept().unwrap();
+                all.push(format!(
+                    "{start} {:?} {:?} {:?} {:?} {:?}",
+                    body.name.map(|name| name.to_text()),
+                    body.house_number.map(|text| text.to_text()),
+                    body.reference.map(|text| text.to_text()),
+                    body.label,
+                    body.blocks
+                ));
+            }
+            Step::End(end) => {
+                assert_eq!(end.sub_file, sub_file.number());
+                assert_eq!(end.water, sub_file.entry(tile).unwrap().water);
+                return all;
+            }
+        }
+    }
+}
+
+#[test]
+fn stream_and_collected_tile_agree() {
+    for name in ["islands.map", "islands-debug.map"] {
+        let bytes = map_bytes(name);
+        let map = Map::open(&bytes).unwrap();
+        for sub_file in map.sub_files().map(Result::unwrap) {
+            for place in sub_file.tiles().unwrap() {
+                agrees(&sub_file, place.number);
+            }
+        }
+    }
+}
+
+fn agrees(sub_file: &SubFile<'_, '_>, tile: usize) {
+    let collected = sub_file.collect(tile).unwrap();
+    assert!(collected.exact());
+    let points: Vec<_> =
+        collected.points().map(|point| seen(&Feature::Point(point.unwrap()))).collect();
+    let ways: Vec<_> = collected.ways().map(|way| seen(&Feature::Way(way.unwrap()))).collect();
+    let interval = sub_file.interval();
+    let (mut p, mut w) = (0, 0);
+    for (zoom, row) in (interval.min_zoom..=interval.max_zoom).zip(collected.rows()) {
+        (p, w) = (p + row.0 as usize, w + row.1 as usize);
+        for skipped in [0, 1, 3] {
+            let expected: Vec<_> = points[..p]
+                .iter()
+                .cloned()
+                .chain(ways[..w].iter().enumerate().map(|(k, way)| {
+                    let declined = skipped > 0 && (k + 1) % skipped == 0;
+                    let head = way.split_inclusive("]:").next().unwrap();
+                    if declined {
+                        head.to_string()
+                    } else {
+                        way.clone()
+                    }
+                }))
+                .collect();
+            assert_eq!(streamed(sub_file, tile, zoom, skipped), expected);
+        }
+    }
+    // The zoom is clamped into the interval.
+    assert_eq!(streamed(sub_file, tile, 255, 0).len(), points.len() + ways.len());
+}
+
+#[test]
+fn a_short_size_leads_a_stream_astray() {
+    let bytes = map_bytes("short-size.map");
+    let map = Map::open(&bytes).unwrap();
+    let sub_file = map.sub_file(2).unwrap();
+    let tile = sub_file.collect(10).unwrap();
+    assert!(!tile.exact());
+    let whole = map_bytes("islands.map");
+    let right = Map::open(&whole).unwrap();
+    // Accepted, the way is passed by its nodes; declined, by its size.
+    let all = streamed(&right.sub_file(2).unwrap(), 10, 21, 0);
+    assert_eq!(streamed(&sub_file, 10, 21, 0), all);
+    // From the next way on each head comes one late: behind one that is not in the map.
+    let declined = streamed(&right.sub_file(2).unwrap(), 10, 21, 1);
+    let astray = streamed(&sub_file, 10, 21, 1);
+    let way_10 = 35 + 10;
+    assert_eq!(astray[..way_10], declined[..way_10]);
+    assert_eq!(astray[way_10], "9233 -5 []:");
+    assert_eq!(astray[way_10 + 1..], declined[way_10..declined.len() - 1]);
+}
+
+#[test]
+fn calls_take_turns() {
+    let bytes = map_bytes("islands.map");
+    let map = Map::open(&bytes).unwrap();
+    let mut stream = map.sub_file(2).unwrap().stream(9, 13).unwrap();
+    assert_eq!(stream.accept().unwrap_err(), Refusal::OutOfTurn);
+    assert_eq!(stream.decline(), Err(Refusal::OutOfTurn));
+    assert!(matches!(stream.next(), Ok(Step::Way(_))));
+    assert_eq!(stream.next().unwrap_err(), Refusal::OutOfTurn);
+    let state = *stream.state();
+
+    // Lists too short: the lengths, and nothing has changed.
+    let needed = stream.accept_into(&mut [], &mut [], &mut []).unwrap_err();
+    let Refusal::TooShort(Lengths { lists: [blocks, nodes, again, 0, 0], buffer: 0 }) = needed
+    else {
+        panic!("{needed:?}");
+    };
+    assert_eq!(nodes, again);
+    assert_eq!(needed.values(), [blocks, nodes, nodes, 0, 0, 0]);
+    let mut counts = vec![7; blocks as usize];
+    let (mut latitudes, mut longitudes) =
+        (vec![9.0; nodes as usize], vec![9.0; nodes as usize - 1]);
+    let short = stream.accept_into(&mut counts, &mut latitudes, &mut longitudes);
+    assert_eq!(short.unwrap_err(), needed);
+    assert!(counts.iter().all(|&count| count == 7) && latitudes.iter().all(|&x| x == 9.0));
+    assert_eq!(*stream.state(), state);
+
+    // One entry more than needed keeps its value.
+    longitudes.resize(nodes as usize + 1, 9.0);
+    let body = stream.accept_into(&mut counts, &mut latitudes, &mut longitudes).unwrap();
+    assert_eq!(body.blocks, (blocks as usize, nodes as usize));
+    assert_eq!(longitudes.last(), Some(&9.0));
+    assert!(latitudes.iter().all(|&x| x != 9.0));
+    assert_eq!(raw::stream_decline(&mut stream.state().clone(), &mut [0; 6]), 16);
+}
+
+// ---- refusals
+
+#[test]
+fn each_refusal_has_its_number_and_a_sentence() {
+    let mut sentences = std::collections::HashSet::new();
+    for number in 1..=19 {
+        let refusal = Refusal::check(number, &[2, 3, 4, 5, 6, 7]).unwrap_err();
+        assert_eq!(refusal.number(), number);
+        let values = match number {
+            3 | 7 => [2, 0, 0, 0, 0, 0],
+            15 => [2, 3, 4, 5, 6, 7],
+            _ => [0; 6],
+        };
+        assert_eq!(refusal.values(), values);
+        assert!(refusal.to_string().len() > 30);
+        assert!(sentences.insert(refusal.to_string()));
+    }
+    assert_eq!(Refusal::check(0, &[1; 6]), Ok(()));
+}
+
+/// islands.map with a change.
+fn changed(change: impl FnOnce(&mut Vec<u8>)) -> Vec<u8> {
+    let mut bytes = map_bytes("islands.map");
+    change(&mut bytes);
+    bytes
+}
+
+#[test]
+fn opening_refuses_damaged_headers() {
+    let refused = |bytes: &[u8]| Map::open(bytes).unwrap_err();
+    assert_eq!(refused(&[]), Refusal::Source);
+    assert_eq!(refused(&[0; 20]), Refusal::InvalidMagic);
+    assert_eq!(
+        refused(&changed(|map| map[common::VERSION + 3] = 2)),
+        Refusal::UnsupportedVersion(2)
+    );
+    let beyond = with_box(map_bytes("islands.map"), [90000001, 0, 90000001, 0]);
+    assert_eq!(refused(&beyond), Refusal::InvalidBoundingBox);
+    let empty = changed(|map| map[common::HEADER_SIZE..][..4].fill(0));
+    assert_eq!(refused(&empty), Refusal::InvalidHeaderSize);
+    // The flag without the signatures.
+    assert_eq!(refused(&changed(|map| map[common::FLAGS] |= 0x80)), Refusal::InvalidIndexSignature);
+    let bytes = map_bytes("islands.map");
+    let end = Map::open(&bytes).unwrap().header().end as usize;
+    for length in 20..end {
+        assert_eq!(refused(&bytes[..length]), Refusal::Source);
+    }
+    assert!(Map::open(&bytes[..end]).is_ok());
+}
+
+#[test]
+fn tiles_refuse_what_is_not_there() {
+    let bytes = map_bytes("islands.map");
+    let map = Map::open(&bytes).unwrap();
+    assert_eq!(map.sub_file(3).unwrap_err(), Refusal::InvalidTileIndex);
+    assert!(map.sub_file_for_zoom(22).unwrap().is_none());
+    assert_eq!(map.sub_file_for_zoom(12).unwrap().unwrap().number(), 1);
+    let sub_file = map.sub_file(2).unwrap();
+    assert_eq!(sub_file.collect(12).unwrap_err(), Refusal::InvalidTileIndex);
+    assert_eq!(sub_file.stream(12, 0).unwrap_err(), Refusal::InvalidTileIndex);
+    assert_eq!(sub_file.tile(12), None);
+    assert_eq!(sub_file.tile_at(4098, 2272), Ok(None));
+    let reversed = sub_file.with_grid(Grid { x_min: 5, y_min: 0, x_max: 4, y_max: 0 });
+    assert_eq!(reversed.tile_count(), Err(Refusal::InvalidGrid));
+    assert_eq!(reversed.collect(0).unwrap_err(), Refusal::InvalidGrid);
+    let tile = sub_file.collect(0).unwrap();
+    assert_eq!(tile.fetch(0).unwrap_err(), Refusal::InvalidFeature);
+
+    let place = interval_place(&bytes, 2);
+    let upside = changed(|map| map[place + 1] = 22);
+    let refused = Map::open(&upside).unwrap().sub_file(2).unwrap().collect(0).unwrap_err();
+    assert_eq!(refused, Refusal::ReversedInterval);
+    let deep = changed(|map| map[place] = 64);
+    assert_eq!(Map::open(&deep).unwrap().sub_file(2).unwrap_err(), Refusal::ZoomTooLarge);
+}
+
+#[test]
+fn files_are_mapped_or_read() {
+    let path = map_path("islands.map");
+    let (mapped, read) = (MapFile::open(&path).unwrap(), MapFile::read(&path).unwrap());
+    assert_eq!(mapped.bytes(), read.bytes());
+    let empty = MapFile::open(written("empty.map", &[])).unwrap();
+    assert_eq!(empty.map().unwrap_err(), Refusal::Source);
+    let missing = MapFile::open(map_path("no-such.map")).unwrap_err();
+    assert_eq!(missing.kind(), ErrorKind::NotFound);
+    assert!(MapFile::open(repository("maps")).is_err());
+    // Several threads read one map.
+    let map = mapped.map().unwrap();
+    std::thread::scope(|scope| {
+        for sub_file in 0..3 {
+            let map = &map;
+            scope.spawn(move || map.sub_file(sub_file).unwrap().collect(0).unwrap());
+        }
+    });
+}
+
+// ---- grids
+
+/// The Rust reader's column and row, with its square's edges kept.
+fn rust_tile(latitude: f64, longitude: f64, zoom: u8) -> (i32, i32) {
+    let n = (1u64 << zoom) as f64;
+    let latitude = latitude * PI / 180.0;
+    let x = (n * (longitude + 180.0) / 360.0) as i32;
+    let y = ((1.0 - (latitude.tan() + 1.0 / latitude.cos()).ln() / PI) / 2.0 * n) as i32;
+    (x, y)
+}
+
+#[test]
+fn grids_are_the_rust_readers() {
+    let mut seed = 1u64;
+    let mut random = |limit: f64| {
+        seed = seed.wrapping_mul(6364136223846793005).wrapping_add(1442695040888963407);
+        // As stored: whole microdegrees.
+        (((seed >> 11) as f64 / (1u64 << 53) as f64 * 2.0 - 1.0) * limit * 1e6).trunc() / 1e6
+    };
+    for _ in 0..20_000 {
+        let (a, b, c, d) = (random(85.0), random(179.9), random(85.0), random(179.9));
+        let covered =
+            BoundingBox { south: a.min(c), west: b.min(d), north: a.max(c), east: b.max(d) };
+        for zoom in [0, 1, 5, 8, 13, 16, 21] {
+            let grid = Grid::of_box(&covered, zoom).unwrap();
+            let first = rust_tile(covered.north, covered.west, zoom);
+            let last = rust_tile(covered.south, covered.east, zoom);
+            assert_eq!(grid.corners(), [first.0, first.1, last.0, last.1], "{covered:?} {zoom}");
+        }
+    }
+}
+
+#[test]
+fn grids_end_at_the_edges_of_the_square() {
+    let world = BoundingBox { south: -90.0, west: -180.0, north: 90.0, east: 180.0 };
+    for zoom in 0..=30 {
+        let last = ((1u64 << zoom) - 1) as i32;
+        let grid = Grid::of_box(&world, zoom).unwrap();
+        assert_eq!(grid.corners(), [0, 0, last, last]);
+        // The Rust reader's own grid has a column too many there.
+        assert_eq!(i64::from(rust_tile(0.0, 180.0, zoom).0), 1i64 << zoom);
+    }
+    let east = BoundingBox { south: -0.5, west: 179.0, north: 0.5, east: 180.0 };
+    assert_eq!(Grid::of_box(&east, 8).unwrap().corners(), [255, 127, 255, 128]);
+    // Beyond what 32 bits hold it ends there.
+    for zoom in [31, 32, 63] {
+        assert_eq!(Grid::of_box(&world, zoom).unwrap().corners(), [0, 0, i32::MAX, i32::MAX]);
+    }
+    assert_eq!(Grid::of_box(&world, 64), Err(Refusal::ZoomTooLarge));
+    assert_eq!(row_of_latitude(f64::NAN, 3), Ok(0));
+    // A map whose box reaches 180 degrees has the columns of its file.
+    let bytes = with_box(map_bytes("islands.map"), [-1, 179999999, 1, 180000000]);
+    let grid = Map::open(&bytes).unwrap().sub_file(0).unwrap().grid();
+    assert_eq!(grid.corners(), [255, 127, 255, 128]);
+}
+
+#[test]
+fn corners_lead_back_to_their_tiles() {
+    let bytes = map_bytes("islands.map");
+    let map = Map::open(&bytes).unwrap();
+    for sub_file in map.sub_files().map(Result::unwrap) {
+        for place in sub_file.tiles().unwrap() {
+            let corner = sub_file.corner(place).unwrap();
+            let zoom = sub_file.interval().base_zoom;
+            let inside = corner.latitude - 1e-6;
+            assert_eq!(row_of_latitude(inside, zoom), Ok(place.y));
+            assert_eq!(rust_tile(inside, corner.longitude + 1e-6, zoom), (place.x, place.y));
+        }
+    }
+}
+
+// ---- checks
+
+/// All findings of a map's tiles, with sub file and tile.
+fn findings(map: &Map<'_>) -> Vec<(usize, usize, Finding)> {
+    let mut all = Vec::new();
+    for sub_file in map.sub_files().map(Result::unwrap) {
+        for place in sub_file.tiles().unwrap() {
+            let report = check::tile(&sub_file, place);
+            all.extend(
+                report.findings.iter().map(|found| (sub_file.number(), place.number, *found)),
+            );
+        }
+    }
+    all
+}
+
+#[test]
+fn check_finds_the_short_size_and_nothing_else() {
+    for name in SHIPPED {
+        let bytes = map_bytes(name);
+        let map = Map::open(&bytes).unwrap();
+        assert_eq!(check::map(&map), []);
+        let size = Finding::Size { way: 9, at: 23258, stored: 0x22, decoded: 0x23 };
+        let expected = if name == "short-size.map" { vec![(2, 10, size)] } else { vec![] };
+        assert_eq!(findings(&map), expected, "{name}");
+    }
+}
+
+#[test]
+fn check_names_the_place_of_a_refusal() {
+    let whole = map_bytes("islands.map");
+    let at = |tile| Map::open(&whole).unwrap().sub_file(2).unwrap().entry(tile).unwrap().place;
+
+    // Cut in the last tile: its last way, which starts at the same place whole or cut.
+    let cut = &whole[..whole.len() - 1];
+    let map = Map::open(cut).unwrap();
+    let size = MapFinding::FileSize { stored: 29815, actual: 29814 };
+    assert_eq!(check::map(&map), [size]);
+    let found = findings(&map);
+    let [(2, 11, Finding::Refused { refusal: Refusal::Source, spot: Spot::Way(52), at: Some(way) })] =
+        found[..]
+    else {
+        panic!("{found:?}");
+    };
+    assert_eq!(way + 1 + u64::from(whole[way as usize]), whole.len() as u64);
+
+    // Cut behind the header: each tile's entry.
+    let end = Map::open(&whole).unwrap().header().end as usize;
+    let map = Map::open(&whole[..end]).unwrap();
+    assert!(matches!(
+        check::map(&map)[1],
+        MapFinding::Index { sub_file: 0, tiles: 4, room: 0, .. }
+    ));
+    let found = findings(&map);
+    assert_eq!(found.len(), 20);
+    let (refusal, entry) = (Refusal::Source, Some(12233 + 5 * 11));
+    let last = Finding::Refused { refusal, spot: Spot::Entry, at: entry };
+    assert_eq!(found[19], (2, 11, last));
+
+    // A point with a tag that the header does not have.
+    let map = Map::open(&whole).unwrap();
+    let tile = map.sub_file(2).unwrap().collect(8).unwrap();
+    let id = tile.points().next().unwrap().unwrap().tag_ids[0] as u8;
+    let head = at(8) as usize + 19;
+    let place = (head..).find(|&k| whole[k] == id && whole[k - 1] & 0xf0 == 0x50).unwrap();
+    let mut tagged = whole.clone();
+    tagged[place] = 0x7f;
+    let found = findings(&Map::open(&tagged).unwrap());
+    let refusal = Refusal::InvalidTagId(0x7f);
+    let spot = Finding::Refused { refusal, spot: Spot::Point(0), at: Some(head as u64) };
+    assert_eq!(found, [(2, 8, spot)]);
+}
+
+/// An unsigned number and the place behind it.
+fn stored(bytes: &[u8], at: usize) -> (usize, usize) {
+    let end = (at..).find(|&k| bytes[k] & 0x80 == 0).unwrap() + 1;
+    (bytes[at..end].iter().rev().fold(0, |value, byte| value << 7 | usize::from(byte & 0x7f)), end)
+}
+
+/// Where a tile's first-way offset stands: behind a pair of counts for each zoom.
+fn offset_place(sub_file: &SubFile<'_, '_>, tile: usize) -> usize {
+    let (map, interval) = (sub_file.map(), sub_file.interval());
+    let signature = if map.header().debug() { 32 } else { 0 };
+    let start = sub_file.entry(tile).unwrap().place as usize + signature;
+    let numbers = 2 * (interval.max_zoom - interval.min_zoom + 1);
+    (0..numbers).fold(start, |at, _| stored(map.bytes(), at).1)
+}
+
+/// Each way of a tile in turn gets a wrong size, and just that one is found.
+#[test]
+fn check_finds_each_wrong_size() {
+    for (name, signature) in [("islands.map", 0), ("islands-debug.map", 32)] {
+        let mut bytes = map_bytes(name);
+        let whole = bytes.clone();
+        let map = Map::open(&whole).unwrap();
+        let sub_file = map.sub_file(2).unwrap();
+        let ways = sub_file.collect(10).unwrap().way_count();
+        let (offset, head_end) = stored(&whole, offset_place(&sub_file, 10));
+        let mut at = head_end + offset;
+        for way in 0..ways {
+            at += signature;
+            let (size, start) = stored(&whole, at);
+            // One less for an odd way, one more for an even one, by the number's lowest bits.
+            bytes[at] = if way % 2 == 1 { bytes[at] - 1 } else { bytes[at] + 1 };
+            let changed = Map::open(&bytes).unwrap();
+            let (wrong, end) = stored(&bytes, at);
+            assert_eq!((wrong.abs_diff(size), end), (1, start), "the change is small");
+            let finding =
+                Finding::Size { way, at: at as u64, stored: wrong as u64, decoded: size as u64 };
+            let sub_file = changed.sub_file(2).unwrap();
+            assert_eq!(check::tile(&sub_file, sub_file.tile(10).unwrap()).findings, [finding]);
+            bytes[at] = whole[at];
+            at = start + size;
+        }
+        assert_eq!(at as u64, sub_file.entry(11).unwrap().place);
+    }
+}
+
+/// A byte between the points and the ways of the last tile, which the offset leads past.
+#[test]
+fn check_finds_an_offset_that_leads_elsewhere() {
+    let mut bytes = map_bytes("islands.map");
+    let whole = bytes.clone();
+    let map = Map::open(&whole).unwrap();
+    let place = offset_place(&map.sub_file(2).unwrap(), 11);
+    let (offset, head_end) = stored(&whole, place);
+    let first_way = head_end + offset;
+    bytes[place] += 1;
+    bytes.insert(first_way, 0);
+    let changed = Map::open(&bytes).unwrap();
+    let finding = Finding::Offset { leads_to: first_way as u64 + 1, points_end: first_way as u64 };
+    assert_eq!(findings(&changed), [(2, 11, finding)]);
+    // The tile is the same all the same.
+    let ways = |map: &Map<'_>| -> Vec<String> {
+        let tile = map.sub_file(2).unwrap().collect(11).unwrap();
+        let ways = tile.ways().map(|way| seen(&Feature::Way(way.unwrap())));
+        ways.collect()
+    };
+    assert_eq!(ways(&changed), ways(&map));
+}
+
+#[test]
+fn an_absurd_grid_is_a_finding() {
+    let bytes = with_box(map_bytes("islands.map"), [-90000000, -180000000, 90000000, 180000000]);
+    let map = Map::open(&bytes).unwrap();
+    let found = check::map(&map);
+    assert_eq!(found.len(), 3);
+    let (tiles, room) = (1 << 26, (29815 - 12233) / 5);
+    assert_eq!(found[2], MapFinding::Index { sub_file: 2, start: 12233, tiles, room });
+}
+
+/// Whatever a map's bytes are, every call ends, and nothing panics.
+#[test]
+fn damaged_maps_are_read_without_harm() {
+    let mut seed = 7u64;
+    for name in ["islands.map", "islands-debug.map"] {
+        let whole = map_bytes(name);
+        for _ in 0..150 {
+            let mut bytes = whole.clone();
+            for _ in 0..8 {
+                seed = seed.wrapping_mul(6364136223846793005).wrapping_add(1442695040888963407);
+                let at = (seed >> 33) as usize % bytes.len();
+                bytes[at] = (seed >> 20) as u8;
+            }
+            let Ok(map) = Map::open(&bytes) else { continue };
+            for sub_file in map.sub_files().flatten() {
+                if sub_file.tile_count().is_ok_and(|count| count <= 100) {
+                    for place in sub_file.tiles().unwrap() {
+                        read_all(&sub_file, place);
+                    }
+                }
+            }
+        }
+    }
+}
+
+fn read_all(sub_file: &SubFile<'_, '_>, place: mapsforge::TilePlace) {
+    let report = check::tile(sub_file, place);
+    for finding in &report.findings {
+        assert!(!finding.to_string().is_empty());
+    }
+    let Ok(tile) = sub_file.collect(place.number) else {
+        assert!(report.marked_empty || !report.findings.is_empty());
+        return;
+    };
+    assert!(tile.features().step_by(7).all(|feature| feature.is_ok()));
+}
