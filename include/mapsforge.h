@@ -11,7 +11,10 @@
  * refusal the words behind them are 0, but where a call says otherwise.
  *
  * A part of the map, or of nothing, is three words: 1 if it is there, its place in the map, its size in bytes; else 0, 0, 0.
- * A map is opened anew at each call that takes sub files, so that nothing of it has to be kept but its bytes. */
+ * A text of a stream that is not valid UTF-8 is there with size 0.
+ *
+ * A map is opened anew at each call that takes sub files, so that nothing of it has to be kept but its bytes; if it does not open, the
+ * call gives the refusal of opening. */
 #ifndef MAPSFORGE_H
 #define MAPSFORGE_H
 
@@ -74,7 +77,8 @@ uint64_t mapsforge_index_entry(const uint8_t *map, size_t map_len, size_t sub_fi
 uint64_t mapsforge_column(double longitude, uint8_t zoom, uint64_t words[6], int64_t column[1]);
 uint64_t mapsforge_longitude(uint32_t column, uint8_t zoom, uint64_t words[6], double longitude[1]);
 
-/* Opens a stream of a tile at a zoom, which is clamped into the sub file's interval. On a refusal the state keeps its words. */
+/* Opens a stream of a tile at a zoom, which is clamped into the sub file's interval. The state is the caller's to keep and these calls' to
+ * write. On a refusal it keeps its words. */
 uint64_t mapsforge_stream_open(const uint8_t *map, size_t map_len, size_t sub_file, int32_t x_min, int32_t y_min, int32_t x_max, int32_t y_max, size_t tile, uint8_t zoom, uint64_t state[7], uint64_t words[6]);
 
 /* The next point; after the last point the next way's head, which then waits; at last the end, again and again. 16 while a way waits.
