@@ -67,9 +67,10 @@ pub enum Finding {
 pub struct Report {
     /// The tile.
     pub place: TilePlace,
-    /// Whether the tile is marked as one without features (see [`SubFile::marked_empty`]); it is then not read.
+    /// Whether the tile is marked as one without features (see [`SubFile::marked_empty`]). What stands at its place is
+    /// then another tile's, or nothing: a refusal there is no finding.
     pub marked_empty: bool,
-    /// Its numbers of points and ways, if it collects.
+    /// Its numbers of points and ways, if it collects; with a tile that is marked empty, what the library reads there.
     pub counts: Option<(u64, u64)>,
     /// What stands in the way.
     pub findings: Vec<Finding>,
@@ -142,10 +143,8 @@ pub fn tile(sub_file: &SubFile<'_, '_>, place: TilePlace) -> Report {
     };
     // A next entry that cannot be read is that tile's own finding.
     report.marked_empty = sub_file.marked_empty(place.number).unwrap_or(false);
-    if report.marked_empty {
-        return report;
-    }
     match sub_file.collect(place.number) {
+        Err(_) if report.marked_empty => {}
         Err(refusal) => report.findings.push(refused(sub_file, place, entry.place, refusal)),
         Ok(tile) => {
             report.counts = Some((tile.point_count(), tile.way_count()));

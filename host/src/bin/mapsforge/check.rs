@@ -60,6 +60,8 @@ struct Checked {
     findings: u64,
     tiles: u64,
     empty: u64,
+    /// Tiles that are marked empty and at whose place another one's features are read.
+    borrowed: u64,
     points: u64,
     ways: u64,
 }
@@ -96,9 +98,13 @@ impl Checked {
     ) -> io::Result<()> {
         self.tiles += 1;
         self.empty += u64::from(report.marked_empty);
-        if let Some((points, ways)) = report.counts {
-            self.points += points;
-            self.ways += ways;
+        match report.counts {
+            Some(_) if report.marked_empty => self.borrowed += 1,
+            Some((points, ways)) => {
+                self.points += points;
+                self.ways += ways;
+            }
+            None => {}
         }
         for finding in &report.findings {
             bar.clear();
@@ -119,9 +125,11 @@ impl Checked {
             let verb = if self.empty == 1 { "is" } else { "are" };
             writeln!(
                 out,
-                "{} {verb} marked empty, by the offset of the next one, and not read: the \
-                 library does not look at that mark, so a program has to",
-                count(self.empty, "tile")
+                "{} {verb} marked empty, by the offset of the next one: the library reads what \
+                 stands there, another tile's features in {}, and refuses the rest, so a program \
+                 has to look at the mark first",
+                count(self.empty, "tile"),
+                self.borrowed
             )?;
         }
         let verdict = match self.findings {
