@@ -110,9 +110,9 @@ uint64_t mapsforge_collect(const uint8_t *map, size_t map_len, size_t sub_file, 
  * tags: for each of 15 tags five words, as a text's last five. A refused call leaves the lists and the buffer alone. */
 uint64_t mapsforge_fetch(const uint8_t *map, size_t map_len, size_t sub_file, int32_t x_min, int32_t y_min, int32_t x_max, int32_t y_max, size_t tile, uint64_t feature, uint64_t *node_counts, size_t node_counts_len, double *latitudes, size_t latitudes_len, double *longitudes, size_t longitudes_len, double *initial_latitudes, size_t initial_latitudes_len, double *initial_longitudes, size_t initial_longitudes_len, uint8_t *buffer, size_t buffer_len, uint64_t words[35], int64_t signed_words[2], double degrees[2], uint64_t ids[15], uint64_t tags[75]);
 
-/* The data of a way alone, from a place in the map on. measured: the number of blocks, of nodes, and the place behind them (at least
- * three entries, else 15). */
-uint64_t mapsforge_measure_way_data(const uint8_t *map, size_t map_len, size_t at, uint64_t data_blocks, uint64_t *measured, size_t measured_len);
-uint64_t mapsforge_read_way_data(const uint8_t *map, size_t map_len, size_t at, uint64_t data_blocks, bool double_delta, uint64_t *node_counts, size_t node_counts_len, double *latitudes, size_t latitudes_len, double *longitudes, size_t longitudes_len);
+/* The data of a way alone, from a place in the map on: measured, and read to the fronts of three lists. words: 6 the number of blocks, 7 of
+ * nodes, 8 the place behind them. A refused call leaves the lists alone. */
+uint64_t mapsforge_measure_way_data(const uint8_t *map, size_t map_len, size_t at, uint64_t data_blocks, uint64_t words[9]);
+uint64_t mapsforge_read_way_data(const uint8_t *map, size_t map_len, size_t at, uint64_t data_blocks, bool double_delta, uint64_t *node_counts, size_t node_counts_len, double *latitudes, size_t latitudes_len, double *longitudes, size_t longitudes_len, uint64_t words[9]);
 
 #endif

@@ -3,6 +3,7 @@
 use std::f64::consts::PI;
 use std::fs;
 use std::path::Path;
+use std::process;
 
 use mapsforge_rs::grid::Grid;
 use mapsforge_rs::types::{BoundingBox, MapFile, ZoomInterval};
@@ -22,25 +23,34 @@ pub struct SubFile {
 }
 
 impl Map {
+    /// A file that is no map to measure ends the program, with status 2.
     pub fn read(file: &str) -> Self {
-        let bytes = fs::read(file).unwrap_or_else(|error| panic!("{file}: {error}"));
+        Map::of(file).unwrap_or_else(|why| {
+            eprintln!("bench: {file} {why}");
+            process::exit(2)
+        })
+    }
+
+    fn of(file: &str) -> Result<Self, String> {
+        let bytes = fs::read(file).map_err(|error| format!("cannot be read: {error}"))?;
         let name = Path::new(file).file_name().expect("a file").to_string_lossy().into_owned();
-        let sub_files = sub_files(&bytes);
-        Map { name, bytes, sub_files }
+        let sub_files = sub_files(&bytes)?;
+        Ok(Map { name, bytes, sub_files })
     }
 }
 
-fn sub_files(map: &[u8]) -> Vec<SubFile> {
-    let file = MapFile::from_source(Source::new(map)).expect("a map that opens");
+fn sub_files(map: &[u8]) -> Result<Vec<SubFile>, String> {
+    let opened = MapFile::from_source(Source::new(map));
+    let file = opened.map_err(|error| format!("is not a map that opens: {error}"))?;
     let header = &file.header;
     let intervals = header.zoom_interval_configuration.iter();
     intervals.map(|interval| sub_file(&header.bounding_box, interval)).collect()
 }
 
-fn sub_file(bounds: &BoundingBox, interval: &ZoomInterval) -> SubFile {
+fn sub_file(bounds: &BoundingBox, interval: &ZoomInterval) -> Result<SubFile, String> {
     let grid = grid(bounds, interval.base_zoom_level);
-    let tiles = grid.tiles().expect("a good grid") as usize;
-    SubFile { grid, tiles, lowest_zoom: interval.min_zoom_level }
+    let tiles = grid.tiles().ok_or("has a bounding box that gives no grid of tiles")? as usize;
+    Ok(SubFile { grid, tiles, lowest_zoom: interval.min_zoom_level })
 }
 
 /// The Rust's own grid, reckoned as its `get_tiles` does.

@@ -46,7 +46,7 @@ fn print_line(shape: &Shape, bytes: &[u8], double: bool) {
 fn best(shape: &Shape, bytes: &[u8], double: bool) -> [f64; 4] {
     let mut blocks = Blocks::new();
     let mut lists = check::lists(shape);
-    let mut sizes = [0; 3];
+    let mut words = [0; 9];
     let mut least = [f64::MAX; 4];
     for _ in 0..ROUNDS {
         let took = [
@@ -54,7 +54,7 @@ fn best(shape: &Shape, bytes: &[u8], double: bool) -> [f64; 4] {
             seconds(|| {
                 rust::read(&mut Source::new(black_box(bytes)), 1, double, &mut blocks).is_ok()
             }),
-            seconds(|| ours::measure(black_box(bytes), 1, &mut sizes) == 0),
+            seconds(|| ours::measure(black_box(bytes), 1, &mut words) == 0),
             seconds(|| ours::read(black_box(bytes), 1, double, &mut lists) == 0),
         ];
         least = std::array::from_fn(|side| least[side].min(took[side]));

@@ -1,5 +1,6 @@
 //! Document 01's worked figures and the examples of its table, as far as the driver's commands reach.
 
+mod calls;
 mod tiles;
 
 use std::fmt::Debug;

@@ -18,8 +18,6 @@ use std::io::{self, ErrorKind};
 use std::path::Path;
 use std::process::ExitCode;
 
-use tiles::Form;
-
 const HELP: &str = "\
 compare/run [--rust FOLDER] COMMAND ARGS...
 
@@ -29,12 +27,6 @@ compare/run [--rust FOLDER] COMMAND ARGS...
   index-sample DIR    the same two files for crafted maps: index and grid, tags, columns
   maps-records FILE DIR, index-records FILE DIR
                       the same two files for one map
-  fetches-sample DIR  the same two files for crafted tiles and the maps of maps/, collected, and every feature fetched
-  streams-sample DIR  the same two files for the same tiles and maps: their streams in lines
-  turns-sample DIR    the same two files for calls out of turn and lists that are too short, which the Rust does not have
-  books-sample DIR    the same two files for lists of calls, whose answers are held to document 01's book
-  fetches-records FILE DIR, streams-records FILE DIR, books-records FILE DIR
-                      the same two files for all tiles of one map
   scale [--cases N] [--seed S] [--threads T] [--quick] [--only K] [MAP...]
                       our library and the Rust in one process: crafted maps, those of maps/ and the maps named, first whole
                       and undamaged, then N damaged copies; every answer, word and lent entry; fails on a difference.
@@ -75,19 +67,6 @@ fn run(arguments: &[&str]) -> io::Result<ExitCode> {
         }
         ["index-records", file, folder] => {
             maps::file::write(Path::new(file), Path::new(folder), maps::Form::Indexes)?;
-        }
-        ["fetches-sample", folder] => tiles::sample::write(Path::new(folder), Form::Fetches)?,
-        ["streams-sample", folder] => tiles::sample::write(Path::new(folder), Form::Streams)?,
-        ["turns-sample", folder] => tiles::sample::write(Path::new(folder), Form::Turns)?,
-        ["books-sample", folder] => tiles::sample::write(Path::new(folder), Form::Books)?,
-        ["fetches-records", file, folder] => {
-            tiles::file::write(Path::new(file), Path::new(folder), Form::Fetches)?;
-        }
-        ["streams-records", file, folder] => {
-            tiles::file::write(Path::new(file), Path::new(folder), Form::Streams)?;
-        }
-        ["books-records", file, folder] => {
-            tiles::file::write(Path::new(file), Path::new(folder), Form::Books)?;
         }
         #[cfg(feature = "both")]
         ["scale", rest @ ..] => {

@@ -24,9 +24,9 @@ use crate::source::Source;
 /// How many of the first bytes the operation `D` damages.
 const DAMAGED_BYTES: usize = 1500;
 /// What each of them is combined with, by exclusive or.
-pub const DAMAGES: [u8; 3] = [1, 128, 255];
+const DAMAGES: [u8; 3] = [1, 128, 255];
 /// The answer about a map that does not open. Document 01 has no such number.
-pub const NOT_OPEN: u64 = 99;
+const NOT_OPEN: u64 = 99;
 
 /// A run of operations, one after the other.
 #[derive(Default)]
@@ -110,7 +110,7 @@ pub fn given<T>(part: mapsforge_rs::Result<T>) -> T {
 }
 
 /// A place in the map, in four bytes.
-pub fn place(input: &mut Source) -> usize {
+fn place(input: &mut Source) -> usize {
     given(input.read_u32_be()) as usize
 }
 

@@ -8,6 +8,7 @@ mod cases;
 mod check;
 mod choices;
 mod collected;
+mod crafted;
 mod damage;
 mod held;
 mod indexed;
@@ -96,7 +97,7 @@ pub fn run(arguments: &[&str]) -> io::Result<Option<ExitCode>> {
 }
 
 fn bases(options: &Options) -> io::Result<Vec<Base>> {
-    let mut bases = bases::crafted()?;
+    let mut bases = bases::crafted();
     bases.extend(bases::repository()?);
     for path in &options.maps {
         bases.push(bases::of_file(path)?);

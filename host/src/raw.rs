@@ -344,18 +344,9 @@ pub fn fetch(
 }
 
 /// The number of blocks and nodes of a way's data, and the place behind them.
-pub fn measure_way_data(map: &[u8], at: usize, data_blocks: u64, measured: &mut [u64]) -> u64 {
+pub fn measure_way_data(map: &[u8], at: usize, data_blocks: u64, words: &mut [u64; 9]) -> u64 {
     // SAFETY: borrowed for the call, at their lengths.
-    unsafe {
-        sys::mapsforge_measure_way_data(
-            map.as_ptr(),
-            map.len(),
-            at,
-            data_blocks,
-            measured.as_mut_ptr(),
-            measured.len(),
-        )
-    }
+    unsafe { sys::mapsforge_measure_way_data(map.as_ptr(), map.len(), at, data_blocks, words) }
 }
 
 /// The nodes of a way's data.
@@ -367,6 +358,7 @@ pub fn read_way_data(
     node_counts: &mut [u64],
     latitudes: &mut [f64],
     longitudes: &mut [f64],
+    words: &mut [u64; 9],
 ) -> u64 {
     // SAFETY: borrowed for the call, at their lengths.
     unsafe {
@@ -382,6 +374,7 @@ pub fn read_way_data(
             latitudes.len(),
             longitudes.as_mut_ptr(),
             longitudes.len(),
+            words,
         )
     }
 }

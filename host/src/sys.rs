@@ -181,8 +181,7 @@ extern "C" {
         map_len: usize,
         at: usize,
         data_blocks: u64,
-        measured: *mut u64,
-        measured_len: usize,
+        words: *mut [u64; 9],
     ) -> u64;
 
     pub fn mapsforge_read_way_data(
@@ -197,5 +196,6 @@ extern "C" {
         latitudes_len: usize,
         longitudes: *mut f64,
         longitudes_len: usize,
+        words: *mut [u64; 9],
     ) -> u64;
 }

@@ -19,9 +19,10 @@ pub fn same(shape: &Shape, bytes: &[u8], double: bool) {
     let used = rust::read(&mut &bytes[..], 1, double, &mut blocks).expect("the Rust reads it");
     assert_eq!(used, shape.blocks);
 
-    let mut sizes = [0; 3];
-    assert_eq!(ours::measure(bytes, 1, &mut sizes), 0);
-    assert_eq!(sizes, [shape.blocks as u64, shape.all_nodes() as u64, bytes.len() as u64]);
+    let mut words = [7; 9];
+    assert_eq!(ours::measure(bytes, 1, &mut words), 0);
+    let sizes = [shape.blocks as u64, shape.all_nodes() as u64, bytes.len() as u64];
+    assert_eq!((&words[..6], &words[6..]), (&[0; 6][..], &sizes[..]));
 
     let mut got = lists(shape);
     assert_eq!(ours::read(bytes, 1, double, &mut got), 0);

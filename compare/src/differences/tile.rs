@@ -6,6 +6,7 @@ mod features;
 mod reader;
 mod tags;
 
+#[cfg(feature = "both")]
 use std::ops::Range;
 
 use mapsforge_rs::header::DEBUG_INFO_MASK;
@@ -15,10 +16,10 @@ pub use reader::{Cause, Parting};
 
 use crate::answer::Answer;
 use crate::source::Source;
+use crate::tiles::delivery::Delivery;
 #[cfg(feature = "both")]
 use crate::tiles::feature::Block;
 use crate::tiles::feature::{Collected, Text, Tile};
-use crate::tiles::tally::Delivery;
 use crate::tiles::Address;
 use reader::{Read, Reader, View};
 
@@ -56,12 +57,13 @@ impl<'a> Opened<'a> {
 
     /// `read_tile`.
     pub fn collect(self, address: &Address) -> Port {
-        let (tile, parting) = self.tile(address);
+        let mut reader = Reader::new(self, View::Collected);
+        let tile = reader.tile(address);
         let answer = tile.map_or_else(|refusal| refusal, |tile| tile.answer());
-        Port { answer, parting, texts: Vec::new() }
+        Port { answer, parting: reader.parting, texts: Vec::new() }
     }
 
-    /// Feature `k` of the collected tile, with the codes of its tags.
+    /// Feature `k` of the collected tile, with its tags.
     pub fn fetch(self, address: &Address, k: usize) -> Port {
         let (tile, parting) = self.fetched(address);
         let answer = tile.map_or_else(|refusal| refusal, |tile| tile.answer(k));
@@ -116,20 +118,6 @@ impl<'a> Opened<'a> {
         (start < end).then_some((start..end, numbers))
     }
 
-    /// The bytes of a tile that collects, up to where its last way ends.
-    pub fn extent(self, address: &Address) -> Option<Range<usize>> {
-        let mut reader = Reader::new(self, View::Collected);
-        let start = reader.head(address).ok()?.start;
-        reader.tile(address).ok()?;
-        Some(usize::try_from(start).ok()?..usize::try_from(reader.at()).ok()?)
-    }
-
-    /// The collected tile, or the refusal.
-    pub fn tile(self, address: &Address) -> (Result<Tile, Answer>, Option<Parting>) {
-        let mut reader = Reader::new(self, View::Collected);
-        (reader.tile(address), reader.parting)
-    }
-
     /// The collected tile with its texts as a stream gives them, or the refusal.
     #[cfg(feature = "both")]
     pub fn streamed_tile(self, address: &Address) -> Result<Tile, Answer> {
@@ -159,7 +147,6 @@ impl<'a> Opened<'a> {
 /// What stands before a tile's features.
 struct Head {
     water: bool,
-    start: u128,
     signature: Option<Text>,
     /// The zoom of the table's first row.
     lowest: u8,
@@ -226,7 +213,7 @@ impl Reader<'_> {
         let table = (lowest..=highest).map(row).collect::<Read<_>>()?;
         let first_way = self.unsigned()?;
         let ways = self.at() + u128::from(first_way);
-        Ok(Head { water, start, signature, lowest, table, first_way, ways })
+        Ok(Head { water, signature, lowest, table, first_way, ways })
     }
 
     /// "An index entry is 5 bytes: top bit water, 39 bits offset".

@@ -4,16 +4,27 @@
 use mapsforge_rs::grid::{self, Grid};
 use mapsforge_rs::types::MapFile;
 
+use super::calls::Calls;
 use super::Tally;
 use crate::answer::Answer;
-use crate::leaves::sample::unsigned;
-use crate::maps::writer::tile::{sub_file, Point, Tile, Way};
-use crate::maps::writer::{tags, Header};
+use crate::differences::tile::{Cause, Opened, Port};
+use crate::leaves::sample::{signed, unsigned};
+use crate::maps::open;
+use crate::maps::writer::{entry, tags, text, Header};
 use crate::source::Source;
-use crate::tiles::Run;
+use crate::tiles::delivery::{Delivery, Unread};
+use crate::tiles::{rust, Address};
 
-/// Sub file 0, a grid of one tile, tile 0.
-const FIRST: [u8; 32] = [0; 32];
+/// A grid of one tile.
+const ONE: Grid = Grid { x_min: 0, y_min: 0, x_max: 0, y_max: 0 };
+const FIRST: Address = Address { sub_file: 0, grid: ONE, tile: 0 };
+
+/// The size of an index of one entry.
+const INDEX: u64 = 5;
+
+/// The flags of a way's or point's name, and of double delta.
+const NAME: u8 = 0x80;
+const DOUBLE: u8 = 0x04;
 
 pub fn check(tally: &mut Tally) {
     nodes(tally);
@@ -21,24 +32,70 @@ pub fn check(tally: &mut Tally) {
     counts(tally);
     limits(tally);
     overlap(tally);
-    turns(tally);
+    calls(tally);
 }
 
 /// A map of one tile, with three tags of each table.
 fn map(zooms: [u8; 3], tile: &[u8]) -> Vec<u8> {
     let three = tags(&[b"a", b"b", b"c"]);
     let header = Header { poi_tags: three.clone(), way_tags: three, ..Header::tiny() };
-    header.with_interval(zooms, 0).before_all(&[sub_file(false, &[tile.to_vec()])])
+    header.with_interval(zooms, 0).before_all(&[[&entry(false, INDEX), tile].concat()])
 }
 
-fn asked(map: &[u8], operation: u8, input: &[u8]) -> Answer {
-    let mut run = Run::default();
-    assert_eq!(run.answer(b'M', map), [0], "the map opens");
-    run.answer(operation, input)
+/// A way with no field but perhaps a name, and with a block of these stored numbers.
+fn way(flags: u8, name: &[u8], nodes: &[[i64; 2]]) -> Vec<u8> {
+    let number = |&value: &i64| signed(value < 0, value.unsigned_abs());
+    let stored: Vec<u8> = nodes.as_flattened().iter().flat_map(number).collect();
+    let block = [&[1], unsigned(nodes.len() as u64).as_slice(), &stored].concat();
+    let behind_size = [&[0xFF, 0xFF, 0x50, flags], name, &block].concat();
+    [unsigned(behind_size.len() as u64), behind_size].concat()
+}
+
+/// A tile of one way.
+fn with_way(flags: u8, nodes: &[[i64; 2]]) -> Vec<u8> {
+    [&[0, 1, 0], way(flags, &[], nodes).as_slice()].concat()
+}
+
+/// The Rust's answer on the first tile, which must be the model's; where the Rust parts, the model's.
+fn asked(
+    map: &[u8],
+    model: impl FnOnce(Opened) -> Port,
+    rust: impl FnOnce(&mut MapFile<Source>) -> Answer,
+) -> Answer {
+    let answer = |mut file: MapFile<Source>| {
+        let Port { answer, parting, .. } = model(Opened::of(&file));
+        grid::lend(FIRST.grid);
+        let Some(parting) = parting else {
+            let rust = rust(&mut file);
+            assert_eq!(rust, answer, "the Rust (left) and document 01 part");
+            return rust;
+        };
+        // the Rust reads up to a bad number too: it is refused there, by 1, if the map ends there
+        if parting.untouched && matches!(parting.cause, Cause::Number | Cause::Coordinate) {
+            file.reader = Source::new(&file.reader.map()[..parting.place as usize]);
+            assert_eq!(rust(&mut file), [1], "the Rust (left) does not come so far");
+        }
+        answer
+    };
+    open::with_map(map, answer).expect("the map opens")
+}
+
+fn collected_of(map: &[u8]) -> Answer {
+    asked(map, |opened| opened.collect(&FIRST), |file| rust::collect(file, &FIRST))
 }
 
 fn collected(tile: &[u8]) -> Answer {
-    asked(&map([0; 3], tile), b'A', &FIRST)
+    collected_of(&map([0; 3], tile))
+}
+
+fn feature(map: &[u8], k: usize) -> Answer {
+    asked(map, |opened| opened.fetch(&FIRST, k), |file| rust::fetch(file, &FIRST, k))
+}
+
+/// How the stream of the model ends.
+fn streamed(map: &[u8], zoom: u8, delivery: &mut impl Delivery) -> Answer {
+    let ended = open::with_map(map, |file| Opened::of(&file).stream(&FIRST, zoom, delivery).answer);
+    ended.expect("the map opens")
 }
 
 /// "Stored latitudes of 1, 2, 3 degrees: single 1, 3, 6; double 1, 3, 8."
@@ -56,10 +113,9 @@ fn nodes(tally: &mut Tally) {
 }
 
 fn latitudes(stored: &[i64], double: bool) -> Vec<f64> {
-    let block = stored.iter().map(|&latitude| [latitude, 0]).collect();
-    let tile = Tile::of(&[], &[Way { double, ..Way::of(block) }]).plain();
-    let map = map([0; 3], &tile);
-    grid::lend(Grid { x_min: 0, y_min: 0, x_max: 0, y_max: 0 });
+    let nodes: Vec<[i64; 2]> = stored.iter().map(|&latitude| [latitude, 0]).collect();
+    let map = map([0; 3], &with_way(if double { DOUBLE } else { 0 }, &nodes));
+    grid::lend(FIRST.grid);
     let mut file = MapFile::from_source(Source::new(&map)).expect("a good header");
     let tile = file.read_tile(0, 0).expect("a good tile");
     tile.ways[0].coordinate_blocks[0].coordinates.iter().map(|node| node.latitude).collect()
@@ -81,13 +137,9 @@ fn refusals(tally: &mut Tally) {
     tile("nine bytes 80 as a count", &[0x80; 9], &[11]);
     let above = [1, 0, 0, 0x81, 0x80, 0x80, 0x80, 0x80, 0x80, 0x80, 0x10];
     tile("latitude 81 80 80 80 80 80 80 10", &above, &[12]);
-    tally.equal("zooms 9 and 8", asked(&map([9, 9, 8], &[]), b'A', &FIRST), vec![13]);
+    tally.equal("zooms 9 and 8", collected_of(&map([9, 9, 8], &[])), vec![13]);
     let empty = map([0; 3], &[0, 0, 0]);
     tally.equal("feature 0 of no features", feature(&empty, 0), vec![17]);
-}
-
-fn feature(map: &[u8], k: u32) -> Answer {
-    asked(map, b'F', &[&FIRST[..], &k.to_be_bytes()].concat())
 }
 
 /// Counts that cannot be reserved, and sums past 64 bits: 1, unless a feature is refused earlier.
@@ -100,17 +152,18 @@ fn counts(tally: &mut Tally) {
     let row = [most.as_slice(), &[0]].concat();
     let sum = [row.as_slice(), &row, &row, &[0, 0, 0, 0x51, 4]].concat();
     let map = map([0, 0, 2], &sum);
-    tally.equal("three such rows", asked(&map, b'A', &FIRST), vec![7, 4]);
-    let streamed = asked(&map, b'S', &[&FIRST[..], &[2, 0]].concat());
-    tally.equal("the same, streamed", streamed[..5].to_vec(), vec![7, 4, 0, 0, 0]);
+    tally.equal("three such rows", collected_of(&map), vec![7, 4]);
+    tally.equal("the same, streamed", streamed(&map, 2, &mut Unread), vec![7, 4]);
 }
 
 /// "Text of 2^20 bytes and block of 2^20 nodes pass."
 fn limits(tally: &mut Tally) {
     let most = 1 << 20;
-    let way = Way { name: Some(vec![b'a'; most]), ..Way::of(vec![[1, -1]; most]) };
-    let tile = Tile::of(&[Point { name: way.name.clone(), ..Point::at([0, 0]) }], &[way]);
-    let map = map([0; 3], &tile.plain());
+    let name = text(&vec![b'a'; most]);
+    let point = [&[0, 0, 0x50, NAME], name.as_slice()].concat();
+    let head = [&[1, 1], unsigned(point.len() as u64).as_slice()].concat();
+    let tile = [head, point, way(NAME, &name, &vec![[1, -1]; most])].concat();
+    let map = map([0; 3], &tile);
     tally.equal(
         "text of 2^20",
         feature(&map, 0)[..8].to_vec(),
@@ -126,21 +179,26 @@ fn limits(tally: &mut Tally) {
 
 /// The way lies over the point: the tile 01 01 00 05 00 50 80 01 00.
 fn overlap(tally: &mut Tally) {
-    let answer = collected(&[0x01, 0x01, 0x00, 0x05, 0x00, 0x50, 0x80, 0x01, 0x00]);
-    tally.equal("a way over a point", answer[..5].to_vec(), vec![0, 1, 0, 1, 1]);
+    let map = map([0; 3], &[0x01, 0x01, 0x00, 0x05, 0x00, 0x50, 0x80, 0x01, 0x00]);
+    let found = (collected_of(&map)[..5].to_vec(), is_exact(&map));
+    tally.equal("a way over a point", found, (vec![0, 1, 0, 1, 1], true));
 }
 
-/// The table's rows 15 and 16: "2 nodes, list of 1" and "accept with no way waiting". The lists have
-/// 128 entries, of which a front is lent.
-fn turns(tally: &mut Tally) {
-    let tile = Tile::of(&[], &[Way::of(vec![[0, 0], [1, 1]])]).plain();
-    let mut run = Run::default();
-    run.turns(b'M', &map([0; 3], &tile));
-    let lines = run.turns(b'T', &FIRST);
-    let wanted = "T
+/// Whether every stored size is the decoded length, which the Rust does not say.
+fn is_exact(map: &[u8]) -> bool {
+    let tile = open::with_map(map, |file| Opened::of(&file).fetched(&FIRST).0);
+    tile.expect("the map opens").is_ok_and(|collected| collected.tile.exact)
+}
+
+/// The table's rows 15 and 16: "2 nodes, list of 1" and "accept with no way waiting".
+fn calls(tally: &mut Tally) {
+    let mut calls = Calls::default();
+    let map = map([0; 3], &with_way(0, &[[0, 0], [1, 1]]));
+    let ended = streamed(&map, u8::MAX, &mut calls);
+    let wanted = "\
 a 128 128 128 16 128 128 128
 d 16
-n 2
+n 2 65535 5
 n 16
 a 0 0 0 15 1 2 2 128 128 128
 a 0 2 2 15 1 2 2 128 128 128
@@ -155,5 +213,5 @@ a 128 128 128 16 128 128 128
 d 16
 n 0 0 0
 ";
-    tally.equal("calls on a way of 2 nodes", lines, wanted.to_string());
+    tally.equal("calls on a way of 2 nodes", calls.end(&ended), wanted.to_string());
 }

@@ -5,7 +5,9 @@ mod random;
 mod tags;
 mod texts;
 
-pub use numbers::{signed, signed_in, unsigned, unsigned_in};
+#[cfg(feature = "both")]
+pub use numbers::signed_in;
+pub use numbers::{signed, unsigned, unsigned_in};
 pub use tags::TAGS;
 
 use std::collections::HashSet;

@@ -1,7 +1,5 @@
 //! A small writer of maps. Numbers and texts are written as given, also if they are wrong.
 
-pub mod tile;
-
 use crate::leaves::sample::unsigned;
 
 pub const INDEX_SIGNATURE: &[u8; 16] = b"+++IndexStart+++";

@@ -5,16 +5,20 @@ use std::fs;
 use std::io;
 use std::path::Path;
 
+use mapsforge_rs::grid::Grid;
+use mapsforge_rs::io::ByteRead;
+
+use super::crafted;
 use super::opening::Opening;
+use crate::maps::calls::on_grid;
 use crate::maps::file::{grids, UNKNOWN};
+use crate::maps::{self, given};
 use crate::records::Record;
 use crate::source::Source;
-use crate::tiles::sample::shipped;
 use crate::tiles::Address;
-use crate::{maps, tiles};
 
-/// The front of a record's input that is an address: a sub file, its grid and a tile.
-const ADDRESS: usize = 8 + 4 * 4 + 8;
+/// The maps of the repository, whose folder is beside this package's.
+const SHIPPED: [&str; 3] = ["islands.map", "islands-debug.map", "short-size.map"];
 
 /// A map, and the tiles that are asked for.
 pub struct Base {
@@ -24,19 +28,23 @@ pub struct Base {
 }
 
 /// The crafted maps and tiles of the driver, each map once.
-pub fn crafted() -> io::Result<Vec<Base>> {
+pub fn crafted() -> Vec<Base> {
     let mut crafted = Crafted::default();
-    crafted.add("tiles", tiles::sample::crafted().records());
-    crafted.add("maps", maps::sample::crafted().records());
+    for (map, tiles) in crafted::maps() {
+        let base = crafted.base("tiles", &map);
+        tiles.into_iter().for_each(|tile| crafted.tile(base, tile));
+    }
+    crafted.add_records(maps::sample::crafted().records());
     // of a header alone a tile is asked for too
     let bare = crafted.bases.iter_mut().filter(|base| base.tiles.is_empty());
     bare.for_each(|base| base.tiles.push(Address { sub_file: 0, grid: UNKNOWN, tile: 0 }));
-    Ok(crafted.bases)
+    crafted.bases
 }
 
 /// The maps of the repository.
 pub fn repository() -> io::Result<Vec<Base>> {
-    shipped::paths().iter().map(|path| of_file(path)).collect()
+    let folder = Path::new(env!("CARGO_MANIFEST_DIR")).with_file_name("maps");
+    SHIPPED.iter().map(|name| of_file(&folder.join(name))).collect()
 }
 
 /// A map by its file, with all tiles of its grids.
@@ -63,14 +71,18 @@ struct Crafted {
 }
 
 impl Crafted {
-    fn add(&mut self, kind: &str, records: &[Record]) {
+    /// The maps, and what is asked about their sub files.
+    fn add_records(&mut self, records: &[Record]) {
         let mut last = None;
         for (operation, input) in records {
             match operation {
-                b'M' => last = Some(self.base(kind, input)),
+                b'M' => last = Some(self.base("maps", input)),
+                b'n' | b'i' | b'e' => {
+                    let has_tile = *operation == b'e';
+                    self.tile(last.expect("a map stands first"), address(input, has_tile));
+                }
                 // of the header, or without a map
-                b'C' | b'D' | b'c' | b'd' | b'z' | b'p' | b'w' | b'l' | b'x' => {}
-                _ => self.tile(last.expect("a map stands first"), *operation, input),
+                _ => {}
             }
         }
     }
@@ -85,15 +97,20 @@ impl Crafted {
         number
     }
 
-    fn tile(&mut self, base: usize, operation: u8, input: &[u8]) {
-        // a count or a place in the grid has no tile
-        let front = if matches!(operation, b'n' | b'i') { ADDRESS - 8 } else { ADDRESS };
-        let mut address = input[..front].to_vec();
-        address.resize(ADDRESS, 0);
-        if self.asked.insert((base, address.clone())) {
-            self.bases[base].tiles.push(Address::from(&mut Source::new(&address)));
+    fn tile(&mut self, base: usize, at: Address) {
+        if self.asked.insert((base, on_grid(at.sub_file, at.grid, &at.tile.to_be_bytes()))) {
+            self.bases[base].tiles.push(at);
         }
     }
+}
+
+/// The sub file and the grid of a record, and its tile; a count or a place in the grid has none.
+fn address(input: &[u8], has_tile: bool) -> Address {
+    let mut input = Source::new(input);
+    let sub_file = given(input.read_u64_be());
+    let [x_min, y_min, x_max, y_max] = [(); 4].map(|()| given(input.read_i32_be()));
+    let tile = if has_tile { given(input.read_u64_be()) } else { 0 };
+    Address { sub_file, grid: Grid { x_min, y_min, x_max, y_max }, tile }
 }
 
 /// The place behind all that opening reads: the header, and the index signatures. A map that does not open

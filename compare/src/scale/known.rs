@@ -9,9 +9,8 @@ use crate::answer::Answer;
 use crate::differences::tile::{Cause, Opened, Parting, Port};
 use crate::random::Random;
 use crate::source::Source;
+use crate::tiles::delivery::Delivery;
 use crate::tiles::feature::{Collected, Head, Point, Text, Way};
-use crate::tiles::fetched::trimmed;
-use crate::tiles::tally::Delivery;
 use crate::tiles::{rust, Address};
 
 /// A tile that collects, or the refusal.
@@ -54,6 +53,11 @@ fn signature(rust: &mut Option<Text>, stored: Option<Text>) -> Checked {
     }
     *rust = stored;
     Ok(())
+}
+
+/// A signature as the Rust gives it.
+fn trimmed(signature: &Text) -> Text {
+    String::from_utf8_lossy(signature).trim().into()
 }
 
 /// Which ways a stream accepts.

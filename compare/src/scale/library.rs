@@ -327,18 +327,23 @@ pub fn fetch(map: &[u8], at: &Address, feature: u64, lists: Lists) -> Fetch {
     Fetch { got, signed, degrees, ids, tags }
 }
 
-pub fn measure_way_data(map: &[u8], at: usize, data_blocks: u64, measured: &mut [u64]) -> u64 {
-    let (list, length) = (measured.as_mut_ptr(), measured.len());
+pub fn measure_way_data(map: &[u8], at: usize, data_blocks: u64) -> Got<9> {
     // SAFETY: as above
-    unsafe {
-        sys::mapsforge_measure_way_data(map.as_ptr(), map.len(), at, data_blocks, list, length)
-    }
+    Got::of(|words| unsafe {
+        sys::mapsforge_measure_way_data(map.as_ptr(), map.len(), at, data_blocks, words)
+    })
 }
 
-pub fn read_way_data(map: &[u8], at: usize, data_blocks: u64, double: bool, nodes: Nodes) -> u64 {
+pub fn read_way_data(
+    map: &[u8],
+    at: usize,
+    data_blocks: u64,
+    double: bool,
+    nodes: Nodes,
+) -> Got<9> {
     let Nodes { counts, latitudes, longitudes } = nodes;
     // SAFETY: as above
-    unsafe {
+    Got::of(|words| unsafe {
         sys::mapsforge_read_way_data(
             map.as_ptr(),
             map.len(),
@@ -351,6 +356,7 @@ pub fn read_way_data(map: &[u8], at: usize, data_blocks: u64, double: bool, node
             latitudes.len(),
             longitudes.as_mut_ptr(),
             longitudes.len(),
+            words,
         )
-    }
+    })
 }

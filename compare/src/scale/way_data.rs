@@ -32,7 +32,7 @@ pub fn compare(
 ) -> Checked {
     let map = opened.map;
     let known = known(check, opened, question)?;
-    measure(check, lent, map, question, &known, random)?;
+    measure(check, map, question, &known)?;
     read(check, lent, map, question, &known, random)
 }
 
@@ -63,31 +63,18 @@ fn rust(map: &[u8], question: Question) -> mapsforge_rs::Result<(Fronts, u64)> {
     Ok((fronts, source.at()))
 }
 
-/// Blocks, nodes and the place behind them, to the front of a list of at least three entries.
-fn measure(
-    check: &mut Check,
-    lent: &mut Lent,
-    map: &[u8],
-    question: Question,
-    known: &Data,
-    random: &mut Random,
-) -> Checked {
-    let lengths = random.lengths(&[3, 0, 0, 0, 0, 0]);
-    let measured = lent.lists(lengths).nodes.counts;
-    let number = library::measure_way_data(map, question.at, question.data_blocks, measured);
-    check.call(Call::MeasureWayData, number);
-    let mut written = Fronts::default();
-    let expected = match known {
-        Err(refusal) => refusal[0],
-        Ok(_) if lengths[0] < 3 => 15,
-        Ok((fronts, end)) => {
-            let [blocks, nodes, ..] = fronts.lengths().map(|length| length as u64);
-            written.counts = vec![blocks, nodes, *end];
-            0
-        }
-    };
-    check.same("a way's data, measured", number, expected)?;
-    lent.check(check, lengths, &written)
+/// Blocks, nodes and the place behind them.
+fn measure(check: &mut Check, map: &[u8], question: Question, known: &Data) -> Checked {
+    let got = library::measure_way_data(map, question.at, question.data_blocks);
+    match known {
+        Err(refusal) => check.refused(Call::MeasureWayData, &got, refusal),
+        Ok(data) => check.got(Call::MeasureWayData, &got, 0, &measured(data)),
+    }
+}
+
+fn measured((fronts, end): &(Fronts, u64)) -> [u64; 9] {
+    let [blocks, nodes, ..] = fronts.lengths().map(|length| length as u64);
+    [0, 0, 0, 0, 0, 0, blocks, nodes, *end]
 }
 
 fn read(
@@ -103,13 +90,22 @@ fn read(
     let lengths = random.lengths(&needed);
     let Question { at, data_blocks, double } = question;
     let lists = lent.lists(lengths).nodes;
-    let number = library::read_way_data(map, at, data_blocks, double, lists);
-    check.call(Call::ReadWayData, number);
-    let (expected, written) = match known {
-        Err(refusal) => (refusal[0], &nothing),
-        Ok(_) if !suffice(&lengths, &needed) => (15, &nothing),
-        Ok((fronts, _)) => (0, fronts),
+    let got = library::read_way_data(map, at, data_blocks, double, lists);
+    let written = match known {
+        Err(refusal) => {
+            check.refused(Call::ReadWayData, &got, refusal)?;
+            &nothing
+        }
+        Ok(_) if !suffice(&lengths, &needed) => {
+            let mut short = vec![15];
+            short.extend(needed.map(|length| length as u64));
+            check.refused(Call::ReadWayData, &got, &short)?;
+            &nothing
+        }
+        Ok(data) => {
+            check.got(Call::ReadWayData, &got, 0, &measured(data))?;
+            &data.0
+        }
     };
-    check.same("a way's data, read", number, expected)?;
     lent.check(check, lengths, written)
 }

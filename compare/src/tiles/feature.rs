@@ -57,12 +57,10 @@ pub struct Way {
 }
 
 /// A way's head, as a stream delivers it.
-#[derive(PartialEq)]
 pub struct Head {
     pub bitmap: u16,
     pub ids: Vec<u64>,
     /// The layer + 5, which the Rust does not say before a way is accepted.
-    #[cfg_attr(not(feature = "both"), allow(dead_code))]
     pub layer: Option<u64>,
 }
 
@@ -114,7 +112,6 @@ impl Way {
 }
 
 /// A collected tile.
-#[derive(Default)]
 pub struct Tile {
     /// As it is stored, or as the Rust gives it: replaced and trimmed.
     pub signature: Option<Text>,
@@ -137,6 +134,7 @@ pub enum Feature<'a> {
 impl Tile {
     pub fn answer(&self) -> Answer {
         let mut fold = Fold::new();
+        fold.word(u64::from(self.signature.is_some()));
         fold.words(self.table.as_flattened());
         self.points.iter().for_each(|point| fold.words(&point.collected()));
         self.ways.iter().for_each(|way| fold.words(&way.collected()));
@@ -203,14 +201,15 @@ impl Collected {
 }
 
 impl Fetched<'_> {
-    /// The words of the feature, with the codes of its tags in one digest.
+    /// The words of the feature, with its tags and their texts in one digest.
     pub fn answer(&self) -> Answer {
         let words = match self.feature {
             Feature::Point(point) => point.collected(),
             Feature::Way(way) => way.fetched(),
         };
-        let codes: Answer = self.texts.all().flat_map(|text| text.tag[2..].to_vec()).collect();
-        [&[0], words.as_slice(), &[folded(&codes)]].concat()
+        let tag = |TagText { text: string, tag }: &TagText| [text(string).as_slice(), tag].concat();
+        let tags: Answer = self.texts.all().flat_map(tag).collect();
+        [&[0], words.as_slice(), &[folded(&tags)]].concat()
     }
 }
 

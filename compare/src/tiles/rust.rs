@@ -4,20 +4,15 @@
 use mapsforge_rs::types::{self, LatLong, MapFile, Tag, WayCoordinateBlock, POI};
 use mapsforge_rs::visit::{PoiInfo, TileVisitor, WayInfo};
 
+use super::delivery::{Delivery, Unread};
 use super::feature::{Block, Collected, Head, Point, Position, TagText, Text, Texts, Tile, Way};
-use super::tally::{Delivery, Policy, Tally, Unread};
 use super::Address;
 use crate::answer::{refused, Answer};
 use crate::differences::tile::Opened;
 use crate::source::Source;
 
 pub fn collect(file: &mut MapFile<Source>, address: &Address) -> Answer {
-    tile(file, address).map_or_else(|refusal| refusal, |tile| tile.answer())
-}
-
-/// The collected tile, or the refusal.
-fn tile(file: &mut MapFile<Source>, address: &Address) -> Result<Tile, Answer> {
-    read(file, address).map(|tile| collected(&tile))
+    read(file, address).map_or_else(|refusal| refusal, |tile| collected(&tile).answer())
 }
 
 pub fn fetch(file: &mut MapFile<Source>, address: &Address, k: usize) -> Answer {
@@ -40,13 +35,8 @@ pub fn fetched(file: &mut MapFile<Source>, address: &Address) -> Result<Collecte
     Ok(Collected { tile: collected(&tile), texts, signatures: Vec::new() })
 }
 
-pub fn stream(file: &mut MapFile<Source>, address: &Address, zoom: u8, policy: Policy) -> Tally {
-    let mut tally = Tally::new(policy);
-    let end = visit(file, address, zoom, &mut tally);
-    tally.end(end)
-}
-
 /// `visit_tile`: 0, sub file and water mark, or the refusal.
+#[cfg(feature = "both")]
 pub fn visit(
     file: &mut MapFile<Source>,
     address: &Address,

@@ -1,16 +1,14 @@
 // The reader for programs in other languages; include/mapsforge.h declares these functions and says what each word is. A slice goes by its
-// address and its length, an array by its address alone. Each call answers 0, or the number of a refusal.
+// address and its length, an array by its address alone. Each call answers 0, or the number of a refusal, whose values
+// are its first six words.
 use types::Grid;
 use types::TagTable;
 use utils::Degrees;
-use way_measure::WayDataRead;
 ghost use mathlib.Core.Path.{_≡_};
-ghost use Rattle.parsing.specs.Parse.{mapRes};
+ghost use mathlib.Core.List.{[], _∷_};
+ghost use Rattle.parsing.specs.Parse.{nth, mapRes};
 ghost use Rattle.format.specs.WayData.{wayData};
 ghost use Rattle.way_measure.specs.Answers.{waySizes, wayDataRes};
-ghost use Rattle.way_data.specs.Reply.{readWayData};
-ghost use mathlib.Core.List.{[], _∷_};
-ghost use Rattle.parsing.specs.Parse.{nth};
 ghost use Rattle.format.specs.Header.{opened};
 ghost use Rattle.format.specs.Index.{subFileForZoom, tileCount, tileIndexOf, tileIndexEntry};
 ghost use Rattle.types.specs.Types.{intervalsOf, debugOf, gridOf};
@@ -19,74 +17,15 @@ ghost use Rattle.column.specs.Column.{columnRes, longitudeRes, column as column
 ghost use Rattle.index.specs.Answers.{countRes, indexRes, heldRes, entryRes};
 ghost use Rattle.header.specs.HeaderView.{HeaderIs};
 ghost use Rattle.visit.specs.Visit.{openTile, openRes};
-ghost use Rattle.way_data.specs.Reply.{lent};
+ghost use Rattle.way_data.specs.Reply.{lent, reply, readWayData};
 ghost use Rattle.fetch_way.specs.FetchWay.{lent as lentAll};
 ghost use Rattle.on_map.specs.OnMap.{onMap, asked, intervalRes, subFileRes};
 ghost use Rattle.wire.specs.Wire.{wire, Crosses};
-ghost use Rattle.wire.specs.Index.{countWire, indexWire, subFileWire, intervalWire, entryWire, tagWire, textWire, columnWire, longitudeWire};
+ghost use Rattle.wire.specs.Index.{countWire, indexWire, subFileWire, intervalWire, entryWire, tagWire, textWire, columnWire, longitudeWire, wayDataWire};
 ghost use Rattle.wire.specs.Header.{headerWire, layoutIn};
 ghost use Rattle.feature_wire.specs.Streams.{streamIn, openedWire, nextWire, acceptWire, declineWire};
 ghost use Rattle.feature_wire.specs.Features.{tileWire, fetchWire};
 ghost use Rattle.exports.specs.Calls.{gridIn, tableOf, TagIs, NextOf, AcceptOf, DeclineOf, TileOf, FeatureOf};
-ghost use Rattle.exports.specs.Numbers.{numberIn, Numbered, Measured};
-
-// 0 for a result, and the refusal's number.
-fn number_in(got: WayDataRead) -> u64
-    ensures { λ r. ⌜ r ≡ numberIn (wayDataRes got) ⌝ }
-{
-    match got {
-        WayDataRead::Value(_, _) => 0,
-        WayDataRead::Refused(r) => error::number_of(r) as u64,
-    }
-}
-
-// The number of blocks, of nodes and the place behind them, to the front of a list; 15 where it has no three entries.
-#[no_mangle]
-pub extern "C" fn mapsforge_measure_way_data(
-    map: &[u8],
-    at: usize,
-    data_blocks: u64,
-    measured: &mut [u64],
-) -> u64
-    ensures { λ r. ⌜ Measured (mapRes waySizes (wayData «data_blocks» (now (map .entry)) at)) (now (measured .entry)) r (now (measured .exit)) ⌝ }
-{
-    let got = way_measure::measure_way_data(map, at, data_blocks);
-    let WayDataRead::Value(s, end) = got else {
-        return number_in(got);
-    };
-    if measured.len() < 3 {
-        return 15;
-    }
-    measured[0] = s.blocks;
-    measured[1] = s.nodes;
-    measured[2] = end as u64;
-    0
-}
-
-// The nodes to the fronts of three lists, as way_data gives them.
-#[no_mangle]
-pub extern "C" fn mapsforge_read_way_data(
-    map: &[u8],
-    at: usize,
-    data_blocks: u64,
-    double_delta: bool,
-    node_counts: &mut [u64],
-    latitudes: &mut [f64],
-    longitudes: &mut [f64],
-) -> u64
-    ensures { λ r. ⌜ Numbered (readWayData «double_delta» (wayData «data_blocks» (now (map .entry)) at) (now («node_counts» .entry)) (now (latitudes .entry)) (now (longitudes .entry))) r (now («node_counts» .exit)) (now (latitudes .exit)) (now (longitudes .exit)) ⌝ }
-{
-    let got = way_data::read_way_data(
-        map,
-        at,
-        data_blocks,
-        double_delta,
-        node_counts,
-        latitudes,
-        longitudes,
-    );
-    number_in(got)
-}
 
 // The header but for its intervals, in 34 words and six degrees, and what a stream needs of it, in five words.
 #[no_mangle]
@@ -475,4 +414,48 @@ pub extern "C" fn mapsforge_fetch(
     let row = feature_wire::fetch_tags(answer, poi, way);
     *tags = row;
     feature_wire::fetch_number(answer)
+}
+
+// A way's data from a place on: the numbers of blocks and nodes, and the place behind them.
+#[no_mangle]
+pub extern "C" fn mapsforge_measure_way_data(
+    map: &[u8],
+    at: usize,
+    data_blocks: u64,
+    words: &mut [u64; 9],
+) -> u64
+    ensures { λ r. ⌜ Crosses wayDataWire (λ a. wayDataRes a ≡ mapRes waySizes (wayData «data_blocks» (now (map .entry)) at)) (wire r (now (words .exit) ∷ []) [] []) ⌝ }
+{
+    let got = way_measure::measure_way_data(map, at, data_blocks);
+    let row = wire::way_data_words(got);
+    *words = row;
+    wire::way_data_number(got)
+}
+
+// The same, and the nodes to the fronts of three lists.
+#[no_mangle]
+pub extern "C" fn mapsforge_read_way_data(
+    map: &[u8],
+    at: usize,
+    data_blocks: u64,
+    double_delta: bool,
+    node_counts: &mut [u64],
+    latitudes: &mut [f64],
+    longitudes: &mut [f64],
+    words: &mut [u64; 9],
+) -> u64
+    ensures { λ r. ⌜ Crosses wayDataWire (λ a. reply a (now («node_counts» .exit)) (now (latitudes .exit)) (now (longitudes .exit)) ≡ readWayData «double_delta» (wayData «data_blocks» (now (map .entry)) at) (now («node_counts» .entry)) (now (latitudes .entry)) (now (longitudes .entry))) (wire r (now (words .exit) ∷ []) [] []) ⌝ }
+{
+    let got = way_data::read_way_data(
+        map,
+        at,
+        data_blocks,
+        double_delta,
+        node_counts,
+        latitudes,
+        longitudes,
+    );
+    let row = wire::way_data_words(got);
+    *words = row;
+    wire::way_data_number(got)
 }

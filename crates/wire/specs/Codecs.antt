@@ -32,6 +32,8 @@ use Rattle.column.specs.declared.ColumnRead.{ColumnRead}
 use Rattle.column.specs.declared.ColumnRead.the-variants as column
 use Rattle.column.specs.declared.LongitudeRead.{LongitudeRead}
 use Rattle.column.specs.declared.LongitudeRead.the-variants as longitude
+use Rattle.way_measure.specs.declared.WayDataRead.{WayDataRead}
+use Rattle.way_measure.specs.declared.WayDataRead.the-variants as way-data
 use Rattle.on_map.specs.declared.IntervalAnswer.{IntervalAnswer}
 use Rattle.on_map.specs.declared.IntervalAnswer.the-variants as interval
 use Rattle.on_map.specs.declared.SubFileAnswer.{SubFileAnswer}
@@ -44,7 +46,7 @@ use Rattle.tile_layout.specs.declared.TileLayout.{TileLayout}
 use Rattle.wire.specs.Wire.{Wire, Decoder, Codec, word, truth, there}
 use Rattle.wire.specs.Verdicts.{valuesIn, endNumber, endValues, endPlace, spanWords, byteWords, placeWords, nowhere}
 use Rattle.wire.specs.Header.{headerWire, layoutWords, layoutIn}
-use Rattle.wire.specs.Index.{Named, kindWord, countWire, indexWire, subFileWire, intervalWire, entryWire, tagWire, textWire, columnWire, longitudeWire}
+use Rattle.wire.specs.Index.{Named, kindWord, countWire, indexWire, subFileWire, intervalWire, entryWire, tagWire, textWire, columnWire, longitudeWire, wayDataWire}
 
 -- a refusal by its number and values
 abbrev pub refusals : Lengths → List Refusal
@@ -220,6 +222,16 @@ longitude-back (longitude.Refused r) = settled longitude.Refused (longitude.Valu
 
 pub longitudeCodec : Codec longitudeWire
 longitudeCodec = record { decode = longitudeIn; back = longitude-back }
+
+abbrev pub wayDataIn : Wire → WayDataRead
+wayDataIn w = settle way-data.Refused (way-data.Value (record { blocks = word w 0 6; nodes = word w 0 7 }) (word w 0 8)) w
+
+pub wayData-back : (a : WayDataRead) → wayDataIn (wayDataWire a) ≡ a
+wayData-back (way-data.Value s e) = refl
+wayData-back (way-data.Refused r) = settled way-data.Refused (way-data.Value (record { blocks = 0; nodes = 0 }) 0) r
+
+pub wayDataCodec : Codec wayDataWire
+wayDataCodec = record { decode = wayDataIn; back = wayData-back }
 
 -- what a stream needs of the header
 pub layout-back : (l : TileLayout) → layoutIn (layoutWords l) ≡ l

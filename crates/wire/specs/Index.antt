@@ -1,4 +1,4 @@
--- The answers about sub files, tiles, tags, texts and columns as words.
+-- The answers about sub files, tiles, tags, texts, columns and a way's data as words.
 use Prim.Native.Nat.{ℕ}
 use lib.IntN.{ℤ, pos}
 use mathlib.Core.Bool.{cond}
@@ -26,6 +26,8 @@ use Rattle.on_map.specs.declared.IntervalAnswer.{IntervalAnswer}
 use Rattle.on_map.specs.declared.IntervalAnswer.the-variants as interval
 use Rattle.on_map.specs.declared.SubFileAnswer.{SubFileAnswer}
 use Rattle.on_map.specs.declared.SubFileAnswer.the-variants as sub-file
+use Rattle.way_measure.specs.declared.WayDataRead.{WayDataRead}
+use Rattle.way_measure.specs.declared.WayDataRead.the-variants as way-data
 use Rattle.wire.specs.Wire.{Wire}
 use Rattle.wire.specs.Verdicts.{valuesIn, noValues, behind, nowhere}
 
@@ -134,6 +136,15 @@ abbrev pub longitudeDegrees : LongitudeRead → List Float
 longitudeDegrees (longitude.Value d) = d .0 ∷ []
 longitudeDegrees (longitude.Refused r) = nowhere ∷ []
 
+-- the numbers of blocks and nodes of a way's data, and the place behind them
+abbrev pub wayDataNumber : WayDataRead → ℕ
+wayDataNumber (way-data.Value s e) = 0
+wayDataNumber (way-data.Refused r) = numberOf r
+
+abbrev pub wayDataWords : WayDataRead → List ℕ
+wayDataWords (way-data.Value s e) = behind noValues (s .blocks ∷ s .nodes ∷ e ∷ [])
+wayDataWords (way-data.Refused r) = behind (valuesIn r) (0 ∷ 0 ∷ 0 ∷ [])
+
 -- what crosses
 abbrev pub plain : (number : ℕ) → (words : List ℕ) → Wire
 plain n l = record { number = n; lists = l ∷ []; signed = []; degrees = [] }
@@ -164,3 +175,6 @@ columnWire a = record { number = columnNumber a; lists = columnWords a ∷ []; s
 
 abbrev pub longitudeWire : LongitudeRead → Wire
 longitudeWire a = record { number = longitudeNumber a; lists = longitudeWords a ∷ []; signed = []; degrees = longitudeDegrees a }
+
+abbrev pub wayDataWire : WayDataRead → Wire
+wayDataWire a = plain (wayDataNumber a) (wayDataWords a)

@@ -19,13 +19,14 @@ use types::OptionalByte;
 use types::OptionalPosition;
 use types::OptionalSpan;
 use types::TagTable;
+use way_measure::WayDataRead;
 ghost use mathlib.Core.Path.{_≡_};
 ghost use mathlib.Core.Bool.{cond};
 ghost use Prim.Native.Nat.{_<_, _^_};
 ghost use lib.Signed.{mag};
 ghost use Rattle.wire.specs.Wire.{truth};
 ghost use Rattle.wire.specs.Verdicts.{oneValue, noValues, valuesIn, endNumber, endValues, endPlace, spanWords, byteWords, placeWords};
-ghost use Rattle.wire.specs.Index.{found, countNumber, countWords, indexNumber, indexWords, subFileNumber, subFileWords, intervalNumber, intervalWords, entryNumber, entryWords, kindWord, tagNumber, tagWords, textNumber, textWords, columnNumber, columnWords, columnSigned, longitudeNumber, longitudeWords, longitudeDegrees};
+ghost use Rattle.wire.specs.Index.{found, countNumber, countWords, indexNumber, indexWords, subFileNumber, subFileWords, intervalNumber, intervalWords, entryNumber, entryWords, kindWord, tagNumber, tagWords, textNumber, textWords, columnNumber, columnWords, columnSigned, longitudeNumber, longitudeWords, longitudeDegrees, wayDataNumber, wayDataWords};
 ghost use Rattle.wire.specs.Header.{headerWords, headerDegrees, layoutWords, layoutIn};
 
 pub struct SpanWords {
@@ -608,5 +609,37 @@ pub fn longitude_degrees(got: LongitudeRead) -> [f64; 1]
     match got {
         LongitudeRead::Value(d) => [d.0],
         LongitudeRead::Refused(_) => [0.0],
+    }
+}
+
+pub fn way_data_number(got: WayDataRead) -> u64
+    ensures { λ r. ⌜ r ≡ wayDataNumber got ⌝ }
+{
+    match got {
+        WayDataRead::Value(_, _) => 0,
+        WayDataRead::Refused(r) => error::number_of(r) as u64,
+    }
+}
+
+// The numbers of blocks and nodes, and the place behind them.
+pub fn way_data_words(got: WayDataRead) -> [u64; 9]
+    ensures { λ r. ⌜ r ≡ wayDataWords got ⌝ }
+{
+    match got {
+        WayDataRead::Value(s, end) => [0, 0, 0, 0, 0, 0, s.blocks, s.nodes, end as u64],
+        WayDataRead::Refused(r) => {
+            let v = values_of(r);
+            [
+                v.list1,
+                v.list2,
+                v.list3,
+                v.list4,
+                v.list5,
+                v.buffer,
+                0,
+                0,
+                0,
+            ]
+        }
     }
 }

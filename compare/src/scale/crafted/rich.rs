@@ -1,44 +1,18 @@
-//! One tile with something of everything, whole, cut and damaged.
+//! One tile with something of everything.
 
-use super::{at, header, values, Records, POI_TAGS, TEXTS, WAY_TAGS};
-use crate::maps::writer::tile::{sub_file, Point, Tile, Way};
-use crate::maps::writer::{Header, DEBUG, INDEX_SIGNATURE};
-use crate::tiles::file::WHATS;
-use crate::tiles::tally::POLICIES;
+use super::writer::{sub_file, Point, Tile, Way};
+use super::{all, header, values, Maps, POI_TAGS, TEXTS, WAY_TAGS};
+use crate::maps::writer::{Header, DEBUG};
 
 /// A table of three rows.
 const ZOOMS: [u8; 3] = [11, 10, 12];
 
-pub fn add(records: &mut Records) {
+pub fn add(maps: &mut Maps) {
     for debug in [false, true] {
         let tile = tile(debug).plain();
         let flags = if debug { DEBUG } else { 0 };
         let header = Header { flags, ..header(&[ZOOMS]) };
-        let end_of_header = header.length() as usize;
-        let map = header.before_all(&[sub_file(debug, &[tile])]);
-        records.map(&map);
-        whole(records);
-        for what in WHATS {
-            records.cuts(at(0, 0, 1), end_of_header..map.len() + 1, what);
-            // with the entry, and a part of the index signature
-            let signature = if debug { INDEX_SIGNATURE.len() - 2 } else { 0 };
-            records.damages(at(0, 0, 1), end_of_header + signature..map.len(), what);
-        }
-    }
-}
-
-fn whole(records: &mut Records) {
-    let at = at(0, 0, 1);
-    records.collect(at);
-    for zoom in 9..=13 {
-        (0..POLICIES.len()).for_each(|policy| records.stream(at, zoom, policy as u8));
-    }
-    (0..=11).for_each(|k| records.feature(at, k));
-    (0..3).for_each(|policy| records.lines(at, 12, policy));
-    records.turns(at);
-    for zoom in [10, 12] {
-        records.lists(at, zoom, 6);
-        records.random_lists(at, zoom, 60, 20);
+        maps.add(header.before_all(&[sub_file(debug, &[tile])]), all(1));
     }
 }
 

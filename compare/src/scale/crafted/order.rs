@@ -3,8 +3,8 @@
 
 use mapsforge_rs::grid::Grid;
 
-use super::{ask, at, header, next_point, next_way, Address, Records};
-use crate::maps::writer::tile::{sub_file, Tile};
+use super::writer::{sub_file, Tile};
+use super::{all, at, header, next_point, next_way, Address, Maps};
 use crate::maps::writer::{entry, Header, Interval, DEBUG, INDEX_SIGNATURE};
 
 const REVERSED: Grid = Grid { x_min: 5, y_min: 0, x_max: 4, y_max: 0 };
@@ -13,12 +13,12 @@ const TOO_LARGE: Grid = Grid { x_min: 0, y_min: 0, x_max: 65535, y_max: 65535 };
 /// Document 01's own.
 const THREE_BY_TWO: Grid = Grid { x_min: 4, y_min: 2, x_max: 6, y_max: 3 };
 
-pub fn add(records: &mut Records) {
-    in_turn(records);
-    far_sub_files(records);
-    offsets(records);
-    reversed(records);
-    not_open(records);
+pub fn add(maps: &mut Maps) {
+    in_turn(maps);
+    far_sub_files(maps);
+    offsets(maps);
+    reversed(maps);
+    not_open(maps);
 }
 
 fn tile() -> Vec<u8> {
@@ -26,24 +26,20 @@ fn tile() -> Vec<u8> {
 }
 
 /// Two good sub files of six tiles and one that is reversed, with good and bad grids and tiles.
-fn in_turn(records: &mut Records) {
+fn in_turn(maps: &mut Maps) {
     let tiles = vec![tile(); 6];
     let sub_files = [(); 3].map(|()| sub_file(false, &tiles));
-    records.map(&header(&[[0; 3], [9, 8, 8], [9, 9, 8]]).before_all(&sub_files));
+    let mut asked = Vec::new();
     for sub_file in [0, 1, 2, 3, 255, 1 << 32, u64::MAX] {
         for grid in [THREE_BY_TWO, REVERSED, TOO_LARGE] {
-            for tile in [0, 5, 6, 1 << 32, u64::MAX] {
-                let at = Address { sub_file, grid, tile };
-                records.collect(at);
-                records.stream(at, 8, 0);
-                records.feature(at, 0);
-            }
+            asked.extend([0, 5, 6, 1 << 32, u64::MAX].map(|tile| Address { sub_file, grid, tile }));
         }
     }
+    maps.add(header(&[[0; 3], [9, 8, 8], [9, 9, 8]]).before_all(&sub_files), asked);
 }
 
 /// Sub files at the map's end, past it and at the end of all places, good and reversed.
-fn far_sub_files(records: &mut Records) {
+fn far_sub_files(maps: &mut Maps) {
     let with_starts = |starts: &[u64]| {
         let interval = |&start: &u64| Interval { zooms: [0; 3], start, size: 0 };
         let good = starts.iter().map(interval);
@@ -52,51 +48,37 @@ fn far_sub_files(records: &mut Records) {
     };
     let end = with_starts(&[0; 6]).length() + 20;
     let starts = [end - 5, end - 4, end, 1 << 63, u64::MAX - 4, u64::MAX];
-    records.map(&with_starts(&starts).before(&[0; 20]));
-    for sub_file in 0..12 {
-        (0..2).for_each(|tile| ask(records, at(sub_file, tile, 2)));
-    }
+    let asked = (0..12).flat_map(|sub_file| (0..2).map(move |tile| at(sub_file, tile, 2)));
+    maps.add(with_starts(&starts).before(&[0; 20]), asked);
 }
 
 /// Entries that lead to the header, to each byte around the map's end, and far past it.
-fn offsets(records: &mut Records) {
+fn offsets(maps: &mut Maps) {
     let length = tile().len() as u64 + 12 * 5;
     let near = [0, length - 1, length, length + 1, 60, 61, 62];
     let far = [1 << 32, 1 << 38, (1 << 39) - 1];
     let entries = near.into_iter().chain(far).map(|offset| entry(true, offset));
     let index: Vec<u8> = entries.chain([entry(false, 59), entry(false, 57)]).flatten().collect();
     assert_eq!(index.len(), 12 * 5, "the tile is behind the index");
-    records.map(&header(&[[0; 3]]).before_all(&[[index, tile()].concat()]));
-    (0..12).for_each(|tile| ask(records, at(0, tile, 12)));
+    maps.add(header(&[[0; 3]]).before_all(&[[index, tile()].concat()]), all(12));
 }
 
 /// "With a reversed interval `read_tile` may meet a short signature first; here 13 comes first."
-fn reversed(records: &mut Records) {
+fn reversed(maps: &mut Maps) {
     for zooms in [[9, 9, 8], [0, 255, 0], [0, 1, 0], [0, 128, 127]] {
         let header = Header { flags: DEBUG, ..header(&[zooms]) };
         for bytes in [&[][..], &[b' '; 31], &[b' '; 40]] {
             let sub_file = [&INDEX_SIGNATURE[..], &entry(false, 21), bytes].concat();
-            let map = header.clone().before_all(&[sub_file]);
-            records.map(&map);
-            ask(records, at(0, 0, 1));
-            let end = map.len() - bytes.len();
-            (0..4).for_each(|what| records.cuts(at(0, 0, 1), end - 6..map.len() + 1, what));
+            maps.add(header.clone().before_all(&[sub_file]), all(1));
         }
     }
 }
 
-/// Nothing is said of a map that does not open, whatever is asked.
-fn not_open(records: &mut Records) {
+/// Maps that do not open, beside one that does.
+fn not_open(maps: &mut Maps) {
     let map = header(&[[0; 3]]).before_all(&[sub_file(false, &[tile()])]);
-    records.map(&map);
-    records.collect(at(0, 0, 1));
-    for bad in [&b"no map"[..], &map[..40], &Header { version: 2, ..Header::tiny() }.bytes()] {
-        records.map(bad);
-        ask(records, at(0, 0, 1));
-        records.feature(at(0, 0, 1), 0);
-        records.cuts(at(0, 0, 1), 0..1, 0);
-        records.damages(at(0, 0, 1), 0..1, 0);
+    let version_2 = Header { version: 2, ..Header::tiny() }.bytes();
+    for map in [&map, &b"no map"[..], &map[..40], &version_2] {
+        maps.add(map.to_vec(), all(1));
     }
-    records.map(&map);
-    records.collect(at(0, 0, 1));
 }

@@ -1,18 +1,15 @@
 //! Debug maps: signatures before tiles, points and ways.
 
-use std::slice;
-
-use super::{ask, at, debug_map, next_point, next_way, rich, Records, HIGHEST};
-use crate::maps::writer::tile::{Point, Tile, Way};
-use crate::tiles::file::WHATS;
+use super::writer::{Point, Tile, Way};
+use super::{all, debug_map, next_point, next_way, rich, Maps};
 
 /// The size of a signature.
 const SIGNATURE: usize = 32;
 
-pub fn add(records: &mut Records) {
-    whole(records);
-    skipped(records);
-    cut(records);
+pub fn add(maps: &mut Maps) {
+    whole(maps);
+    skipped(maps);
+    short(maps);
 }
 
 fn few() -> Tile {
@@ -21,7 +18,7 @@ fn few() -> Tile {
 }
 
 /// Signatures of any bytes, and tiles with and without features.
-fn whole(records: &mut Records) {
+fn whole(maps: &mut Maps) {
     let mut wild = few().plain();
     wild[..SIGNATURE].fill(0xFF);
     let place = SIGNATURE + 3; // behind the table of one row and the offset
@@ -31,15 +28,11 @@ fn whole(records: &mut Records) {
     let no_ways = Tile { debug: true, ..Tile::of(&few().points, &[]) };
     let tiles = [few(), nothing, no_points, no_ways].map(|tile| tile.plain());
     let tiles = [&tiles[..], &[wild, vec![b'x'; SIGNATURE - 1]]].concat();
-    records.map(&debug_map(&tiles));
-    for tile in 0..tiles.len() {
-        ask(records, at(0, tile, tiles.len()));
-        [0, 2, 4].iter().for_each(|&k| records.feature(at(0, tile, tiles.len()), k));
-    }
+    maps.add(debug_map(&tiles), all(tiles.len()));
 }
 
 /// The offset leads to the first way's signature, and a stored size to the next one's.
-fn skipped(records: &mut Records) {
+fn skipped(maps: &mut Maps) {
     let first_way = few().plain().len() - SIGNATURE;
     let offset = |first_way| Tile { first_way: Some(first_way), ..few() };
     let size = |k: usize, size: u64| {
@@ -60,20 +53,12 @@ fn skipped(records: &mut Records) {
         size(3, 1 << 40),
     ];
     let tiles = tiles.map(|tile| tile.plain());
-    records.map(&debug_map(&tiles));
-    for tile in 0..tiles.len() {
-        ask(records, at(0, tile, tiles.len()));
-        records.stream(at(0, tile, tiles.len()), HIGHEST, 3);
-    }
+    maps.add(debug_map(&tiles), all(tiles.len()));
 }
 
-/// Every cut through the signatures of a tile with one row of each.
-fn cut(records: &mut Records) {
+/// A tile of one row that is short, and the map ends with it.
+fn short(maps: &mut Maps) {
     let rich = rich::tile(true);
     let tile = Tile { debug: true, ..Tile::of(&rich.points[..2], &rich.ways[..3]) }.plain();
-    let map = debug_map(slice::from_ref(&tile));
-    records.map(&map);
-    for what in WHATS {
-        records.cuts(at(0, 0, 1), map.len() - tile.len()..map.len() + 1, what);
-    }
+    maps.add(debug_map(&[tile]), all(1));
 }

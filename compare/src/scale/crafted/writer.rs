@@ -1,7 +1,7 @@
 //! Sub files, tiles, points and ways.
 
-use super::{entry, INDEX_SIGNATURE};
 use crate::leaves::sample::{signed, signed_in, unsigned, unsigned_in};
+use crate::maps::writer::{entry, INDEX_SIGNATURE};
 
 /// The size of a signature of a tile, point or way.
 const SIGNATURE: usize = 32;

@@ -1,18 +1,12 @@
 //! Points, with each field at its limits.
 
-use super::{ask_all, at, show_all, values, with_points, Records, POI_TAGS, TEXTS};
-use crate::maps::writer::tile::{Point, Value};
+use super::writer::{Point, Value};
+use super::{values, with_points, Maps, POI_TAGS, TEXTS};
 
-pub fn add(records: &mut Records) {
+pub fn add(maps: &mut Maps) {
     let points =
         [flags(), tag_counts(), letters(), bad_ids(), layers(), texts(), elevations()].concat();
-    ask_all(records, &with_points(&points));
-    for tile in 0..points.len() {
-        records.feature(at(0, tile, points.len()), 0);
-    }
-    show_all(records, points.len());
-    // the features behind the first, and one past the last
-    (1..=4).for_each(|k| records.feature(at(0, 0, points.len()), k));
+    maps.add_tiles(&with_points(&points));
 }
 
 /// Every combination of the optional fields, without and with the reserved bits.

@@ -1,11 +1,9 @@
 //! Numbers in more bytes than they need, numbers that are too long, and coordinates and lengths past
 //! their limits, in every place that has one.
 
-use std::slice;
-
-use super::{ask_all, ask_alone, at, map, values, Records, POI_TAGS, WAY_TAGS};
+use super::writer::{Numbers, Point, Tile, Way};
+use super::{values, Maps, POI_TAGS, WAY_TAGS};
 use crate::leaves::sample::{unsigned, unsigned_in};
-use crate::maps::writer::tile::{Numbers, Point, Tile, Way};
 
 /// A number's most bytes.
 const MOST: usize = 9;
@@ -14,13 +12,13 @@ const LARGEST: i64 = 1 << 53;
 /// The longest text.
 const LONGEST: u64 = 1 << 20;
 
-pub fn add(records: &mut Records) {
-    all_padded(records);
-    one_padded(records);
-    cut_numbers(records);
-    minus_zeros(records);
-    coordinates(records);
-    text_lengths(records);
+pub fn add(maps: &mut Maps) {
+    all_padded(maps);
+    one_padded(maps);
+    padded_alone(maps);
+    minus_zeros(maps);
+    coordinates(maps);
+    text_lengths(maps);
 }
 
 /// A tile with a number in every place that can have one.
@@ -50,40 +48,32 @@ fn every_number() -> Tile {
 }
 
 /// All numbers in 2 bytes and so on, and in one byte too many.
-fn all_padded(records: &mut Records) {
+fn all_padded(maps: &mut Maps) {
     let padded = |width| every_number().bytes(&mut Numbers::padded(width));
     let tiles: Vec<Vec<u8>> = (1..=MOST + 1).map(padded).collect();
-    ask_all(records, &tiles);
-    for tile in 0..tiles.len() {
-        (0..3).for_each(|k| records.feature(at(0, tile, tiles.len()), k));
-    }
+    maps.add_tiles(&tiles);
 }
 
 /// Each number alone: 6 bytes are more than `read_vbe_u` holds, 10 are too many.
-fn one_padded(records: &mut Records) {
+fn one_padded(maps: &mut Maps) {
     let mut plain = Numbers::plain();
     every_number().bytes(&mut plain);
     let one = |only, width| every_number().bytes(&mut Numbers::one_padded(only, width));
     let all = 0..plain.written();
     let tiles: Vec<Vec<u8>> =
         all.flat_map(|only| [5, 6, MOST, MOST + 1].map(|width| one(only, width))).collect();
-    ask_all(records, &tiles);
+    maps.add_tiles(&tiles);
 }
 
-/// The map ends behind every byte of every number: 1 up to the eighth, 11 behind the ninth.
-fn cut_numbers(records: &mut Records) {
+/// All numbers padded, in a map that ends with the last of them.
+fn padded_alone(maps: &mut Maps) {
     for width in [2, MOST, MOST + 1] {
-        let tile = every_number().bytes(&mut Numbers::padded(width));
-        let map = map(slice::from_ref(&tile));
-        records.map(&map);
-        (0..4).for_each(|what| {
-            records.cuts(at(0, 0, 1), map.len() - tile.len()..map.len() + 1, what);
-        });
+        maps.add_alone(every_number().bytes(&mut Numbers::padded(width)));
     }
 }
 
 /// Minus zero is 0, also in two bytes.
-fn minus_zeros(records: &mut Records) {
+fn minus_zeros(maps: &mut Maps) {
     let point = [0x40, 0xC0, 0x40, 0x50, 0x20, 0x40];
     let nodes = [0x01, 0x03, 0x40, 0x40, 0x80, 0x40, 0x40, 0x40, 0x00];
     for double in [false, true] {
@@ -92,18 +82,17 @@ fn minus_zeros(records: &mut Records) {
         tile.rows = vec![[1, 1]];
         let mut bytes = tile.plain();
         bytes.splice(3..3, point);
-        ask_alone(records, bytes);
-        (0..2).for_each(|k| records.feature(at(0, 0, 1), k));
+        maps.add_alone(bytes);
     }
 }
 
 /// Coordinates at the limit and past it, in every place of one.
-fn coordinates(records: &mut Records) {
+fn coordinates(maps: &mut Maps) {
     let mut tiles = Vec::new();
     for value in [LARGEST, LARGEST + 1, -LARGEST, -LARGEST - 1, (1 << 62) - 1] {
         tiles.extend(with_coordinate(value).map(|tile| tile.plain()));
     }
-    ask_all(records, &tiles);
+    maps.add_tiles(&tiles);
 }
 
 /// The value as latitude and as longitude of a point, a label, a first node, a later one, and the
@@ -124,7 +113,7 @@ fn with_coordinate(value: i64) -> [Tile; 10] {
 }
 
 /// Lengths at the limit, past it, and such as `read_vbe_u` would cut to 3, in every place of a text.
-fn text_lengths(records: &mut Records) {
+fn text_lengths(maps: &mut Maps) {
     let wide = [32, 35, 62].map(|power| unsigned((1 << power) + 3));
     let near = [LONGEST, LONGEST + 1].map(unsigned);
     let padded = [unsigned_in(3, 6), unsigned_in(LONGEST + 1, 8), vec![0x80; 6], vec![0x80; 9]];
@@ -133,10 +122,10 @@ fn text_lengths(records: &mut Records) {
         for flag in [0x80, 0x40, 0x20] {
             // behind the text of a way a data block of no blocks
             let way = Way { flags: flag, ..Way::of_raw([&text, &[0][..]].concat()) };
-            ask_alone(records, Tile::of(&[], &[way]).plain());
+            maps.add_alone(Tile::of(&[], &[way]).plain());
         }
         for flag in [0x80, 0x40] {
-            ask_alone(records, [&[1, 0, 0, 0, 0, 0x50, flag], text.as_slice()].concat());
+            maps.add_alone([&[1, 0, 0, 0, 0, 0x50, flag], text.as_slice()].concat());
         }
     }
 }

@@ -1,7 +1,7 @@
 //! Random tiles, whole and with random faults.
 
-use super::{at, header, values, Address, Records, POI_TAGS, TEXTS, WAY_TAGS};
-use crate::maps::writer::tile::{sub_file, Block, Numbers, Point, Tile, Way};
+use super::writer::{sub_file, Block, Numbers, Point, Tile, Way};
+use super::{all, header, values, Maps, POI_TAGS, TEXTS, WAY_TAGS};
 use crate::maps::writer::{Header, DEBUG};
 use crate::random::{repeat, Random};
 
@@ -9,14 +9,16 @@ const SEED: u64 = 0x711E5;
 /// The number of maps, and of the tiles in each.
 const MAPS: usize = 10;
 const TILES: usize = 24;
+/// So many numbers are passed over behind each map, so that the next ones are those of earlier runs.
+const PASSED: usize = 7 * TILES;
 
-pub fn add(records: &mut Records) {
+pub fn add(maps: &mut Maps) {
     let mut random = Random::new(SEED);
-    repeat(MAPS, || random.add_map(records));
+    repeat(MAPS, || random.add_map(maps));
 }
 
 impl Random {
-    fn add_map(&mut self, records: &mut Records) {
+    fn add_map(&mut self, maps: &mut Maps) {
         let lowest = self.below(20) as u8;
         let zooms = [0, lowest, lowest + self.below(4) as u8];
         let debug = self.below(4) == 0;
@@ -24,17 +26,10 @@ impl Random {
         let rows = usize::from(zooms[2] - zooms[1]) + 1;
         let tiles: Vec<Vec<u8>> = (0..TILES).map(|_| self.tile(debug, rows)).collect();
         let header = Header { flags, ..header(&[zooms]) };
-        records.map(&header.before_all(&[sub_file(debug, &tiles)]));
-        (0..TILES).for_each(|tile| self.ask(records, at(0, tile, TILES), zooms));
-    }
-
-    fn ask(&mut self, records: &mut Records, at: Address, [_, lowest, highest]: [u8; 3]) {
-        records.collect(at);
-        repeat(3, || {
-            let zoom = lowest + self.below(usize::from(highest - lowest) + 1) as u8;
-            records.stream(at, zoom, self.below(4) as u8);
+        maps.add(header.before_all(&[sub_file(debug, &tiles)]), all(TILES));
+        repeat(PASSED, || {
+            self.next();
         });
-        records.feature(at, self.below(6) as u32);
     }
 
     /// A tile that is good, or has up to three bytes replaced, or a wrong number.

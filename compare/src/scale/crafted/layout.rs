@@ -1,28 +1,24 @@
 //! First-way offsets and stored sizes that lead elsewhere.
 
-use super::{ask, ask_all, ask_alone, at, map, next_point, next_way, Records, HIGHEST};
-use crate::maps::writer::tile::{Point, Tile, Way};
+use super::writer::{Point, Tile, Way};
+use super::{all, map, next_point, next_way, Maps};
 
 /// Far past the end of any map.
 const FAR: [u64; 4] = [1 << 20, 1 << 32, 1 << 62, (1 << 63) - 1];
 
-pub fn add(records: &mut Records) {
-    overlap(records);
-    offsets(records);
-    far_offsets(records);
-    sizes(records);
-    far_sizes(records);
-    empty(records);
+pub fn add(maps: &mut Maps) {
+    overlap(maps);
+    offsets(maps);
+    far_offsets(maps);
+    sizes(maps);
+    far_sizes(maps);
+    empty(maps);
 }
 
 /// The way lies over the point, and its last byte is the point's name.
-fn overlap(records: &mut Records) {
+fn overlap(maps: &mut Maps) {
     let tile = [0x01, 0x01, 0x00, 0x05, 0x00, 0x50, 0x80, 0x01, 0x00];
-    ask_alone(records, tile.to_vec());
-    let at = at(0, 0, 1);
-    (0..3).for_each(|k| records.feature(at, k));
-    let length = map(&[tile.to_vec()]).len();
-    (0..4).for_each(|what| records.damages(at, length - tile.len()..length, what));
+    maps.add_alone(tile.to_vec());
 }
 
 fn few() -> Tile {
@@ -31,37 +27,35 @@ fn few() -> Tile {
 }
 
 /// Every offset from the points' start to behind the last way.
-fn offsets(records: &mut Records) {
+fn offsets(maps: &mut Maps) {
     let length = few().plain().len() as u64;
     let tile = |offset| Tile { first_way: Some(offset), ..few() }.plain();
     let tiles: Vec<Vec<u8>> = (0..length + 2).map(tile).collect();
-    ask_all(records, &tiles);
+    maps.add_tiles(&tiles);
 }
 
 /// Offsets around the map's end; without ways they lead nowhere wrong.
-fn far_offsets(records: &mut Records) {
+fn far_offsets(maps: &mut Maps) {
     let behind = few().plain().len() as u64 - 3; // a row and the offset are three bytes
     for offset in (behind - 1..=behind + 1).chain(FAR) {
         let tile = Tile { first_way: Some(offset), ..few() };
-        ask_alone(records, tile.plain());
+        maps.add_alone(tile.plain());
         let no_ways = Tile { first_way: Some(offset), ..Tile::of(&tile.points, &[]) };
-        ask_alone(records, no_ways.plain());
+        maps.add_alone(no_ways.plain());
         let no_points = Tile { first_way: Some(offset), ..Tile::of(&[], &tile.ways) };
-        ask_alone(records, no_points.plain());
+        maps.add_alone(no_points.plain());
     }
 }
 
 /// Every stored size up to past the next way, of the first way and of the third.
-fn sizes(records: &mut Records) {
+fn sizes(maps: &mut Maps) {
     let mut tiles = Vec::new();
     for k in [0, 2] {
         for size in 0..few().ways[k].right_size() + 10 {
             tiles.push(with_size(k, size).plain());
         }
     }
-    ask_all(records, &tiles);
-    // which way is declined decides where the stream goes on
-    (0..tiles.len()).for_each(|tile| records.stream(at(0, tile, tiles.len()), HIGHEST, 3));
+    maps.add_tiles(&tiles);
 }
 
 fn with_size(k: usize, size: u64) -> Tile {
@@ -71,22 +65,19 @@ fn with_size(k: usize, size: u64) -> Tile {
 }
 
 /// Sizes around the map's end and far past it; behind the last way nothing is read.
-fn far_sizes(records: &mut Records) {
+fn far_sizes(maps: &mut Maps) {
     let last = few().ways.len() - 1;
     for k in [0, 2, last] {
         let around_end = few().ways[k..].iter().map(|way| way.right_size() + 1).sum::<u64>() - 1;
         for size in (around_end - 1..=around_end + 1).chain(FAR) {
-            ask_alone(records, with_size(k, size).plain());
+            maps.add_alone(with_size(k, size).plain());
         }
     }
 }
 
-/// Tiles without features, and one whose way has no byte behind its tags.
-fn empty(records: &mut Records) {
-    ask_alone(records, Tile::of(&[], &[]).plain());
-    let at = at(0, 0, 1);
-    [0, 1, u32::MAX].iter().for_each(|&k| records.feature(at, k));
-    ask_alone(records, vec![0, 1, 0, 3, 0xFF, 0xFF, 0x50]);
-    records.map(&map(&[]));
-    ask(records, at);
+/// Tiles without features, one whose way has no byte behind its tags, and one that is not there.
+fn empty(maps: &mut Maps) {
+    maps.add_alone(Tile::of(&[], &[]).plain());
+    maps.add_alone(vec![0, 1, 0, 3, 0xFF, 0xFF, 0x50]);
+    maps.add(map(&[]), all(1));
 }

@@ -1,25 +1,16 @@
 //! The blocks of ways: their counts and nodes, in both delta forms.
 
-use super::{ask_all, at, show_all, with_ways, Records};
-use crate::maps::writer::tile::{Block, Way};
+use super::writer::{Block, Way};
+use super::{with_ways, Maps};
 use crate::random::Random;
 
 const SEED: u64 = 0xB0D1;
-/// The way in question is behind a point.
-const FIRST_WAY: u32 = 1;
 
-pub fn add(records: &mut Records) {
+pub fn add(maps: &mut Maps) {
     let single = [worked(), shapes(), positions(), labels()].concat();
     let double: Vec<Way> = single.iter().map(|way| Way { double: true, ..way.clone() }).collect();
-    for ways in [single, double] {
-        ask_all(records, &with_ways(&ways));
-        let tiles = ways.len();
-        for tile in 0..tiles {
-            records.feature(at(0, tile, tiles), FIRST_WAY);
-            records.turns(at(0, tile, tiles));
-        }
-        show_all(records, tiles);
-    }
+    maps.add_tiles(&with_ways(&single));
+    maps.add_tiles(&with_ways(&double));
 }
 
 /// The format document's example of double delta, and document 01's figures in degrees.

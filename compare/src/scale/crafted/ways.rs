@@ -1,27 +1,13 @@
 //! Ways, with each field before their data blocks at its limits.
 
-use super::{ask_all, at, show_all, values, with_ways, Records, TEXTS, WAY_TAGS};
-use crate::maps::writer::tile::{Value, Way};
+use super::writer::{Value, Way};
+use super::{values, with_ways, Maps, TEXTS, WAY_TAGS};
 
-/// The way in question is behind a point.
-const FIRST_WAY: u32 = 1;
-
-pub fn add(records: &mut Records) {
-    let ways = flags(0);
-    ask_all(records, &with_ways(&ways));
-    features(records, ways.len());
-    show_all(records, ways.len());
-    ask_all(records, &with_ways(&flags(3)));
-    let ways = [tag_counts(), letters(), texts()].concat();
-    ask_all(records, &with_ways(&ways));
-    features(records, ways.len());
-    let ways = [bad_ids(), layers(), bitmaps()].concat();
-    ask_all(records, &with_ways(&ways));
-    features(records, ways.len());
-}
-
-fn features(records: &mut Records, tiles: usize) {
-    (0..tiles).for_each(|tile| records.feature(at(0, tile, tiles), FIRST_WAY));
+pub fn add(maps: &mut Maps) {
+    maps.add_tiles(&with_ways(&flags(0)));
+    maps.add_tiles(&with_ways(&flags(3)));
+    maps.add_tiles(&with_ways(&[tag_counts(), letters(), texts()].concat()));
+    maps.add_tiles(&with_ways(&[bad_ids(), layers(), bitmaps()].concat()));
 }
 
 /// Every combination of the optional fields and the delta forms, with some of the reserved bits.

@@ -1,4 +1,4 @@
-//! Crafted tiles, the boundaries first and then random ones, and the maps of the repository.
+//! Maps of crafted tiles, the boundaries first and then random ones.
 
 mod bodies;
 mod counts;
@@ -9,48 +9,54 @@ mod order;
 mod points;
 mod random;
 mod rich;
-pub mod shipped;
 mod tags;
 mod ways;
+mod writer;
 mod zooms;
-
-use std::io;
-use std::path::Path;
 
 use mapsforge_rs::grid::Grid;
 
-use super::calls::Records;
-use super::{Address, Form};
-use crate::maps::writer::tile::{sub_file, Point, Tile, Value, Way};
 use crate::maps::writer::{tags as tag_list, Header, DEBUG};
+use crate::tiles::Address;
+use writer::{sub_file, Point, Tile, Value, Way};
 
-/// Writes the records to `stdin` and a line for each of them to `stdout`.
-pub fn write(folder: &Path, form: Form) -> io::Result<()> {
-    let mut records = crafted();
-    shipped::add(&mut records)?;
-    records.write(folder, form)
+/// Maps, each with the tiles that are asked for.
+#[derive(Default)]
+struct Maps(Vec<(Vec<u8>, Vec<Address>)>);
+
+impl Maps {
+    fn add(&mut self, map: Vec<u8>, tiles: impl IntoIterator<Item = Address>) {
+        self.0.push((map, tiles.into_iter().collect()));
+    }
+
+    /// A map of one sub file of one row, with these tiles.
+    fn add_tiles(&mut self, tiles: &[Vec<u8>]) {
+        self.add(map(tiles), all(tiles.len()));
+    }
+
+    /// A tile in a map of its own, which ends with it.
+    fn add_alone(&mut self, tile: Vec<u8>) {
+        self.add_tiles(&[tile]);
+    }
 }
 
-/// What is asked of the crafted tiles.
-pub fn crafted() -> Records {
-    let mut records = Records::default();
-    points::add(&mut records);
-    ways::add(&mut records);
-    bodies::add(&mut records);
-    tags::add(&mut records);
-    layout::add(&mut records);
-    zooms::add(&mut records);
-    numbers::add(&mut records);
-    counts::add(&mut records);
-    order::add(&mut records);
-    debug::add(&mut records);
-    rich::add(&mut records);
-    random::add(&mut records);
-    records
+/// All maps, each with the tiles that are asked for. A map may come twice.
+pub fn maps() -> Vec<(Vec<u8>, Vec<Address>)> {
+    let mut maps = Maps::default();
+    points::add(&mut maps);
+    ways::add(&mut maps);
+    bodies::add(&mut maps);
+    tags::add(&mut maps);
+    layout::add(&mut maps);
+    zooms::add(&mut maps);
+    numbers::add(&mut maps);
+    counts::add(&mut maps);
+    order::add(&mut maps);
+    debug::add(&mut maps);
+    rich::add(&mut maps);
+    random::add(&mut maps);
+    maps.0
 }
-
-/// The highest zoom that can be asked for; it is clamped to every interval's last row.
-const HIGHEST: u8 = u8::MAX;
 
 /// The tags of the points: each letter of a value, and all ways to have none.
 const POI_TAGS: [&[u8]; 14] = [
@@ -125,28 +131,9 @@ fn at(sub_file: u64, tile: usize, tiles: usize) -> Address {
     Address { sub_file, grid, tile: tile as u64 }
 }
 
-/// All of some tiles in one map, each collected and streamed.
-fn ask_all(records: &mut Records, tiles: &[Vec<u8>]) {
-    records.map(&map(tiles));
-    for tile in 0..tiles.len() {
-        ask(records, at(0, tile, tiles.len()));
-    }
-}
-
-/// A tile in a map of its own, which ends with it.
-fn ask_alone(records: &mut Records, tile: Vec<u8>) {
-    ask_all(records, &[tile]);
-}
-
-/// A tile collected, and streamed with all ways, with none, and with two of three.
-fn ask(records: &mut Records, at: Address) {
-    records.collect(at);
-    (0..3).for_each(|policy| records.stream(at, HIGHEST, policy));
-}
-
-/// The lines of the streams of some tiles in one map, with all ways.
-fn show_all(records: &mut Records, tiles: usize) {
-    (0..tiles).for_each(|tile| records.lines(at(0, tile, tiles), HIGHEST, 0));
+/// All tiles of sub file 0, which are in one row of the grid.
+fn all(tiles: usize) -> impl Iterator<Item = Address> {
+    (0..tiles).map(move |tile| at(0, tile, tiles))
 }
 
 /// A point behind the one in question, so that it shows where that ends.
