@@ -72,6 +72,8 @@ pub struct Plan {
 pub enum Policy {
     All,
     None,
+    /// All but every third.
+    TwoOfThree,
     /// By the bits of numbers that start here.
     Random(u64),
 }
@@ -86,6 +88,7 @@ impl Plan {
         let wanted = match self.policy {
             Policy::All => true,
             Policy::None => false,
+            Policy::TwoOfThree => k % 3 < 2,
             Policy::Random(seed) => Random::new(seed ^ (k as u64 + 1) << 20 | 1).below(2) == 0,
         };
         wanted && !self.declined.contains(&k)

@@ -108,7 +108,8 @@ fn tile(
         collected::fetch(check, lent, map, at, &tile, k, random).map_err(feature)?;
     }
     for zoom in zooms(opening, at) {
-        for policy in [Policy::All, Policy::None, Policy::Random(random.next())] {
+        let some = Policy::Random(random.next());
+        for policy in [Policy::All, Policy::None, Policy::TwoOfThree, some] {
             let (layout, at, refused_calls) = (said.layout, *at, REFUSED_CALLS);
             let question = Question { map, layout, at, zoom, refused_calls };
             let place = |why| format!("stream at zoom {zoom}, ways {policy:?}: {why}");
