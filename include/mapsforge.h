@@ -13,8 +13,10 @@
  * A part of the map, or of nothing, is three words: 1 if it is there, its place in the map, its size in bytes; else 0, 0, 0.
  * A text of a stream that is not valid UTF-8 is there with size 0.
  *
- * A map is opened anew at each call that takes sub files, so that nothing of it has to be kept but its bytes; if it does not open, the
- * call gives the refusal of opening. */
+ * The caller keeps the map's bytes, the layout that mapsforge_open gave, and of each sub file the interval that mapsforge_interval gave,
+ * and hands in what a call needs of them. So nothing is opened again: only mapsforge_open, mapsforge_interval and mapsforge_sub_file open
+ * the map, and give the refusal of opening if it does not open. Any words are taken: with words that did not come from this map, the
+ * answers are those of a map with such a header. */
 #ifndef MAPSFORGE_H
 #define MAPSFORGE_H
 
@@ -48,11 +50,15 @@ enum {
  * 12 flags, 13-14 magic (place, size), 15-16 projection (place, size), 17 whether there is a start position, 18-19 start zoom (1 and
  * the zoom, or 0, 0), 20-22 language, 23-25 comment, 26-28 created by (parts), 29-30 point tags (place, count), 31-32 way tags,
  * 33 number of sub files. degrees: the bounding box, south, west, north, east; the start position, latitude, longitude. layout: what
- * mapsforge_stream_next needs. Where opening is refused, all of them but the values are those of an empty header: 0. */
+ * other calls take of the header: 0 whether there are signatures for debugging, 1-2 point tags (place, count), 3-4 way tags. Where opening
+ * is refused, all of them but the values are those of an empty header: 0. */
 uint64_t mapsforge_open(const uint8_t *map, size_t map_len, uint64_t words[34], double degrees[6], uint64_t layout[5]);
 
-/* The zoom interval of a sub file. words: 6 whether there is one, 7 base zoom, 8 lowest zoom, 9 highest zoom, 10 start, 11 size. */
-uint64_t mapsforge_interval(const uint8_t *map, size_t map_len, size_t sub_file, uint64_t words[12]);
+/* The zoom interval of a sub file. interval: 0 whether there is one, 1 base zoom, 2 lowest zoom, 3 highest zoom, 4 start, 5 size; all 0
+ * if there is none, and on a refusal. It goes as it is to mapsforge_tile_count, mapsforge_tile_index, mapsforge_index_entry,
+ * mapsforge_stream_open, mapsforge_collect and mapsforge_fetch, which take any word 0 but 0 for a sub file that is there, and words 1 to
+ * 3 modulo 256. words: only the refusal's values. */
+uint64_t mapsforge_interval(const uint8_t *map, size_t map_len, size_t sub_file, uint64_t words[6], uint64_t interval[6]);
 
 /* The first sub file whose interval has the zoom. words: 6 whether there is one, 7 its number. */
 uint64_t mapsforge_sub_file(const uint8_t *map, size_t map_len, uint8_t zoom, uint64_t words[8]);
@@ -65,21 +71,21 @@ uint64_t mapsforge_tag(const uint8_t *map, size_t map_len, size_t start, size_t 
 uint64_t mapsforge_text(const uint8_t *text, size_t text_len, uint8_t *buffer, size_t buffer_len, uint64_t words[7]);
 
 /* How many tiles the sub file has, by its grid. words: 6 whether there is such a sub file, 7 the count. */
-uint64_t mapsforge_tile_count(const uint8_t *map, size_t map_len, size_t sub_file, int32_t x_min, int32_t y_min, int32_t x_max, int32_t y_max, uint64_t words[8]);
+uint64_t mapsforge_tile_count(const uint64_t interval[6], int32_t x_min, int32_t y_min, int32_t x_max, int32_t y_max, uint64_t words[8]);
 
 /* The number of the tile x, y of the sub file. words: 6 whether there is one, 7 its number. */
-uint64_t mapsforge_tile_index(const uint8_t *map, size_t map_len, size_t sub_file, int32_t x_min, int32_t y_min, int32_t x_max, int32_t y_max, int32_t x, int32_t y, uint64_t words[8]);
+uint64_t mapsforge_tile_index(const uint64_t interval[6], int32_t x_min, int32_t y_min, int32_t x_max, int32_t y_max, int32_t x, int32_t y, uint64_t words[8]);
 
 /* A tile's entry in the index. words: 6 water, 7 its place from the sub file's start, 8 from the map's. */
-uint64_t mapsforge_index_entry(const uint8_t *map, size_t map_len, size_t sub_file, int32_t x_min, int32_t y_min, int32_t x_max, int32_t y_max, size_t tile, uint64_t words[9]);
+uint64_t mapsforge_index_entry(const uint8_t *map, size_t map_len, const uint64_t layout[5], const uint64_t interval[6], int32_t x_min, int32_t y_min, int32_t x_max, int32_t y_max, size_t tile, uint64_t words[9]);
 
 /* The column that a longitude lies in, and the longitude at which a column starts; 0 on a refusal. */
 uint64_t mapsforge_column(double longitude, uint8_t zoom, uint64_t words[6], int64_t column[1]);
 uint64_t mapsforge_longitude(uint32_t column, uint8_t zoom, uint64_t words[6], double longitude[1]);
 
-/* Opens a stream of a tile at a zoom, which is clamped into the sub file's interval. The state is the caller's to keep and these calls' to
- * write. On a refusal it keeps its words. */
-uint64_t mapsforge_stream_open(const uint8_t *map, size_t map_len, size_t sub_file, int32_t x_min, int32_t y_min, int32_t x_max, int32_t y_max, size_t tile, uint8_t zoom, uint64_t state[7], uint64_t words[6]);
+/* Opens a stream of a tile at a zoom, which is clamped into the sub file's interval. sub_file is only what the stream's end answers. The
+ * state is the caller's to keep and these calls' to write. On a refusal it keeps its words. */
+uint64_t mapsforge_stream_open(const uint8_t *map, size_t map_len, const uint64_t layout[5], const uint64_t interval[6], size_t sub_file, int32_t x_min, int32_t y_min, int32_t x_max, int32_t y_max, size_t tile, uint8_t zoom, uint64_t state[7], uint64_t words[6]);
 
 /* The next point; after the last point the next way's head, which then waits; at last the end, again and again. 16 while a way waits.
  * words: 6 what it is (0 a point, 1 a way's head, 2 the end), 7 number of tags, 8-10 signature, 11-13 name, 14-16 house number (parts,
@@ -98,7 +104,7 @@ uint64_t mapsforge_stream_decline(uint64_t state[7], uint64_t words[6]);
 
 /* Collects a tile: decodes every feature of it. words: 6-8 signature (a part), 9 number of rows, 10 first-way offset, 11 number of
  * points, 12 of ways, 13 whether every way's stored size is its decoded length. points and ways: the zoom table, zeros behind its rows. */
-uint64_t mapsforge_collect(const uint8_t *map, size_t map_len, size_t sub_file, int32_t x_min, int32_t y_min, int32_t x_max, int32_t y_max, size_t tile, uint64_t words[14], uint64_t points[256], uint64_t ways[256]);
+uint64_t mapsforge_collect(const uint8_t *map, size_t map_len, const uint64_t layout[5], const uint64_t interval[6], int32_t x_min, int32_t y_min, int32_t x_max, int32_t y_max, size_t tile, uint64_t words[14], uint64_t points[256], uint64_t ways[256]);
 
 /* Fetches feature k of a collected tile: points from 0, ways behind them. A way's node counts, latitudes and longitudes and its blocks'
  * initial latitudes and longitudes go to the fronts of the lists; the texts go to the buffer, one behind the other: the tags' strings in
@@ -108,7 +114,7 @@ uint64_t mapsforge_collect(const uint8_t *map, size_t map_len, size_t sub_file, 
  * there, its size in the buffer, then of the tag made of it the key's and the value's length and the key's and the value's hash.
  * signed_words: the layer, and a point's elevation in metres. degrees: a point's position, or a way's label position. ids: the tag ids.
  * tags: for each of 15 tags five words, as a text's last five. A refused call leaves the lists and the buffer alone. */
-uint64_t mapsforge_fetch(const uint8_t *map, size_t map_len, size_t sub_file, int32_t x_min, int32_t y_min, int32_t x_max, int32_t y_max, size_t tile, uint64_t feature, uint64_t *node_counts, size_t node_counts_len, double *latitudes, size_t latitudes_len, double *longitudes, size_t longitudes_len, double *initial_latitudes, size_t initial_latitudes_len, double *initial_longitudes, size_t initial_longitudes_len, uint8_t *buffer, size_t buffer_len, uint64_t words[35], int64_t signed_words[2], double degrees[2], uint64_t ids[15], uint64_t tags[75]);
+uint64_t mapsforge_fetch(const uint8_t *map, size_t map_len, const uint64_t layout[5], const uint64_t interval[6], int32_t x_min, int32_t y_min, int32_t x_max, int32_t y_max, size_t tile, uint64_t feature, uint64_t *node_counts, size_t node_counts_len, double *latitudes, size_t latitudes_len, double *longitudes, size_t longitudes_len, double *initial_latitudes, size_t initial_latitudes_len, double *initial_longitudes, size_t initial_longitudes_len, uint8_t *buffer, size_t buffer_len, uint64_t words[35], int64_t signed_words[2], double degrees[2], uint64_t ids[15], uint64_t tags[75]);
 
 /* The data of a way alone, from a place in the map on: measured, and read to the fronts of three lists. words: 6 the number of blocks, 7 of
  * nodes, 8 the place behind them. A refused call leaves the lists alone. */

@@ -1,4 +1,5 @@
-//! Our side: the library's functions as they are, over lists that are lent again and again.
+//! Our side: the library's functions as they are, over lists that are lent again and again. What the calls take
+//! of the header is kept, as the Rust keeps the opened map.
 
 mod calls;
 
@@ -21,6 +22,7 @@ impl<'a> Ours<'a> {
     pub fn new(map: &'a Map) -> Self {
         let mut calls = Calls::new(&map.bytes);
         assert_eq!(calls.open(), 0, "a map that opens");
+        calls.keep_intervals(map.sub_files.len());
         Ours { map, calls }
     }
 }
@@ -62,10 +64,10 @@ fn done(number: u64) -> Result<(), u64> {
 
 impl Ours<'_> {
     fn interval(&mut self, sub_file: usize, tally: &mut Tally) {
-        let mut words = [0; 12];
-        assert_eq!(self.calls.interval(sub_file, &mut words), 0, "it opened before");
+        let mut interval = [0; 6];
+        assert_eq!(self.calls.interval(sub_file, &mut interval), 0, "it opened before");
         tally.intervals += 1;
-        tally.digest(|fold| fold.words(&words[7..]));
+        tally.digest(|fold| fold.words(&interval[1..]));
     }
 
     fn stream(

@@ -5,7 +5,7 @@ use crate::tally::Tally;
 #[derive(Clone, Copy, PartialEq)]
 pub enum Work {
     Open,
-    /// The interval of each sub file: a call that does little but open the map anew.
+    /// The interval of each sub file: a call that does little but open the map.
     Interval,
     /// Streams of all tiles, by what becomes of the ways and by the zoom.
     Accept,

@@ -10,6 +10,7 @@ mod choices;
 mod collected;
 mod crafted;
 mod damage;
+mod foreign;
 mod held;
 mod indexed;
 mod known;

@@ -67,8 +67,8 @@ pub enum Finding {
 pub struct Report {
     /// The tile.
     pub place: TilePlace,
-    /// Whether the tile is marked as one without features (see [`SubFile::marked_empty`]). What stands at its place is
-    /// then another tile's, or nothing: a refusal there is no finding.
+    /// Whether the tile is marked as one without features (see [`SubFile::marked_empty`]). The library reads it all the
+    /// same, and finds another tile there, or refuses it.
     pub marked_empty: bool,
     /// Its numbers of points and ways, if it collects; with a tile that is marked empty, what the library reads there.
     pub counts: Option<(u64, u64)>,
@@ -144,7 +144,6 @@ pub fn tile(sub_file: &SubFile<'_, '_>, place: TilePlace) -> Report {
     // A next entry that cannot be read is that tile's own finding.
     report.marked_empty = sub_file.marked_empty(place.number).unwrap_or(false);
     match sub_file.collect(place.number) {
-        Err(_) if report.marked_empty => {}
         Err(refusal) => report.findings.push(refused(sub_file, place, entry.place, refusal)),
         Ok(tile) => {
             report.counts = Some((tile.point_count(), tile.way_count()));

@@ -1,7 +1,7 @@
 //! Fetched features.
 
 use crate::raw::{self, FetchLists, FetchWords};
-use crate::{Lengths, Part, Position, Refusal};
+use crate::{Lengths, Part, Position, Refusal, SubFile};
 
 /// A tag of a feature, with the hashes that the format's readers look it up by.
 #[derive(Clone, Debug, PartialEq, Eq)]
@@ -139,16 +139,24 @@ impl Buffers {
 
     pub(crate) fn fetch<'a>(
         &mut self,
-        map: &'a [u8],
-        sub_file: usize,
-        corners: [i32; 4],
+        sub_file: &SubFile<'_, 'a>,
         tile: usize,
         feature: u64,
     ) -> Result<Feature<'a>, Refusal> {
+        let map = sub_file.map().bytes();
         let mut got = FetchWords::default();
         // Once to learn the lengths, if they have to grow, and once more.
         loop {
-            let number = raw::fetch(map, sub_file, corners, tile, feature, self.lists(), &mut got);
+            let number = raw::fetch(
+                map,
+                sub_file.map().layout(),
+                sub_file.words(),
+                sub_file.grid().corners(),
+                tile,
+                feature,
+                self.lists(),
+                &mut got,
+            );
             match Refusal::check(number, &got.words) {
                 Ok(()) => return Ok(self.feature(map, &got)),
                 Err(Refusal::TooShort(needed)) => self.grow(needed),

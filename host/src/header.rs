@@ -54,18 +54,25 @@ pub struct ZoomInterval {
 impl ZoomInterval {
     /// The interval of a sub file that the header has.
     pub(crate) fn read(map: &[u8], sub_file: usize) -> Result<ZoomInterval, Refusal> {
-        let mut words = [0; 12];
-        Refusal::check(raw::interval(map, sub_file, &mut words), &words)?;
-        if words[6] == 0 {
+        let (mut words, mut interval) = ([0; 6], [0; 6]);
+        Refusal::check(raw::interval(map, sub_file, &mut words, &mut interval), &words)?;
+        let [there, base_zoom, min_zoom, max_zoom, start, size] = interval;
+        if there == 0 {
             return Err(Refusal::InvalidTileIndex);
         }
         Ok(ZoomInterval {
-            base_zoom: words[7] as u8,
-            min_zoom: words[8] as u8,
-            max_zoom: words[9] as u8,
-            start: words[10],
-            size: words[11],
+            base_zoom: base_zoom as u8,
+            min_zoom: min_zoom as u8,
+            max_zoom: max_zoom as u8,
+            start,
+            size,
         })
+    }
+
+    /// As the library gave it, and takes it.
+    pub(crate) fn words(&self) -> [u64; 6] {
+        let [base, min, max] = [self.base_zoom, self.min_zoom, self.max_zoom].map(u64::from);
+        [1, base, min, max, self.start, self.size]
     }
 }
 

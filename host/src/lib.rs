@@ -1,7 +1,8 @@
 //! Reads Mapsforge binary maps by a library in which every function is proved to meet its contract.
 //!
 //! This crate wraps that library (target/staticlib/libexports.a of the repository) for Rust. The library keeps no state
-//! and allocates nothing; this crate adds the memory that grows, the latitude rows of a sub file's grid, and types.
+//! and allocates nothing; this crate keeps what it gave of the header, so that no tile's call opens the map again, and
+//! adds the memory that grows, the latitude rows of a sub file's grid, and types.
 //!
 //! ```
 //! use mapsforge::{MapFile, Step};

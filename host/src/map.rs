@@ -53,7 +53,7 @@ impl<'a> Map<'a> {
         &self.header
     }
 
-    /// What [`raw::stream_next`] takes of the header.
+    /// What the calls of [`raw`] about a tile take of the header.
     pub fn layout(&self) -> &[u64; 5] {
         &self.layout
     }

@@ -1,13 +1,16 @@
 //! The library's functions as they are, with slices and arrays for addresses: safe to call with anything.
 //!
 //! include/mapsforge.h says what each word is. Each function gives 0, or the number of a refusal, whose values are then
-//! words 0 to 5 (see [`crate::Refusal::check`]). All `unsafe` code of this crate is in this file.
+//! words 0 to 5 (see [`crate::Refusal::check`]). A layout is what [`open`] gave, an interval what [`interval`] gave of the
+//! sub file, and any other words will do. All `unsafe` code of this crate is in this file.
 //!
 //! ```
 //! use mapsforge::raw;
 //!
 //! // Nothing waits in a stream of zeros: refusal 16.
 //! assert_eq!(raw::stream_decline(&mut [0; 7], &mut [0; 6]), 16);
+//! // An interval of zeros is that of no sub file: refusal 8.
+//! assert_eq!(raw::index_entry(&[], &[0; 5], &[0; 6], [0; 4], 0, &mut [0; 9]), 8);
 //! ```
 //!
 //! Each call is sound for one reason, which holds for every block below unless it says otherwise: a slice or array is
@@ -20,7 +23,7 @@ use std::fs::File;
 use std::io;
 use std::os::fd::AsRawFd;
 
-/// Opens a map: the header's words and degrees, and the layout that a stream takes.
+/// Opens a map: the header's words and degrees, and the layout that other calls take.
 pub fn open(
     map: &[u8],
     words: &mut [u64; 34],
@@ -31,10 +34,10 @@ pub fn open(
     unsafe { sys::mapsforge_open(map.as_ptr(), map.len(), words, degrees, layout) }
 }
 
-/// The zoom interval of a sub file.
-pub fn interval(map: &[u8], sub_file: usize, words: &mut [u64; 12]) -> u64 {
+/// The zoom interval of a sub file, as other calls take it.
+pub fn interval(map: &[u8], sub_file: usize, words: &mut [u64; 6], interval: &mut [u64; 6]) -> u64 {
     // SAFETY: borrowed for the call, at their lengths.
-    unsafe { sys::mapsforge_interval(map.as_ptr(), map.len(), sub_file, words) }
+    unsafe { sys::mapsforge_interval(map.as_ptr(), map.len(), sub_file, words, interval) }
 }
 
 /// The first sub file whose interval has the zoom.
@@ -58,27 +61,15 @@ pub fn text(text: &[u8], buffer: &mut [u8], words: &mut [u64; 7]) -> u64 {
 }
 
 /// How many tiles a sub file has. A grid is x_min, y_min, x_max, y_max.
-pub fn tile_count(map: &[u8], sub_file: usize, grid: [i32; 4], words: &mut [u64; 8]) -> u64 {
+pub fn tile_count(interval: &[u64; 6], grid: [i32; 4], words: &mut [u64; 8]) -> u64 {
     let [x_min, y_min, x_max, y_max] = grid;
     // SAFETY: borrowed for the call, at their lengths.
-    unsafe {
-        sys::mapsforge_tile_count(
-            map.as_ptr(),
-            map.len(),
-            sub_file,
-            x_min,
-            y_min,
-            x_max,
-            y_max,
-            words,
-        )
-    }
+    unsafe { sys::mapsforge_tile_count(interval, x_min, y_min, x_max, y_max, words) }
 }
 
 /// The number of a tile.
 pub fn tile_index(
-    map: &[u8],
-    sub_file: usize,
+    interval: &[u64; 6],
     grid: [i32; 4],
     x: i32,
     y: i32,
@@ -86,26 +77,14 @@ pub fn tile_index(
 ) -> u64 {
     let [x_min, y_min, x_max, y_max] = grid;
     // SAFETY: borrowed for the call, at their lengths.
-    unsafe {
-        sys::mapsforge_tile_index(
-            map.as_ptr(),
-            map.len(),
-            sub_file,
-            x_min,
-            y_min,
-            x_max,
-            y_max,
-            x,
-            y,
-            words,
-        )
-    }
+    unsafe { sys::mapsforge_tile_index(interval, x_min, y_min, x_max, y_max, x, y, words) }
 }
 
 /// A tile's entry in the index.
 pub fn index_entry(
     map: &[u8],
-    sub_file: usize,
+    layout: &[u64; 5],
+    interval: &[u64; 6],
     grid: [i32; 4],
     tile: usize,
     words: &mut [u64; 9],
@@ -116,7 +95,8 @@ pub fn index_entry(
         sys::mapsforge_index_entry(
             map.as_ptr(),
             map.len(),
-            sub_file,
+            layout,
+            interval,
             x_min,
             y_min,
             x_max,
@@ -139,9 +119,11 @@ pub fn longitude(column: u32, zoom: u8, words: &mut [u64; 6], longitude: &mut [f
     unsafe { sys::mapsforge_longitude(column, zoom, words, longitude) }
 }
 
-/// Opens a stream of a tile at a zoom.
+/// Opens a stream of a tile at a zoom. The sub file's number is what the stream's end answers.
 pub fn stream_open(
     map: &[u8],
+    layout: &[u64; 5],
+    interval: &[u64; 6],
     sub_file: usize,
     grid: [i32; 4],
     tile: usize,
@@ -155,6 +137,8 @@ pub fn stream_open(
         sys::mapsforge_stream_open(
             map.as_ptr(),
             map.len(),
+            layout,
+            interval,
             sub_file,
             x_min,
             y_min,
@@ -230,7 +214,8 @@ pub fn stream_decline(state: &mut [u64; 7], words: &mut [u64; 6]) -> u64 {
 /// Collects a tile.
 pub fn collect(
     map: &[u8],
-    sub_file: usize,
+    layout: &[u64; 5],
+    interval: &[u64; 6],
     grid: [i32; 4],
     tile: usize,
     words: &mut [u64; 14],
@@ -243,7 +228,8 @@ pub fn collect(
         sys::mapsforge_collect(
             map.as_ptr(),
             map.len(),
-            sub_file,
+            layout,
+            interval,
             x_min,
             y_min,
             x_max,
@@ -302,7 +288,8 @@ impl Default for FetchWords {
 /// Fetches a feature of a collected tile: points from 0, ways behind them.
 pub fn fetch(
     map: &[u8],
-    sub_file: usize,
+    layout: &[u64; 5],
+    interval: &[u64; 6],
     grid: [i32; 4],
     tile: usize,
     feature: u64,
@@ -315,7 +302,8 @@ pub fn fetch(
         sys::mapsforge_fetch(
             map.as_ptr(),
             map.len(),
-            sub_file,
+            layout,
+            interval,
             x_min,
             y_min,
             x_max,

@@ -140,11 +140,12 @@ impl<'m, 'a> Stream<'m, 'a> {
     pub(crate) fn open(sub_file: SubFile<'m, 'a>, tile: usize, zoom: u8) -> Result<Self, Refusal> {
         let (mut state, mut words) = ([0; 7], [0; 6]);
         let map = sub_file.map();
-        let corners = sub_file.grid().corners();
         let number = raw::stream_open(
             map.bytes(),
+            map.layout(),
+            sub_file.words(),
             sub_file.number(),
-            corners,
+            sub_file.grid().corners(),
             tile,
             zoom,
             &mut state,

@@ -45,15 +45,16 @@ pub struct SubFile<'m, 'a> {
     map: &'m Map<'a>,
     number: usize,
     interval: ZoomInterval,
+    /// The interval as the library takes it, which knows the sub file by nothing else.
+    words: [u64; 6],
     grid: Grid,
     /// How many tiles the library counts in this grid.
     tiles: Result<u64, Refusal>,
 }
 
-fn count(map: &Map<'_>, sub_file: usize, grid: Grid) -> Result<u64, Refusal> {
+fn count(interval: &[u64; 6], grid: Grid) -> Result<u64, Refusal> {
     let mut words = [0; 8];
-    let number = raw::tile_count(map.bytes(), sub_file, grid.corners(), &mut words);
-    Refusal::check(number, &words)?;
+    Refusal::check(raw::tile_count(interval, grid.corners(), &mut words), &words)?;
     Ok(words[7])
 }
 
@@ -61,13 +62,14 @@ impl<'m, 'a> SubFile<'m, 'a> {
     pub(crate) fn new(map: &'m Map<'a>, number: usize) -> Result<SubFile<'m, 'a>, Refusal> {
         let interval = *map.intervals().get(number).ok_or(Refusal::InvalidTileIndex)?;
         let grid = Grid::of_box(&map.header().bounding_box, interval.base_zoom)?;
-        let tiles = count(map, number, grid);
-        Ok(SubFile { map, number, interval, grid, tiles })
+        let words = interval.words();
+        let tiles = count(&words, grid);
+        Ok(SubFile { map, number, interval, words, grid, tiles })
     }
 
     /// The same with another grid than that of the bounding box.
     pub fn with_grid(self, grid: Grid) -> SubFile<'m, 'a> {
-        SubFile { grid, tiles: count(self.map, self.number, grid), ..self }
+        SubFile { grid, tiles: count(&self.words, grid), ..self }
     }
 
     /// The map.
@@ -83,6 +85,11 @@ impl<'m, 'a> SubFile<'m, 'a> {
     /// Its zoom interval.
     pub fn interval(&self) -> ZoomInterval {
         self.interval
+    }
+
+    /// The same as the library takes it.
+    pub(crate) fn words(&self) -> &[u64; 6] {
+        &self.words
     }
 
     /// Its grid.
@@ -124,8 +131,7 @@ impl<'m, 'a> SubFile<'m, 'a> {
     /// The tile of a column and row at the base zoom, if there is one.
     pub fn tile_at(&self, x: i32, y: i32) -> Result<Option<TilePlace>, Refusal> {
         let mut words = [0; 8];
-        let number =
-            raw::tile_index(self.map.bytes(), self.number, self.grid.corners(), x, y, &mut words);
+        let number = raw::tile_index(&self.words, self.grid.corners(), x, y, &mut words);
         Refusal::check(number, &words)?;
         Ok((words[6] != 0).then_some(TilePlace { number: words[7] as usize, x, y }))
     }
@@ -142,8 +148,9 @@ impl<'m, 'a> SubFile<'m, 'a> {
     /// A tile's entry in the index.
     pub fn entry(&self, tile: usize) -> Result<IndexEntry, Refusal> {
         let mut words = [0; 9];
+        let (map, corners) = (self.map, self.grid.corners());
         let number =
-            raw::index_entry(self.map.bytes(), self.number, self.grid.corners(), tile, &mut words);
+            raw::index_entry(map.bytes(), map.layout(), &self.words, corners, tile, &mut words);
         Refusal::check(number, &words)?;
         Ok(IndexEntry { water: words[6] != 0, offset: words[7], place: words[8] })
     }

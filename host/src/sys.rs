@@ -15,7 +15,8 @@ extern "C" {
         map: *const u8,
         map_len: usize,
         sub_file: usize,
-        words: *mut [u64; 12],
+        words: *mut [u64; 6],
+        interval: *mut [u64; 6],
     ) -> u64;
 
     pub fn mapsforge_sub_file(
@@ -43,9 +44,7 @@ extern "C" {
     ) -> u64;
 
     pub fn mapsforge_tile_count(
-        map: *const u8,
-        map_len: usize,
-        sub_file: usize,
+        interval: *const [u64; 6],
         x_min: i32,
         y_min: i32,
         x_max: i32,
@@ -54,9 +53,7 @@ extern "C" {
     ) -> u64;
 
     pub fn mapsforge_tile_index(
-        map: *const u8,
-        map_len: usize,
-        sub_file: usize,
+        interval: *const [u64; 6],
         x_min: i32,
         y_min: i32,
         x_max: i32,
@@ -69,7 +66,8 @@ extern "C" {
     pub fn mapsforge_index_entry(
         map: *const u8,
         map_len: usize,
-        sub_file: usize,
+        layout: *const [u64; 5],
+        interval: *const [u64; 6],
         x_min: i32,
         y_min: i32,
         x_max: i32,
@@ -95,6 +93,8 @@ extern "C" {
     pub fn mapsforge_stream_open(
         map: *const u8,
         map_len: usize,
+        layout: *const [u64; 5],
+        interval: *const [u64; 6],
         sub_file: usize,
         x_min: i32,
         y_min: i32,
@@ -136,7 +136,8 @@ extern "C" {
     pub fn mapsforge_collect(
         map: *const u8,
         map_len: usize,
-        sub_file: usize,
+        layout: *const [u64; 5],
+        interval: *const [u64; 6],
         x_min: i32,
         y_min: i32,
         x_max: i32,
@@ -150,7 +151,8 @@ extern "C" {
     pub fn mapsforge_fetch(
         map: *const u8,
         map_len: usize,
-        sub_file: usize,
+        layout: *const [u64; 5],
+        interval: *const [u64; 6],
         x_min: i32,
         y_min: i32,
         x_max: i32,

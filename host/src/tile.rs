@@ -33,9 +33,16 @@ impl<'m, 'a> Tile<'m, 'a> {
     pub(crate) fn collect(sub_file: SubFile<'m, 'a>, tile: usize) -> Result<Self, Refusal> {
         let map = sub_file.map().bytes();
         let (mut words, mut points, mut ways) = ([0; 14], [0; 256], [0; 256]);
-        let corners = sub_file.grid().corners();
-        let number =
-            raw::collect(map, sub_file.number(), corners, tile, &mut words, &mut points, &mut ways);
+        let number = raw::collect(
+            map,
+            sub_file.map().layout(),
+            sub_file.words(),
+            sub_file.grid().corners(),
+            tile,
+            &mut words,
+            &mut points,
+            &mut ways,
+        );
         Refusal::check(number, &words)?;
         Ok(Tile {
             sub_file,
@@ -113,9 +120,7 @@ impl<'m, 'a> Tile<'m, 'a> {
 
     /// Fetches a feature by lists that are kept for the next fetch; they grow as needed.
     pub fn fetch_with(&self, number: u64, buffers: &mut Buffers) -> Result<Feature<'a>, Refusal> {
-        let map = self.sub_file.map().bytes();
-        let corners = self.sub_file.grid().corners();
-        buffers.fetch(map, self.sub_file.number(), corners, self.number, number)
+        buffers.fetch(&self.sub_file, self.number, number)
     }
 
     /// All features, points first. Each is found by a walk, so that a tile of many takes a time that grows with the

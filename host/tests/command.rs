@@ -137,6 +137,30 @@ fn check_tells_whether_all_is_well() {
     assert!(lines[1].ends_with(": 1 finding"));
 }
 
+/// Tile 10 has the offset of tile 11, so that this one's features are read there; tile 11 that of the sub file's end.
+#[test]
+fn check_reads_tiles_that_are_marked_empty() {
+    let (start, size) = (12233, 17582u64);
+    let mut map = map_bytes("islands.map");
+    let entry = |tile: usize| start + 5 * tile..start + 5 * tile + 5;
+    map.copy_within(entry(11), entry(10).start);
+    let path = text(&written("marked.map", &map));
+    let checked = answer(&["check", &path], 0);
+    assert!(checked.starts_with("1 tile is marked empty, by the offset of the next one"));
+    assert!(checked.contains("another tile's features in 1, and refuses 0;"), "{checked}");
+    assert!(checked.ends_with(": stream and list agree\n"), "{checked}");
+
+    map[entry(11)].copy_from_slice(&size.to_be_bytes()[3..]);
+    let path = text(&written("marked-last.map", &map));
+    let checked = answer(&["check", &path], 1);
+    let refused =
+        "sub file 2, tile 11 (13/4097/2272), marked empty: its head, byte 29815: refused with 1:";
+    assert!(checked.contains(refused), "{checked}");
+    assert!(checked.ends_with(": 1 finding\n"), "{checked}");
+    let skipped = answer(&["check", "--skip-empty", &path], 0);
+    assert!(skipped.starts_with("1 tile is marked empty, and left out\n"), "{skipped}");
+}
+
 #[test]
 fn check_stays_quick_on_absurd_maps() {
     let start = Instant::now();

@@ -43,22 +43,28 @@ int main(int argc, char **argv) {
     printf("south %.17g\n", degrees[0]);
     printf("sub files %" PRIu64 "\n", words[33]);
 
-    uint64_t refused[6];
+    uint64_t refused[6], interval[6];
     int64_t columns[2][1];
     check("column", mapsforge_column(degrees[1], 13, refused, columns[0]));
     check("column", mapsforge_column(degrees[3], 13, refused, columns[1]));
     int32_t x_min = (int32_t)columns[0][0], x_max = (int32_t)columns[1][0];
     printf("columns %" PRId32 " to %" PRId32 "\n", x_min, x_max);
 
+    /* What the calls about tiles take in place of the map's header. */
+    uint64_t count[8];
+    check("interval", mapsforge_interval(map, len, 2, refused, interval));
+    check("tile_count", mapsforge_tile_count(interval, x_min, 2270, x_max, 2272, count));
+    printf("base zoom %" PRIu64 ", %" PRIu64 " tiles\n", interval[1], count[7]);
+
     uint64_t tile[14], points[256], ways[256];
-    check("collect", mapsforge_collect(map, len, 2, x_min, 2270, x_max, 2272, 10, tile, points, ways));
+    check("collect", mapsforge_collect(map, len, layout, interval, x_min, 2270, x_max, 2272, 10, tile, points, ways));
     printf("tile %" PRIu64 " points, %" PRIu64 " ways, exact %" PRIu64 "\n", tile[11], tile[12], tile[13]);
     printf("row 0: %" PRIu64 "+%" PRIu64 "\n", points[0], ways[0]);
 
     /* Accepts each way by lists that are long enough; counts the nodes. */
     uint64_t state[7], counts[64], nodes = 0, heads = 0, last = 0;
     static double latitudes[4096], longitudes[4096];
-    check("stream_open", mapsforge_stream_open(map, len, 2, x_min, 2270, x_max, 2272, 10, 13, state, refused));
+    check("stream_open", mapsforge_stream_open(map, len, layout, interval, 2, x_min, 2270, x_max, 2272, 10, 13, state, refused));
     while (last != 2) {
         uint64_t next[21], body[18], ids[15];
         int64_t signed_words[2];

@@ -221,7 +221,7 @@ fn header_library_and_wrapper_declare_the_same() {
 /// Each of these small changes must be noticed: else the test above compares nothing.
 #[test]
 fn changes_are_noticed() {
-    let edits: [(&str, &str, &str); 21] = [
+    let edits: [(&str, &str, &str); 26] = [
         ("header", "mapsforge_open(", "mapsforge_opened("),
         ("header", "uint64_t words[34]", "uint64_t words[33]"),
         (
@@ -230,6 +230,12 @@ fn changes_are_noticed() {
             "uint64_t layout[5], double degrees[6]",
         ),
         ("header", "const uint64_t layout[5]", "uint64_t layout[5]"),
+        ("header", "const uint64_t interval[6]", "uint64_t interval[6]"),
+        (
+            "header",
+            "const uint64_t layout[5], const uint64_t interval[6]",
+            "const uint64_t interval[6], const uint64_t layout[5]",
+        ),
         ("header", "int32_t x, int32_t y,", "int32_t y, int32_t x,"),
         ("header", "double *latitudes, size_t latitudes_len, ", ""),
         ("header", "uint32_t column", "int32_t column"),
@@ -237,6 +243,8 @@ fn changes_are_noticed() {
         ("header", "uint64_t mapsforge_stream_decline(uint64_t state[7], uint64_t words[6]);", ""),
         ("rattle", "zoom: u8,\n    state", "zoom: u32,\n    state"),
         ("rattle", "x_min: i32,\n    y_min: i32,", "y_min: i32,\n    x_min: i32,"),
+        ("rattle", "interval: &mut [u64; 6]", "interval: &[u64; 6]"),
+        ("rattle", "interval: &[u64; 6],\n    sub_file: usize,", "interval: &[u64; 6],"),
         ("rattle", "tags: &mut [u64; 75]", "tags: &mut [u64; 70]"),
         ("rattle", "initial_latitudes: &mut [f64]", "initial_latitudes: &[f64]"),
         ("rattle", "fn mapsforge_sub_file(", "fn mapsforge_subfile("),
@@ -244,6 +252,7 @@ fn changes_are_noticed() {
         ("rattle", "data_blocks: u64", "blocks: u64"),
         ("rust", "column: *mut [i64; 1]", "column: *mut [i64; 2]"),
         ("rust", "layout: *const [u64; 5]", "layout: *mut [u64; 5]"),
+        ("rust", "interval: *const [u64; 6]", "interval: *const [u64; 5]"),
         ("rust", "latitudes: *mut f64,\n        latitudes_len: usize,", "latitudes: *mut f64,"),
         (
             "rust",
@@ -344,6 +353,11 @@ fn as_wrapped(file: &MapFile) -> String {
         format!("south {:.15}", header.bounding_box.south),
         format!("sub files {}", map.intervals().len()),
         format!("columns {} to {}", grid.x_min, grid.x_max),
+        format!(
+            "base zoom {}, {} tiles",
+            sub_file.interval().base_zoom,
+            sub_file.tile_count().unwrap()
+        ),
         format!(
             "tile {} points, {} ways, exact {}",
             tile.point_count(),

@@ -2,8 +2,9 @@
 
 mod common;
 
-use common::map_bytes;
+use common::{map_bytes, SHIPPED, VERSION};
 use mapsforge::raw::{self, FetchLists, FetchWords};
+use mapsforge::Map;
 
 /// A small generator of numbers, the same on each run.
 struct Random(u64);
@@ -47,6 +48,188 @@ impl<T> Drop for Guarded<T> {
         if !std::thread::panicking() {
             assert!(self.before == GUARD && self.behind == GUARD, "written beside what was lent");
         }
+    }
+}
+
+/// The grid of sub file 2 of the shipped maps.
+const GRID: [i32; 4] = [4094, 2270, 4097, 2272];
+
+/// A map's layout, and the interval of its sub file 2.
+fn opened(map: &[u8]) -> ([u64; 5], [u64; 6]) {
+    let (mut layout, mut interval) = ([7; 5], [7; 6]);
+    assert_eq!(raw::open(map, &mut [7; 34], &mut [7.0; 6], &mut layout), 0);
+    assert_eq!(raw::interval(map, 2, &mut [7; 6], &mut interval), 0);
+    (layout, interval)
+}
+
+/// What is asked for a sub file's interval: the answer, the refusal's values and the interval.
+fn interval(map: &[u8], sub_file: usize) -> (u64, [u64; 6], [u64; 6]) {
+    let (mut words, mut interval) = (Guarded::new([7; 6]), Guarded::new([7; 6]));
+    let number = raw::interval(map, sub_file, &mut words.inner, &mut interval.inner);
+    (number, words.inner, interval.inner)
+}
+
+#[test]
+fn an_interval_is_all_there_or_all_zeros() {
+    for name in SHIPPED {
+        let map = map_bytes(name);
+        for (number, known) in Map::open(&map).unwrap().intervals().iter().enumerate() {
+            let [base, min, max] = [known.base_zoom, known.min_zoom, known.max_zoom].map(u64::from);
+            let words = [1, base, min, max, known.start, known.size];
+            assert_eq!(interval(&map, number), (0, [0; 6], words));
+        }
+    }
+    let mut map = map_bytes("islands.map");
+    for missing in [3, 255, usize::MAX] {
+        assert_eq!(interval(&map, missing), (0, [0; 6], [0; 6]));
+    }
+    assert_eq!(interval(&map[..50], 2), (1, [0; 6], [0; 6]));
+    map[VERSION..VERSION + 4].copy_from_slice(&[0, 0, 0, 2]);
+    assert_eq!(interval(&map, 2), (3, [2, 0, 0, 0, 0, 0], [0; 6]));
+}
+
+/// A tile's calls with a layout and an interval, the state and the lists of which nobody may write behind a refusal.
+struct Asked<'a> {
+    map: &'a [u8],
+    layout: [u64; 5],
+    interval: [u64; 6],
+}
+
+impl Asked<'_> {
+    /// How many tiles there are, and the number of one of them.
+    fn on_grid(&self) -> [[u64; 2]; 2] {
+        let (mut count, mut index) = (Guarded::new([7; 8]), Guarded::new([7; 8]));
+        assert_eq!(raw::tile_count(&self.interval, GRID, &mut count.inner), 0);
+        assert_eq!(raw::tile_index(&self.interval, GRID, 4095, 2271, &mut index.inner), 0);
+        [count.inner, index.inner].map(|words| {
+            assert_eq!(words[..6], [0; 6]);
+            [words[6], words[7]]
+        })
+    }
+
+    fn entry(&self, tile: usize) -> (u64, [u64; 9]) {
+        let mut words = Guarded::new([7; 9]);
+        let number =
+            raw::index_entry(self.map, &self.layout, &self.interval, GRID, tile, &mut words.inner);
+        (number, words.inner)
+    }
+
+    fn stream(&self, tile: usize, zoom: u8) -> (u64, [u64; 7]) {
+        let (mut state, mut words) = (Guarded::new([7; 7]), Guarded::new([7; 6]));
+        let number = raw::stream_open(
+            self.map,
+            &self.layout,
+            &self.interval,
+            5,
+            GRID,
+            tile,
+            zoom,
+            &mut state.inner,
+            &mut words.inner,
+        );
+        assert!(number == 0 || state.inner == [7; 7]);
+        (number, state.inner)
+    }
+
+    fn collect(&self, tile: usize) -> (u64, [u64; 14]) {
+        let mut words = Guarded::new([7; 14]);
+        let (mut points, mut ways) = (Guarded::new([7; 256]), Guarded::new([7; 256]));
+        let number = raw::collect(
+            self.map,
+            &self.layout,
+            &self.interval,
+            GRID,
+            tile,
+            &mut words.inner,
+            &mut points.inner,
+            &mut ways.inner,
+        );
+        let rows = words.inner[9] as usize;
+        assert!(points.inner[rows..].iter().chain(&ways.inner[rows..]).all(|&row| row == 0));
+        assert!(number == 0 || words.inner[6..] == [0; 8]);
+        (number, words.inner)
+    }
+
+    fn fetch(&self, tile: usize, feature: u64) -> (u64, Box<FetchWords>) {
+        let mut lists = Guarded::new(([7u64; 8], [[7.0f64; 20]; 4], [b'#'; 60]));
+        let (node_counts, places, buffer) = &mut lists.inner;
+        let [latitudes, longitudes, initial_latitudes, initial_longitudes] = places;
+        let lent = FetchLists {
+            node_counts,
+            latitudes,
+            longitudes,
+            initial_latitudes,
+            initial_longitudes,
+            buffer,
+        };
+        let mut got = Box::<FetchWords>::default();
+        let number =
+            raw::fetch(self.map, &self.layout, &self.interval, GRID, tile, feature, lent, &mut got);
+        let untouched = ([7; 8], [[7.0; 20]; 4], [b'#'; 60]);
+        assert!(number == 0 || lists.inner == untouched);
+        assert!(number == 0 || got.words[6..].iter().chain(&got.ids).all(|&word| word == 0));
+        (number, got)
+    }
+}
+
+#[test]
+fn any_layout_and_any_interval_will_do() {
+    let map = map_bytes("islands-debug.map");
+    let known = opened(&map);
+    let mut random = Random(7);
+    let mut seen = [0; 19];
+    for _ in 0..10_000 {
+        let (mut layout, mut interval) = known;
+        // Most words stay the map's, or little would be read.
+        for word in layout.iter_mut().chain(&mut interval) {
+            if random.next() & 3 == 0 {
+                *word = random.word(&map);
+            }
+        }
+        let (tile, feature) = (random.next() as usize % 13, random.next() % 60);
+        let asked = Asked { map: &map, layout, interval };
+        let there = interval[0] != 0;
+        assert_eq!(asked.on_grid(), if there { [[1, 12], [1, 5]] } else { [[0; 2]; 2] });
+        let numbers = [
+            asked.entry(tile).0,
+            asked.stream(tile, random.next() as u8).0,
+            asked.collect(tile).0,
+            asked.fetch(tile, feature).0,
+        ];
+        numbers.iter().for_each(|&number| seen[number as usize] += 1);
+        if !there || tile == 12 {
+            assert_eq!(numbers, [8; 4]);
+        }
+    }
+    // Results, ends too early, missing tags, sub files and tiles, reversed intervals, lists too short, no such feature.
+    assert!([0, 1, 7, 8, 13, 15, 17].iter().all(|&number| seen[number] > 0), "{seen:?}");
+}
+
+/// A sub file is there by any word but 0, a zoom is the last byte of its word, and base zoom and size say nothing.
+#[test]
+fn words_that_say_the_same_are_taken_alike() {
+    let map = map_bytes("islands-debug.map");
+    let (layout, interval) = opened(&map);
+    let mut random = Random(9);
+    let plain = Asked { map: &map, layout, interval };
+    for _ in 0..1_000 {
+        let (mut layout, mut interval) = (layout, interval);
+        layout[0] = random.next() | 1;
+        interval[0] = random.next() | 1;
+        interval[1] = random.next();
+        interval[2] = interval[2].wrapping_add(random.next() << 8);
+        interval[3] = interval[3].wrapping_add(random.next() << 8);
+        interval[5] = random.next();
+        let other = Asked { map: &map, layout, interval };
+        let (tile, zoom, feature) =
+            (random.next() as usize % 13, random.next() as u8, random.next() % 60);
+        assert_eq!(other.on_grid(), plain.on_grid());
+        assert_eq!(other.entry(tile), plain.entry(tile));
+        assert_eq!(other.stream(tile, zoom), plain.stream(tile, zoom));
+        assert_eq!(other.collect(tile), plain.collect(tile));
+        let [(number, got), (expected, known)] =
+            [other.fetch(tile, feature), plain.fetch(tile, feature)];
+        assert_eq!((number, got.words, got.tags), (expected, known.words, known.tags));
     }
 }
 
@@ -106,7 +289,7 @@ fn any_state_and_any_layout_will_do() {
 #[test]
 fn fetching_writes_nothing_but_its_lists() {
     let map = map_bytes("islands.map");
-    let grid = [4094, 2270, 4097, 2272];
+    let (layout, interval) = opened(&map);
     for feature in [0, 10, 35, 40, 46, 175, 176, u64::MAX] {
         for room in [0, 1, 3, 100] {
             let mut lists = Guarded::new(([7u64; 100], [[7.0f64; 100]; 4], [b'#'; 400]));
@@ -115,8 +298,9 @@ fn fetching_writes_nothing_but_its_lists() {
             let mut got = FetchWords::default();
             let number = raw::fetch(
                 &map,
-                2,
-                grid,
+                &layout,
+                &interval,
+                GRID,
                 10,
                 feature,
                 FetchLists {

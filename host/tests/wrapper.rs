@@ -650,7 +650,7 @@ fn read_all(sub_file: &SubFile<'_, '_>, place: mapsforge::TilePlace) {
         assert!(!finding.to_string().is_empty());
     }
     let Ok(tile) = sub_file.collect(place.number) else {
-        assert!(report.marked_empty || !report.findings.is_empty());
+        assert!(!report.findings.is_empty());
         return;
     };
     assert!(tile.features().step_by(7).all(|feature| feature.is_ok()));

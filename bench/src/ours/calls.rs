@@ -15,6 +15,8 @@ pub struct Address {
 pub struct Calls<'a> {
     pub map: &'a [u8],
     pub opened: Opened,
+    /// Of each sub file, which the calls about its tiles take.
+    intervals: Vec<[u64; 6]>,
     state: [u64; 7],
     pub next: Next,
     pub accepted: Accepted,
@@ -88,6 +90,7 @@ impl<'a> Calls<'a> {
         Calls {
             map,
             opened: Opened { words: [0; 34], degrees: [0.0; 6], layout: [0; 5] },
+            intervals: Vec::new(),
             state: [0; 7],
             next: Next { words: [0; 21], signed: [0; 2], degrees: [0.0; 2], ids: [0; 15] },
             accepted: Accepted { words: [0; 18], degrees: [0.0; 2] },
@@ -109,8 +112,18 @@ impl<'a> Calls<'a> {
         unsafe { sys::mapsforge_open(map.as_ptr(), map.len(), words, degrees, layout) }
     }
 
-    pub fn interval(&self, sub_file: usize, words: &mut [u64; 12]) -> u64 {
-        unsafe { sys::mapsforge_interval(self.map.as_ptr(), self.map.len(), sub_file, words) }
+    pub fn interval(&self, sub_file: usize, interval: &mut [u64; 6]) -> u64 {
+        let (map, mut words) = (self.map, [0; 6]);
+        unsafe { sys::mapsforge_interval(map.as_ptr(), map.len(), sub_file, &mut words, interval) }
+    }
+
+    /// Keeps the intervals of so many sub files of the opened map.
+    pub fn keep_intervals(&mut self, count: usize) {
+        let mut intervals = vec![[0; 6]; count];
+        for (sub_file, interval) in intervals.iter_mut().enumerate() {
+            assert_eq!(self.interval(sub_file, interval), 0, "it opened before");
+        }
+        self.intervals = intervals;
     }
 
     pub fn stream_open(&mut self, address: &Address, zoom: u8) -> u64 {
@@ -120,6 +133,8 @@ impl<'a> Calls<'a> {
             sys::mapsforge_stream_open(
                 self.map.as_ptr(),
                 self.map.len(),
+                &self.opened.layout,
+                &self.intervals[sub_file],
                 sub_file,
                 grid.x_min,
                 grid.y_min,
@@ -180,7 +195,8 @@ impl<'a> Calls<'a> {
             sys::mapsforge_collect(
                 self.map.as_ptr(),
                 self.map.len(),
-                sub_file,
+                &self.opened.layout,
+                &self.intervals[sub_file],
                 grid.x_min,
                 grid.y_min,
                 grid.x_max,
@@ -201,7 +217,8 @@ impl<'a> Calls<'a> {
             sys::mapsforge_fetch(
                 self.map.as_ptr(),
                 self.map.len(),
-                sub_file,
+                &self.opened.layout,
+                &self.intervals[sub_file],
                 grid.x_min,
                 grid.y_min,
                 grid.x_max,

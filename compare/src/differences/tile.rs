@@ -124,6 +124,19 @@ impl<'a> Opened<'a> {
         Reader::new(self, View::Streamed).tile(address)
     }
 
+    /// So many tags of a table that starts at a place. One that the walk through the texts does not reach, as
+    /// no header has it, is empty.
+    #[cfg(feature = "both")]
+    pub fn tags(self, start: u64, count: usize) -> Vec<String> {
+        let mut reader = Reader::new(self, View::Collected);
+        reader.seek(u128::from(start));
+        let reached = (0..count).map_while(|_| reader.text().ok());
+        let replaced = |text| String::from_utf8(text).expect("a collected text is replaced");
+        let mut tags: Vec<String> = reached.map(replaced).collect();
+        tags.resize(count, String::new());
+        tags
+    }
+
     /// A way's data from a place on, or the refusal.
     #[cfg(feature = "both")]
     pub fn way_data(

@@ -1,13 +1,17 @@
 //! What is asked of a damaged map and of one of its tiles.
 
+use mapsforge_rs::types::MapFile;
+
 use super::check::{Check, Checked};
-use super::known::{self, Plan};
+use super::known::{self, Plan, Tile};
 use super::lent::Lent;
+use super::library::Ask;
 use super::opening::{self, Opening, Said};
 use super::streamed::{self, Question};
-use super::{collected, indexed, way_data};
+use super::{collected, foreign, indexed, way_data};
 use crate::differences::tile::Opened;
 use crate::random::Random;
+use crate::source::Source;
 use crate::tiles::Address;
 
 /// One in so many places of a stream has a call that must be refused.
@@ -33,7 +37,7 @@ pub fn of_header(
     Ok(())
 }
 
-/// Opening, entry, collecting, some fetches, a stream, and at times the rest.
+/// Opening, the sub file's interval, the tile by these words, and at times the rest.
 pub fn of_tile(
     check: &mut Check,
     lent: &mut Lent,
@@ -45,45 +49,78 @@ pub fn of_tile(
 ) -> Checked {
     said.check(check, map)?;
     let at = if random.below(32) == 0 { random.other_place(at) } else { at };
-    indexed::entry(check, map, opening, &at)?;
-    let tile = match opening {
-        Ok(file) => known::tile(check, file, &at)?,
-        Err(refusal) => Err(refusal.clone()),
-    };
-    collected::collect(check, map, &at, &tile)?;
-    for k in random.features(tile.as_ref().map_or(0, |tile| tile.texts.len())) {
-        let place = |why| format!("feature {k}: {why}");
-        collected::fetch(check, lent, map, &at, &tile, k, random).map_err(place)?;
+    let interval = opening::interval(check, map, opening, at.sub_file as usize)?;
+    let ask = Ask { map, layout: said.layout, interval, at };
+    match opening {
+        Ok(file) => tile(check, lent, file, &ask, random)?,
+        Err(_) => tile(check, lent, &mut foreign::unopened(map), &ask, random)?,
     }
-    let zoom = random.zoom(opening, &at);
-    let plan = Plan::of(random.policy());
-    let (layout, refused_calls) = (said.layout, REFUSED_CALLS);
-    let question = Question { map, layout, at, zoom, refused_calls };
-    let place = |why| format!("stream at zoom {zoom}, ways {:?}: {why}", plan.policy);
-    streamed::stream(check, lent, opening, &question, &plan, random).map_err(place)?;
     if random.below(8) == 0 {
-        others(check, lent, map, opening, &at, random)?;
+        others(check, lent, map, opening, random)?;
     }
     Ok(())
 }
 
-/// Grid, columns and a text.
-fn others(
+/// Entry, collecting, some fetches, a stream, and at times the grid. The file has the header that the words
+/// say.
+pub fn tile(
     check: &mut Check,
     lent: &mut Lent,
-    map: &[u8],
-    opening: &Opening,
-    at: &Address,
+    file: &mut MapFile<Source>,
+    ask: &Ask,
     random: &mut Random,
 ) -> Checked {
-    indexed::count(check, map, opening, at)?;
-    let grid = at.grid;
+    indexed::entry(check, file, ask)?;
+    let tile = known::tile(check, file, &ask.at)?;
+    features(check, lent, ask, &tile, random)?;
+    let zoom = random.zoom(&file.header, &ask.at);
+    let number = random.sub_file_number(ask.at.sub_file);
+    let plan = Plan::of(random.policy());
+    let question = Question { ask: *ask, number, zoom, refused_calls: REFUSED_CALLS };
+    let place = |why| format!("stream at zoom {zoom}, ways {:?}: {why}", plan.policy);
+    streamed::stream(check, lent, file, &question, &plan, random).map_err(place)?;
+    if random.below(8) == 0 {
+        grid(check, file, ask, random)?;
+    }
+    Ok(())
+}
+
+/// Collecting, and some fetches.
+pub fn features(
+    check: &mut Check,
+    lent: &mut Lent,
+    ask: &Ask,
+    tile: &Tile,
+    random: &mut Random,
+) -> Checked {
+    collected::collect(check, ask, tile)?;
+    for k in random.features(tile.as_ref().map_or(0, |tile| tile.texts.len())) {
+        let place = |why| format!("feature {k}: {why}");
+        collected::fetch(check, lent, ask, tile, k, random).map_err(place)?;
+    }
+    Ok(())
+}
+
+/// How many tiles there are, and the number of one in the grid or beside it.
+pub fn grid(check: &mut Check, file: &MapFile<Source>, ask: &Ask, random: &mut Random) -> Checked {
+    indexed::count(check, file, ask)?;
+    let grid = ask.at.grid;
     let near = |random: &mut Random, min: i32, max: i32| {
         let side = [min, max, min.saturating_add(random.below(5) as i32)][random.below(3)];
         side.saturating_add(random.below(3) as i32 - 1)
     };
     let place = [near(random, grid.x_min, grid.x_max), near(random, grid.y_min, grid.y_max)];
-    indexed::tile(check, map, opening, at, place)?;
+    indexed::tile(check, file, ask, place)
+}
+
+/// Columns, a way's data and a text.
+fn others(
+    check: &mut Check,
+    lent: &mut Lent,
+    map: &[u8],
+    opening: &Opening,
+    random: &mut Random,
+) -> Checked {
     opening::sub_file(check, map, opening, random.below(32) as u8)?;
     let zoom = random.below(70) as u8;
     indexed::column(check, random.longitude(), zoom)?;

@@ -9,10 +9,9 @@ use std::time::Instant;
 use super::bases::Base;
 use super::check::{caught, Check, Checked};
 use super::lent::Lent;
-use super::library::{self, Layout, State, WORD};
+use super::library::{self, Ask, State, WORD};
 use super::opening;
 use crate::random::Random;
-use crate::tiles::Address;
 use collected::Collected;
 use lists::Run;
 
@@ -68,13 +67,15 @@ impl Counts {
 fn of_map(check: &mut Check, counts: &mut Counts, base: &Base, each: u64) -> Checked {
     let mut random = Random::new(SEED);
     let opening = opening::of(&mut Check::default(), &base.map)?;
-    let layout = library::open(&base.map).layout;
-    for at in &base.tiles {
+    let (map, layout) = (&base.map[..], library::open(&base.map).layout);
+    for &at in &base.tiles {
         let place = |why| format!("sub file {}, tile {}: {why}", at.sub_file, at.tile);
-        let Some(tile) = Collected::of(&base.map, &opening, at, counts).map_err(place)? else {
+        let interval = library::interval(map, at.sub_file as usize).interval;
+        let ask = Ask { map, layout, interval, at };
+        let Some(tile) = Collected::of(&opening, ask, counts).map_err(place)? else {
             continue;
         };
-        of_tile(check, counts, &tile, layout, each, &mut random).map_err(place)?;
+        of_tile(check, counts, &tile, each, &mut random).map_err(place)?;
     }
     Ok(())
 }
@@ -83,7 +84,6 @@ fn of_tile(
     check: &mut Check,
     counts: &mut Counts,
     tile: &Collected,
-    layout: Layout,
     each: u64,
     random: &mut Random,
 ) -> Checked {
@@ -92,10 +92,10 @@ fn of_tile(
     counts.small += u64::from(small);
     let mut lent = Lent::default();
     for zoom in tile.zooms() {
-        let state = stream(tile.map, &tile.at, zoom)?;
+        let state = stream(&tile.ask, zoom)?;
         let place = |why| format!("zoom {zoom}, {why}");
         let book = tile.book(zoom);
-        let mut run = Run { book, layout, check, lent: &mut lent, calls: Vec::new(), made: 0 };
+        let mut run = Run { book, check, lent: &mut lent, calls: Vec::new(), made: 0 };
         if small {
             counts.lists += run.all(state, CALLS).map_err(place)?;
         }
@@ -109,9 +109,9 @@ fn of_tile(
 }
 
 /// "A tile collects if collecting isn't refused; its stream then opens at every zoom."
-fn stream(map: &[u8], at: &Address, zoom: u8) -> Checked<State> {
+fn stream(ask: &Ask, zoom: u8) -> Checked<State> {
     let mut state = [WORD; 7];
-    let opened = library::stream_open(map, at, zoom, &mut state);
+    let opened = library::stream_open(ask, ask.at.sub_file, zoom, &mut state);
     match opened.number {
         0 => Ok(state),
         number => Err(format!("the stream at zoom {zoom} does not open: {number}")),

@@ -1,9 +1,9 @@
 //! What a case chooses at random.
 
 use mapsforge_rs::grid::Grid;
+use mapsforge_rs::types::MapHeader;
 
 use super::known::Policy;
-use super::opening::Opening;
 use super::way_data;
 use crate::random::Random;
 use crate::tiles::Address;
@@ -48,14 +48,18 @@ impl Random {
     }
 
     /// A zoom of the sub file's interval or beside it, at times any.
-    pub fn zoom(&mut self, opening: &Opening, at: &Address) -> u8 {
-        let intervals =
-            opening.as_ref().map_or(&[][..], |file| &file.header.zoom_interval_configuration);
+    pub fn zoom(&mut self, header: &MapHeader, at: &Address) -> u8 {
+        let intervals = &header.zoom_interval_configuration;
         let interval = usize::try_from(at.sub_file).ok().and_then(|k| intervals.get(k));
         let Some(interval) = interval.filter(|_| self.below(8) > 0) else { return self.byte() };
         let (lowest, highest) = (interval.min_zoom_level, interval.max_zoom_level);
         let rows = usize::from(highest.saturating_sub(lowest));
         lowest.saturating_sub(1).saturating_add(self.below(rows + 3) as u8)
+    }
+
+    /// The number of a sub file, at times another one.
+    pub fn sub_file_number(&mut self, sub_file: u64) -> u64 {
+        [sub_file, self.next(), u64::MAX][[0, 0, 0, 0, 0, 0, 1, 2][self.below(8)]]
     }
 
     /// A way's data anywhere in a map, at times behind its end.

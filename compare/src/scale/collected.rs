@@ -3,11 +3,10 @@
 use super::check::{Call, Check, Checked};
 use super::known::Tile;
 use super::lent::{suffice, Fronts, Lengths, Lent};
-use super::library::{self, Fetch};
+use super::library::{self, Ask, Fetch};
 use super::opening::part;
 use crate::random::Random;
 use crate::tiles::feature::{Feature, Fetched, TagText, Text};
-use crate::tiles::Address;
 
 /// The most tags of a feature.
 const TAGS: usize = 15;
@@ -15,8 +14,8 @@ const TAGS: usize = 15;
 const TAG_WORDS: usize = 5;
 
 /// Collects a tile, and compares every word and the zoom table.
-pub fn collect(check: &mut Check, map: &[u8], at: &Address, known: &Tile) -> Checked {
-    let ours = library::collect(map, at);
+pub fn collect(check: &mut Check, ask: &Ask, known: &Tile) -> Checked {
+    let ours = library::collect(ask);
     let (mut points, mut ways) = ([0; 256], [0; 256]);
     let tile = match known {
         Ok(known) => &known.tile,
@@ -31,7 +30,7 @@ pub fn collect(check: &mut Check, map: &[u8], at: &Address, known: &Tile) -> Che
     }
     let counts = [tile.table.len(), tile.points.len(), tile.ways.len()].map(|n| n as u64);
     let mut words = [0; 14];
-    words[6..9].copy_from_slice(&placed(check, map, &tile.signature, known_place(known, 0))?);
+    words[6..9].copy_from_slice(&placed(check, ask.map, &tile.signature, known_place(known, 0))?);
     words[9] = counts[0];
     words[10] = tile.first_way;
     words[11..14].copy_from_slice(&[counts[1], counts[2], u64::from(tile.exact)]);
@@ -74,8 +73,7 @@ pub fn stored_part(
 pub fn fetch(
     check: &mut Check,
     lent: &mut Lent,
-    map: &[u8],
-    at: &Address,
+    ask: &Ask,
     known: &Tile,
     k: u64,
     random: &mut Random,
@@ -88,7 +86,7 @@ pub fn fetch(
         Ok(fetched) => fetched,
         Err(refusal) => {
             let lengths = random.lengths(&[1, 2, 2, 1, 1, 3]);
-            return refuse(check, lent, map, at, k, lengths, &refusal);
+            return refuse(check, lent, ask, k, lengths, &refusal);
         }
     };
     let fronts = Fronts::of_fetched(&fetched);
@@ -97,11 +95,11 @@ pub fn fetch(
     if !suffice(&lengths, &needed) {
         let lists = needed.map(|length| length as u64);
         let refusal = [&[15], &lists[..]].concat();
-        refuse(check, lent, map, at, k, lengths, &refusal)?;
+        refuse(check, lent, ask, k, lengths, &refusal)?;
     }
     let lengths = random.enough(&needed);
-    let ours = library::fetch(map, at, k, lent.lists(lengths));
-    feature(check, map, &ours, &fetched, known_place(known, k as usize + 1))?;
+    let ours = library::fetch(ask, k, lent.lists(lengths));
+    feature(check, ask.map, &ours, &fetched, known_place(known, k as usize + 1))?;
     lent.check(check, lengths, &fronts)
 }
 
@@ -109,13 +107,12 @@ pub fn fetch(
 fn refuse(
     check: &mut Check,
     lent: &mut Lent,
-    map: &[u8],
-    at: &Address,
+    ask: &Ask,
     k: u64,
     lengths: Lengths,
     refusal: &[u64],
 ) -> Checked {
-    let ours = library::fetch(map, at, k, lent.lists(lengths));
+    let ours = library::fetch(ask, k, lent.lists(lengths));
     check.refused(Call::Fetch, &ours.got, refusal)?;
     check.same("a refused fetch's layer", ours.signed, [0; 2])?;
     check.floats("a refused fetch's degrees", &ours.degrees, &[0.0; 2])?;

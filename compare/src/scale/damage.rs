@@ -39,6 +39,11 @@ pub struct Damage {
 }
 
 impl Damage {
+    /// How much of a map is left.
+    pub fn length(&self, map: &[u8]) -> usize {
+        self.cut.unwrap_or(usize::MAX).min(map.len())
+    }
+
     /// Whether no byte before `end` is another one, and the map still reaches so far.
     pub fn is_behind(&self, end: usize) -> bool {
         self.edits.iter().all(|edit| edit.at >= end) && self.cut.is_none_or(|cut| cut >= end)

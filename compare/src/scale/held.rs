@@ -3,19 +3,23 @@
 use std::ops::Range;
 
 use mapsforge_rs::header::DEBUG_INFO_MASK;
-use mapsforge_rs::types::{MapFile, MapHeader};
+use mapsforge_rs::types::{MapFile, MapHeader, ZoomInterval};
 
-use super::asked;
 use super::bases::{opening_reads, Base};
 use super::check::{caught, Check, Checked};
 use super::damage::Damage;
 use super::lent::Lent;
-use super::opening::{self, header_end, Opening, Said};
+use super::library::Ask;
+use super::opening::{self, header_end, interval_words, Opening, Said};
+use super::{asked, foreign};
 use crate::answer::Answer;
 use crate::differences::header_parts;
 use crate::random::Random;
 use crate::source::Source;
 use crate::tiles::Address;
+
+/// One in so many cases also has calls with words that are not the damaged map's own.
+const FOREIGN: usize = 4;
 
 /// A map that is damaged, and what is known of it undamaged.
 pub struct Held {
@@ -45,20 +49,24 @@ impl Held {
         Ok(Held { name, map, header, refusal, said, opening: reads, header_end, lengths })
     }
 
+    /// The interval that a sub file has undamaged, if there is one.
+    fn interval(&self, sub_file: u64) -> Option<&ZoomInterval> {
+        let intervals = &self.header.as_ref()?.zoom_interval_configuration;
+        intervals.get(usize::try_from(sub_file).ok()?)
+    }
+
     /// Where a tile's entry stands, and the bytes around it.
     pub fn entry(&self, at: &Address) -> Range<usize> {
         let header = self.header.as_ref();
-        let intervals = header.map_or(&[][..], |header| &header.zoom_interval_configuration);
-        let interval = usize::try_from(at.sub_file).ok().and_then(|k| intervals.get(k));
         let debug = header.is_some_and(|header| header.flags & DEBUG_INFO_MASK != 0);
-        let start = interval.map_or(0, |interval| interval.sub_file_start);
+        let start = self.interval(at.sub_file).map_or(0, |interval| interval.sub_file_start);
         let place = start.saturating_add(at.tile.saturating_mul(5)).saturating_add(16);
         let place = if debug { place } else { place.saturating_sub(16) };
         let place = usize::try_from(place).unwrap_or(0).min(self.map.len());
         place..place.saturating_add(5)
     }
 
-    /// Everything about the damaged map and one of its tiles. The header is read anew only if it is damaged.
+    /// Everything about the damaged map and one of its tiles, at times also by words that are not its own.
     pub fn compare(
         &mut self,
         check: &mut Check,
@@ -67,8 +75,30 @@ impl Held {
         damage: &Damage,
         seed: u64,
     ) -> Checked {
+        self.by_its_words(check, lent, at, damage, seed)?;
+        // not the numbers from above, which depend on what came of the calls
+        let mut random = Random::new(seed.rotate_left(32) | 1);
+        if random.below(FOREIGN) > 0 {
+            return Ok(());
+        }
+        let map = &self.map[..damage.length(&self.map)];
+        let sub_file = [at.sub_file, random.below(4) as u64][random.below(4) / 3];
+        let interval = self.interval(sub_file).map_or([0; 6], interval_words);
+        let kept = Ask { map, layout: self.said.layout, interval, at };
+        caught(|| foreign::compare(check, lent, &kept, &mut random))?
+    }
+
+    /// The header is read anew only if it is damaged.
+    fn by_its_words(
+        &mut self,
+        check: &mut Check,
+        lent: &mut Lent,
+        at: Address,
+        damage: &Damage,
+        seed: u64,
+    ) -> Checked {
         let mut random = Random::new(seed);
-        let map = &self.map[..damage.cut.unwrap_or(usize::MAX).min(self.map.len())];
+        let map = &self.map[..damage.length(&self.map)];
         if !damage.is_behind(self.opening) {
             let mut opening = opening::of(check, map)?;
             let said = Said::of(map, &opening)?;

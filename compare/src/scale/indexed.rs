@@ -4,8 +4,8 @@ use mapsforge_rs::types::MapFile;
 
 use super::check::{front, Call, Check, Checked, Reason};
 use super::lent::{Fronts, Lent};
-use super::library;
-use super::opening::{maybe, Opening};
+use super::library::{self, Ask};
+use super::opening::maybe;
 use crate::answer::Answer;
 use crate::differences;
 use crate::differences::tile::Cause;
@@ -20,36 +20,22 @@ fn input(at: &Address, rest: &[u8]) -> Vec<u8> {
     on_grid(at.sub_file, at.grid, rest)
 }
 
-/// `tile_count`. A map is opened at each call about a sub file, which may be refused.
-pub fn count(check: &mut Check, map: &[u8], opening: &Opening, at: &Address) -> Checked {
-    let rust = match opening {
-        Ok(file) => index::tile_count(file, &mut Source::new(&input(at, &[]))),
-        Err(refusal) => refusal.clone(),
-    };
-    one(check, Call::TileCount, &library::tile_count(map, at), &rust)
+/// `tile_count`.
+pub fn count(check: &mut Check, file: &MapFile<Source>, ask: &Ask) -> Checked {
+    let rust = index::tile_count(file, &mut Source::new(&input(&ask.at, &[])));
+    one(check, Call::TileCount, &library::tile_count(ask), &rust)
 }
 
 /// `tile_index_of`.
-pub fn tile(
-    check: &mut Check,
-    map: &[u8],
-    opening: &Opening,
-    at: &Address,
-    [x, y]: [i32; 2],
-) -> Checked {
+pub fn tile(check: &mut Check, file: &MapFile<Source>, ask: &Ask, [x, y]: [i32; 2]) -> Checked {
     let place = [x.to_be_bytes(), y.to_be_bytes()];
-    let rust = match opening {
-        Ok(file) => {
-            let rust = index::tile_index(file, &mut Source::new(&input(at, place.as_flattened())));
-            // only of a good grid of a sub file that is there
-            if matches!(rust[..], [0, 1, _]) && differences::tile_index(&at.grid, x, y).is_some() {
-                check.settle(Reason::TileNumber);
-            }
-            rust
-        }
-        Err(refusal) => refusal.clone(),
-    };
-    one(check, Call::TileIndex, &library::tile_index(map, at, [x, y]), &rust)
+    let input = input(&ask.at, place.as_flattened());
+    let rust = index::tile_index(file, &mut Source::new(&input));
+    // only of a good grid of a sub file that is there
+    if matches!(rust[..], [0, 1, _]) && differences::tile_index(&ask.at.grid, x, y).is_some() {
+        check.settle(Reason::TileNumber);
+    }
+    one(check, Call::TileIndex, &library::tile_index(ask, [x, y]), &rust)
 }
 
 /// An answer of none or one number.
@@ -65,12 +51,10 @@ fn one(check: &mut Check, call: Call, ours: &library::Got<8>, rust: &Answer) -> 
 }
 
 /// `tile_index_entry`.
-pub fn entry(check: &mut Check, map: &[u8], opening: &mut Opening, at: &Address) -> Checked {
-    let rust = match opening {
-        Ok(file) => index::entry(file, &mut Source::new(&input(at, &at.tile.to_be_bytes()))),
-        Err(refusal) => refusal.clone(),
-    };
-    let ours = library::index_entry(map, at);
+pub fn entry(check: &mut Check, file: &mut MapFile<Source>, ask: &Ask) -> Checked {
+    let input = input(&ask.at, &ask.at.tile.to_be_bytes());
+    let rust = index::entry(file, &mut Source::new(&input));
+    let ours = library::index_entry(ask);
     match rust[..] {
         [0, water, offset, place] => {
             let words = [0, 0, 0, 0, 0, 0, water, offset, place];

@@ -60,6 +60,18 @@ impl Lent {
         }
         list(check, "buffer", &mut self.buffer, lengths[5], &written.buffer, BYTE, u64::from)
     }
+
+    /// The same of a call of which it is not known what it writes to the fronts.
+    pub fn check_behind(&mut self, check: &mut Check, lengths: Lengths) -> Checked {
+        let [counts, floats @ .., buffer] = lengths;
+        let front = |k: usize| self.floats[k][..floats[k]].to_vec();
+        let fronts = Fronts {
+            counts: self.counts[..counts].to_vec(),
+            floats: [0, 1, 2, 3].map(front),
+            buffer: self.buffer[..buffer].to_vec(),
+        };
+        self.check(check, lengths, &fronts)
+    }
 }
 
 /// Makes a list long enough for its front and what is behind it.

@@ -2,6 +2,7 @@
 //! the call, so that a word that the library does not write shows.
 
 use mapsforge::sys;
+use mapsforge_rs::grid::Grid;
 
 use crate::tiles::Address;
 
@@ -16,8 +17,20 @@ pub fn degree() -> f64 {
 
 /// The state of a stream.
 pub type State = [u64; 7];
-/// What `stream_next` needs of the header.
+/// What the calls about a tile need of the header.
 pub type Layout = [u64; 5];
+/// A sub file's interval, as `interval` gives it and other calls take it; all 0 if there is none.
+pub type Interval = [u64; 6];
+
+/// A tile of a map, and the words that are handed in for its header. The address's sub file is the
+/// other side's: our calls know it by its interval.
+#[derive(Clone, Copy)]
+pub struct Ask<'a> {
+    pub map: &'a [u8],
+    pub layout: Layout,
+    pub interval: Interval,
+    pub at: Address,
+}
 
 /// The answer of a call: 0 or the number of a refusal, and its words.
 #[derive(Clone, Copy)]
@@ -59,9 +72,19 @@ pub fn open(map: &[u8]) -> Open {
     Open { got, degrees, layout }
 }
 
-pub fn interval(map: &[u8], sub_file: usize) -> Got<12> {
+/// What asking for a sub file's interval gives.
+pub struct Given {
+    pub got: Got<6>,
+    pub interval: Interval,
+}
+
+pub fn interval(map: &[u8], sub_file: usize) -> Given {
+    let mut interval = [WORD; 6];
     // SAFETY: as above
-    Got::of(|words| unsafe { sys::mapsforge_interval(map.as_ptr(), map.len(), sub_file, words) })
+    let got = Got::of(|words| unsafe {
+        sys::mapsforge_interval(map.as_ptr(), map.len(), sub_file, words, &mut interval)
+    });
+    Given { got, interval }
 }
 
 pub fn sub_file(map: &[u8], zoom: u8) -> Got<8> {
@@ -84,55 +107,36 @@ pub fn text(text: &[u8], buffer: &mut [u8]) -> Got<7> {
     })
 }
 
-pub fn tile_count(map: &[u8], at: &Address) -> Got<8> {
-    let Address { sub_file, grid, .. } = *at;
+pub fn tile_count(ask: &Ask) -> Got<8> {
+    let Grid { x_min, y_min, x_max, y_max } = ask.at.grid;
     // SAFETY: as above
     Got::of(|words| unsafe {
-        sys::mapsforge_tile_count(
-            map.as_ptr(),
-            map.len(),
-            sub_file as usize,
-            grid.x_min,
-            grid.y_min,
-            grid.x_max,
-            grid.y_max,
-            words,
-        )
+        sys::mapsforge_tile_count(&ask.interval, x_min, y_min, x_max, y_max, words)
     })
 }
 
-pub fn tile_index(map: &[u8], at: &Address, [x, y]: [i32; 2]) -> Got<8> {
-    let Address { sub_file, grid, .. } = *at;
+pub fn tile_index(ask: &Ask, [x, y]: [i32; 2]) -> Got<8> {
+    let Grid { x_min, y_min, x_max, y_max } = ask.at.grid;
     // SAFETY: as above
     Got::of(|words| unsafe {
-        sys::mapsforge_tile_index(
-            map.as_ptr(),
-            map.len(),
-            sub_file as usize,
-            grid.x_min,
-            grid.y_min,
-            grid.x_max,
-            grid.y_max,
-            x,
-            y,
-            words,
-        )
+        sys::mapsforge_tile_index(&ask.interval, x_min, y_min, x_max, y_max, x, y, words)
     })
 }
 
-pub fn index_entry(map: &[u8], at: &Address) -> Got<9> {
-    let Address { sub_file, grid, tile } = *at;
+pub fn index_entry(ask: &Ask) -> Got<9> {
+    let Ask { map, layout, interval, at: Address { grid, tile, .. } } = ask;
     // SAFETY: as above
     Got::of(|words| unsafe {
         sys::mapsforge_index_entry(
             map.as_ptr(),
             map.len(),
-            sub_file as usize,
+            layout,
+            interval,
             grid.x_min,
             grid.y_min,
             grid.x_max,
             grid.y_max,
-            tile as usize,
+            *tile as usize,
             words,
         )
     })
@@ -154,19 +158,22 @@ pub fn longitude(column: u32, zoom: u8) -> (u64, f64) {
     (bare(got), longitude[0])
 }
 
-pub fn stream_open(map: &[u8], at: &Address, zoom: u8, state: &mut State) -> Got<6> {
-    let Address { sub_file, grid, tile } = *at;
+/// The number of a sub file is handed in too, which the stream's end answers.
+pub fn stream_open(ask: &Ask, number: u64, zoom: u8, state: &mut State) -> Got<6> {
+    let Ask { map, layout, interval, at: Address { grid, tile, .. } } = ask;
     // SAFETY: as above
     Got::of(|words| unsafe {
         sys::mapsforge_stream_open(
             map.as_ptr(),
             map.len(),
-            sub_file as usize,
+            layout,
+            interval,
+            number as usize,
             grid.x_min,
             grid.y_min,
             grid.x_max,
             grid.y_max,
-            tile as usize,
+            *tile as usize,
             zoom,
             state,
             words,
@@ -248,20 +255,21 @@ pub struct Collect {
     pub ways: [u64; 256],
 }
 
-pub fn collect(map: &[u8], at: &Address) -> Collect {
-    let Address { sub_file, grid, tile } = *at;
+pub fn collect(ask: &Ask) -> Collect {
+    let Ask { map, layout, interval, at: Address { grid, tile, .. } } = ask;
     let (mut points, mut ways) = ([WORD; 256], [WORD; 256]);
     // SAFETY: as above
     let got = Got::of(|words| unsafe {
         sys::mapsforge_collect(
             map.as_ptr(),
             map.len(),
-            sub_file as usize,
+            layout,
+            interval,
             grid.x_min,
             grid.y_min,
             grid.x_max,
             grid.y_max,
-            tile as usize,
+            *tile as usize,
             words,
             &mut points,
             &mut ways,
@@ -287,8 +295,8 @@ pub struct Fetch {
     pub tags: [u64; 75],
 }
 
-pub fn fetch(map: &[u8], at: &Address, feature: u64, lists: Lists) -> Fetch {
-    let Address { sub_file, grid, tile } = *at;
+pub fn fetch(ask: &Ask, feature: u64, lists: Lists) -> Fetch {
+    let Ask { map, layout, interval, at: Address { grid, tile, .. } } = ask;
     let Lists { nodes, initial_latitudes, initial_longitudes, buffer } = lists;
     let Nodes { counts, latitudes, longitudes } = nodes;
     let (mut signed, mut degrees) = ([WORD as i64; 2], [degree(); 2]);
@@ -298,12 +306,13 @@ pub fn fetch(map: &[u8], at: &Address, feature: u64, lists: Lists) -> Fetch {
         sys::mapsforge_fetch(
             map.as_ptr(),
             map.len(),
-            sub_file as usize,
+            layout,
+            interval,
             grid.x_min,
             grid.y_min,
             grid.x_max,
             grid.y_max,
-            tile as usize,
+            *tile as usize,
             feature,
             counts.as_mut_ptr(),
             counts.len(),

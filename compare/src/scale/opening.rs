@@ -4,7 +4,7 @@ use mapsforge_rs::header::DEBUG_INFO_MASK;
 use mapsforge_rs::types::{MapFile, MapHeader, ZoomInterval};
 
 use super::check::{caught, front, Call, Check, Checked, Reason};
-use super::library::{self, Layout};
+use super::library::{self, Interval, Layout};
 use crate::answer::Answer;
 use crate::differences::{self, header_parts, HeaderParts};
 use crate::leaves::value_letter;
@@ -180,19 +180,35 @@ pub fn maybe(number: Option<u64>) -> [u64; 8] {
     number.map_or([0; 8], |number| [0, 0, 0, 0, 0, 0, 1, number])
 }
 
-/// The interval of a sub file. A map is opened at each such call, which may be refused.
-pub fn interval(check: &mut Check, map: &[u8], opening: &Opening, sub_file: usize) -> Checked {
+/// The interval of a sub file, which is ours once it is the Rust's. The map is opened at this call, which
+/// may be refused.
+pub fn interval(
+    check: &mut Check,
+    map: &[u8],
+    opening: &Opening,
+    sub_file: usize,
+) -> Checked<Interval> {
     let ours = library::interval(map, sub_file);
     let intervals = match opening {
-        Ok(file) => &file.header.zoom_interval_configuration,
-        Err(refusal) => return check.refused(Call::Interval, &ours, refusal),
+        Ok(file) => {
+            check.got(Call::Interval, &ours.got, 0, &[0; 6])?;
+            &file.header.zoom_interval_configuration[..]
+        }
+        Err(refusal) => {
+            check.refused(Call::Interval, &ours.got, refusal)?;
+            &[]
+        }
     };
-    let words = |at: &ZoomInterval| {
-        let zooms = [at.base_zoom_level, at.min_zoom_level, at.max_zoom_level].map(u64::from);
-        let [base, lowest, highest] = zooms;
-        [0, 0, 0, 0, 0, 0, 1, base, lowest, highest, at.sub_file_start, at.sub_file_size]
-    };
-    check.got(Call::Interval, &ours, 0, &intervals.get(sub_file).map_or([0; 12], words))
+    let words = intervals.get(sub_file).map_or([0; 6], interval_words);
+    check.words("Interval's interval", &ours.interval, &words)?;
+    Ok(ours.interval)
+}
+
+/// An interval of the header, in words.
+pub fn interval_words(interval: &ZoomInterval) -> Interval {
+    let ZoomInterval { base_zoom_level, min_zoom_level, max_zoom_level, .. } = *interval;
+    let [base, lowest, highest] = [base_zoom_level, min_zoom_level, max_zoom_level].map(u64::from);
+    [1, base, lowest, highest, interval.sub_file_start, interval.sub_file_size]
 }
 
 /// `sub_file_for_zoom`.

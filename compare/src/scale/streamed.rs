@@ -6,18 +6,17 @@ use super::check::{front, Call, Check, Checked};
 use super::collected::{padded, placed};
 use super::known::{Event, Plan, Script};
 use super::lent::{suffice, Fronts, Lengths, Lent};
-use super::library::{self, Accept, Layout, Next, State, WORD};
+use super::library::{self, Accept, Ask, Got, Next, State, WORD};
 use crate::answer::Answer;
 use crate::random::Random;
 use crate::source::Source;
 use crate::tiles::feature::{Head, Point, Way};
-use crate::tiles::Address;
 
 /// A tile's stream at a zoom, and what to call at random beside it.
 pub struct Question<'a> {
-    pub map: &'a [u8],
-    pub layout: Layout,
-    pub at: Address,
+    pub ask: Ask<'a>,
+    /// The sub file's number that is handed in: the end answers it, and it says nothing else.
+    pub number: u64,
     pub zoom: u8,
     /// One in so many places has a call that must be refused.
     pub refused_calls: usize,
@@ -40,35 +39,31 @@ struct Run<'a, 'b> {
 pub fn stream(
     check: &mut Check,
     lent: &mut Lent,
-    file: &mut Result<MapFile<Source>, Answer>,
+    file: &mut MapFile<Source>,
     question: &Question,
     plan: &Plan,
     random: &mut Random,
 ) -> Checked {
-    let script = match file {
-        Ok(file) => Ok(Script::of(check, file, &question.at, question.zoom, plan)?),
-        Err(refusal) => Err(refusal.clone()),
-    };
+    let script = Script::of(check, file, &question.ask.at, question.zoom, plan)?;
     let (state, texts) = ([WORD; 7], Vec::new());
     let mut run = Run { question, state, check, lent, random, texts, text: 0 };
-    let script = match script {
-        Ok(script) => script,
-        Err(refusal) => return run.unopened(&refusal),
-    };
     if !script.opens {
         return run.unopened(&script.end);
     }
-    let opened = library::stream_open(question.map, &question.at, question.zoom, &mut run.state);
+    let opened = run.open();
     run.check.got(Call::StreamOpen, &opened, 0, &[0; 6])?;
-    let file = file.as_mut().expect("it has a script");
     run.all(file, script)
 }
 
 impl Run<'_, '_> {
+    fn open(&mut self) -> Got<6> {
+        let Question { ask, number, zoom, .. } = self.question;
+        library::stream_open(ask, *number, *zoom, &mut self.state)
+    }
+
     /// "On a refusal the state keeps its words."
     fn unopened(mut self, refusal: &Answer) -> Checked {
-        let Question { map, at, zoom, .. } = self.question;
-        let ours = library::stream_open(map, at, *zoom, &mut self.state);
+        let ours = self.open();
         self.check.refused(Call::StreamOpen, &ours, refusal)?;
         self.check.words("the state of a stream that does not open", &self.state, &[WORD; 7])
     }
@@ -106,8 +101,8 @@ impl Run<'_, '_> {
                     self.refused_accepts(&script.end)?;
                     let mut plan = script.plan.clone();
                     plan.declined.push(heads - 1);
-                    let Question { at: tile, zoom, .. } = self.question;
-                    script = Script::of(self.check, file, tile, *zoom, &plan)?;
+                    let Question { ask, zoom, .. } = self.question;
+                    script = Script::of(self.check, file, &ask.at, *zoom, &plan)?;
                     self.texts = std::mem::take(&mut script.texts);
                     self.decline()?;
                 }
@@ -121,7 +116,7 @@ impl Run<'_, '_> {
 
     fn next(&mut self) -> (Next, State) {
         let before = self.state;
-        let Question { map, layout, .. } = self.question;
+        let Ask { map, layout, .. } = &self.question.ask;
         (library::stream_next(map, layout, &mut self.state), before)
     }
 
@@ -153,13 +148,15 @@ impl Run<'_, '_> {
         self.check.words("a head's ids", &ours.ids, &padded::<15>(&head.ids))
     }
 
-    /// The end with sub file and water mark, or the refusal, which leaves the stream where it was.
+    /// The end with the sub file's number and the water mark, or the refusal, which leaves the stream where
+    /// it was. The Rust's number is the one by which it was asked.
     fn end(&mut self, end: &Answer) -> Checked {
         let (ours, before) = self.next();
         let mut words = front(&end[1..]);
         if let [0, sub_file, water] = end[..] {
+            self.check.same("the Rust's sub file", self.question.ask.at.sub_file, sub_file)?;
             words = [0; 21];
-            (words[6], words[19], words[20]) = (2, sub_file, water);
+            (words[6], words[19], words[20]) = (2, self.question.number, water);
         }
         self.check.got(Call::StreamNext, &ours.got, end[0], &words)?;
         self.nothing(&ours)?;
@@ -250,14 +247,15 @@ impl Run<'_, '_> {
     }
 
     fn call_accept(&mut self, lengths: Lengths) -> Accept {
-        library::stream_accept(self.question.map, &mut self.state, self.lent.lists(lengths).nodes)
+        let nodes = self.lent.lists(lengths).nodes;
+        library::stream_accept(self.question.ask.map, &mut self.state, nodes)
     }
 
     /// The three words of a part, from the word `at` on.
     fn parts(&mut self, words: &mut [u64], at: usize, text: &Option<Vec<u8>>) -> Checked {
         let place = text.as_ref().and_then(|_| self.texts.get(self.text).copied());
         self.text += usize::from(text.is_some());
-        let part = placed(self.check, self.question.map, text, place)?;
+        let part = placed(self.check, self.question.ask.map, text, place)?;
         words[at..at + 3].copy_from_slice(&part);
         Ok(())
     }

@@ -2,15 +2,19 @@
 
 use std::collections::BTreeSet;
 
+use mapsforge_rs::types::{MapFile, MapHeader};
+
 use super::bases::Base;
 use super::check::{Check, Checked};
 use super::known::{self, Plan, Policy};
 use super::lent::Lent;
+use super::library::Ask;
 use super::opening::{self, Opening, Said};
 use super::streamed::{self, Question};
-use super::{collected, indexed};
+use super::{asked, collected, foreign, indexed};
 use crate::differences::header_parts;
 use crate::random::Random;
+use crate::source::Source;
 use crate::tiles::Address;
 
 /// Up to so many tiles of a grid all entries and numbers are compared; else so many of them.
@@ -18,20 +22,31 @@ const ALL_TILES: u64 = 1 << 13;
 const SOME_TILES: u64 = 16;
 /// One in so many places of a stream has a call that must be refused.
 const REFUSED_CALLS: usize = 6;
+/// So many times a tile is asked for by words that are not the map's own.
+const FOREIGN: usize = 4;
 
 /// Header, index and all tiles of a map.
 pub fn compare(check: &mut Check, lent: &mut Lent, base: &Base, random: &mut Random) -> Checked {
     let map = &base.map[..];
-    let mut opening = opening::of(check, map)?;
+    let opening = opening::of(check, map)?;
     let said = Said::of(map, &opening)?;
     header(check, map, &opening, &said)?;
     for text in header_parts(map).iter().flat_map(|parts| &parts.texts) {
         indexed::text(check, lent, &map[text.clone()], random)?;
     }
-    index(check, map, &mut opening, &base.tiles)?;
-    for at in &base.tiles {
-        let place = |why| format!("sub file {}, tile {}: {why}", at.sub_file, at.tile);
-        tile(check, lent, map, &mut opening, &said, at, random).map_err(place)?;
+    let ask = |at: &Address| {
+        let interval = opening::interval(check, map, &opening, at.sub_file as usize)?;
+        Ok(Ask { map, layout: said.layout, interval, at: *at })
+    };
+    let asks = base.tiles.iter().map(ask).collect::<Checked<Vec<_>>>()?;
+    let mut file = opening.unwrap_or_else(|_| foreign::unopened(map));
+    index(check, lent, &mut file, &asks, random)?;
+    for ask in &asks {
+        let place = |why| format!("sub file {}, tile {}: {why}", ask.at.sub_file, ask.at.tile);
+        tile(check, lent, &mut file, ask, random).map_err(place)?;
+        for _ in 0..FOREIGN {
+            foreign::compare(check, lent, ask, random).map_err(place)?;
+        }
     }
     Ok(())
 }
@@ -49,25 +64,46 @@ fn header(check: &mut Check, map: &[u8], opening: &Opening, said: &Said) -> Chec
     (0..=u8::MAX).try_for_each(|zoom| opening::sub_file(check, map, opening, zoom))
 }
 
-/// Count, numbers and entries of each grid that is asked for.
-fn index(check: &mut Check, map: &[u8], opening: &mut Opening, tiles: &[Address]) -> Checked {
+/// Count, numbers and entries of each grid that is asked for, and a tile of no sub file by it.
+fn index(
+    check: &mut Check,
+    lent: &mut Lent,
+    file: &mut MapFile<Source>,
+    asks: &[Ask],
+    random: &mut Random,
+) -> Checked {
     let mut seen = BTreeSet::new();
-    for at in tiles {
-        let Address { sub_file, grid, .. } = *at;
+    for ask in asks {
+        let Address { sub_file, grid, .. } = ask.at;
         if !seen.insert((sub_file, grid.x_min, grid.y_min, grid.x_max, grid.y_max)) {
             continue;
         }
-        indexed::count(check, map, opening, at)?;
+        indexed::count(check, file, ask)?;
         let count = grid.tiles().map_or(1, u64::from);
         let first = if count > ALL_TILES { SOME_TILES } else { count };
         for tile in (0..=first).chain([count - 1, count, u64::MAX]) {
-            indexed::entry(check, map, opening, &Address { tile, ..*at })?;
+            indexed::entry(check, file, &Ask { at: Address { tile, ..ask.at }, ..*ask })?;
         }
-        for place in places(at) {
-            indexed::tile(check, map, opening, at, place)?;
+        for place in places(&ask.at) {
+            indexed::tile(check, file, ask, place)?;
         }
+        missing(check, lent, file, ask, random).map_err(|why| format!("no sub file: {why}"))?;
     }
     Ok(())
+}
+
+/// An interval of zeros is that of a sub file behind the last one.
+fn missing(
+    check: &mut Check,
+    lent: &mut Lent,
+    file: &mut MapFile<Source>,
+    ask: &Ask,
+    random: &mut Random,
+) -> Checked {
+    let sub_file = file.header.zoom_interval_configuration.len() as u64;
+    let ask = Ask { interval: [0; 6], at: Address { sub_file, ..ask.at }, ..*ask };
+    asked::grid(check, file, &ask, random)?;
+    asked::tile(check, lent, file, &ask, random)
 }
 
 /// All places of a grid and those around it; of a large one, its corners and those around them.
@@ -90,30 +126,25 @@ fn places(at: &Address) -> Vec<[i32; 2]> {
 fn tile(
     check: &mut Check,
     lent: &mut Lent,
-    map: &[u8],
-    opening: &mut Opening,
-    said: &Said,
-    at: &Address,
+    file: &mut MapFile<Source>,
+    ask: &Ask,
     random: &mut Random,
 ) -> Checked {
-    indexed::entry(check, map, opening, at)?;
-    let tile = match opening {
-        Ok(file) => known::tile(check, file, at)?,
-        Err(refusal) => Err(refusal.clone()),
-    };
-    collected::collect(check, map, at, &tile)?;
+    indexed::entry(check, file, ask)?;
+    let tile = known::tile(check, file, &ask.at)?;
+    collected::collect(check, ask, &tile)?;
     let features = tile.as_ref().map_or(0, |tile| tile.texts.len() as u64);
     for k in (0..=features).chain([u64::MAX]) {
         let feature = |why| format!("feature {k}: {why}");
-        collected::fetch(check, lent, map, at, &tile, k, random).map_err(feature)?;
+        collected::fetch(check, lent, ask, &tile, k, random).map_err(feature)?;
     }
-    for zoom in zooms(opening, at) {
+    for zoom in zooms(&file.header, &ask.at) {
         let some = Policy::Random(random.next());
         for policy in [Policy::All, Policy::None, Policy::TwoOfThree, some] {
-            let (layout, at, refused_calls) = (said.layout, *at, REFUSED_CALLS);
-            let question = Question { map, layout, at, zoom, refused_calls };
+            let number = random.sub_file_number(ask.at.sub_file);
+            let question = Question { ask: *ask, number, zoom, refused_calls: REFUSED_CALLS };
             let place = |why| format!("stream at zoom {zoom}, ways {policy:?}: {why}");
-            streamed::stream(check, lent, opening, &question, &Plan::of(policy), random)
+            streamed::stream(check, lent, file, &question, &Plan::of(policy), random)
                 .map_err(place)?;
         }
     }
@@ -121,9 +152,8 @@ fn tile(
 }
 
 /// Those of the sub file's interval and one beside it on each side.
-fn zooms(opening: &Opening, at: &Address) -> Vec<u8> {
-    let intervals =
-        opening.as_ref().map_or(&[][..], |file| &file.header.zoom_interval_configuration);
+fn zooms(header: &MapHeader, at: &Address) -> Vec<u8> {
+    let intervals = &header.zoom_interval_configuration;
     let interval = usize::try_from(at.sub_file).ok().and_then(|k| intervals.get(k));
     interval.map_or(vec![0, u8::MAX], |interval| {
         let (lowest, highest) = (interval.min_zoom_level, interval.max_zoom_level);

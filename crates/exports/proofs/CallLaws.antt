@@ -50,6 +50,10 @@ crosses-signed number words signed Is a n l z i p q r = record { answer = a; is 
 pub crosses-degrees : {A : Type 0} (number : A → ℕ) (words : A → List ℕ) (degrees : A → List Float) (Is : A → Type 0) (a : A) (n : ℕ) (l : List ℕ) (d : List Float) → Is a → n ≡ number a → l ≡ words a → d ≡ degrees a → Crosses (λ x. wire (number x) (words x ∷ []) [] (degrees x)) Is (wire n (l ∷ []) [] d)
 crosses-degrees number words degrees Is a n l d i p q r = record { answer = a; is = i; crossed = same _ _ _ _ _ _ _ _ p (ap (λ x. x ∷ []) q) refl r }
 
+-- an answer with two lists of words
+pub crosses-two : {A : Type 0} (number : A → ℕ) (words row : A → List ℕ) (Is : A → Type 0) (a : A) (n : ℕ) (l r : List ℕ) → Is a → n ≡ number a → l ≡ words a → r ≡ row a → Crosses (λ x. wire (number x) (words x ∷ row x ∷ []) [] []) Is (wire n (l ∷ r ∷ []) [] [])
+crosses-two number words row Is a n l r i p q d = record { answer = a; is = i; crossed = rw (p, q, d) refl }
+
 -- a tag
 pub tag-crosses : (t : TagTable) (k : ℕ) (m : List ℕ) (g : SpanRead) (y : Kind) (n : ℕ) (l : List ℕ) → spanRes m g ≡ tagText (tableIn t) k m → y ≡ tagKind (tableIn t) k m → n ≡ tagNumber g → l ≡ tagWords g y → Crosses tagWire (TagIs t k m) (wire n (l ∷ []) [] [])
 tag-crosses t k m g y n l p q r s = crosses (λ (a : Named). tagNumber (a .text)) (λ (a : Named). tagWords (a .text) (a .kind)) (TagIs t k m) (record { text = g; kind = y }) n l (record { text = p; kind = q }) r s
@@ -57,9 +61,6 @@ tag-crosses t k m g y n l p q r s = crosses (λ (a : Named). tagNumber (a .text)
 -- the header, a stream's calls, a tile and a feature
 pub header-crosses : (Is : HeaderRead → Type 0) (a : HeaderRead) (t : TileLayout) (n : ℕ) (l m : List ℕ) (d : List Float) → Is a → n ≡ endNumber (a .end) → l ≡ headerWords (a .header) (a .end) → t ≡ layoutOf (a .header) → m ≡ layoutWords t → d ≡ headerDegrees (a .header) → Crosses headerWire Is (wire n (l ∷ m ∷ []) [] d)
 header-crosses Is a t n l m d i p q r s u = record { answer = a; is = i; crossed = rw (p, q, s, r, u) refl }
-
-pub opened-crosses : (Is : OpenRead → Type 0) (a : OpenRead) (before : List ℕ) (n : ℕ) (l s : List ℕ) → Is a → n ≡ openedNumber a → l ≡ openedWords a → s ≡ openedState a before → Crosses (openedWire before) Is (wire n (l ∷ s ∷ []) [] [])
-opened-crosses Is a before n l s i p q r = record { answer = a; is = i; crossed = rw (p, q, r) refl }
 
 module _ (m : List ℕ) (s s′ : Stream) (e : s ≡ s′) where
   pub next-crosses : (l l′ : TileLayout) (a : NextStep) (n : ℕ) (w ids state : List ℕ) (z : List ℤ) (d : List Float) → ((rows : ℕ) → NextIs (shownStep (stream (formatOf l rows m) m (stateOf s) next)) a) → l ≡ l′ → n ≡ nextNumber (a .answer) → w ≡ nextWords (a .answer) (a .poi) (a .head) → ids ≡ nextIds (a .answer) (a .poi) (a .head) → state ≡ streamWords (a .stream) → z ≡ nextSigned (a .answer) (a .poi) (a .head) → d ≡ nextDegrees (a .answer) (a .poi) → Crosses nextWire (NextOf m l′ s′) (wire n (w ∷ ids ∷ state ∷ []) z d)
@@ -71,13 +72,31 @@ module _ (m : List ℕ) (s s′ : Stream) (e : s ≡ s′) where
 pub decline-crosses : (s s′ : Stream) (a : Declined) (n : ℕ) (w state : List ℕ) → s ≡ s′ → ((l : TileLayout) (rows : ℕ) (m : List ℕ) → declineStep a ≡ shownStep (stream (formatOf l rows m) m (stateOf s) decline)) → n ≡ declineNumber (a .answer) → w ≡ declineWords (a .answer) → state ≡ streamWords (a .stream) → Crosses declineWire (DeclineOf s′) (wire n (w ∷ state ∷ []) [] [])
 decline-crosses s s′ a n w state e f q1 q2 q3 = record { answer = a; is = rw (← e) (record { each = f }); crossed = rw (q1, q2, q3) refl }
 
+-- numbers that are passed at their width are passed as they are
+pub passed-pair : (x y : ℤ) → SFits w32 x → SFits w32 y → _≡_ {A = ℤ × ℤ} (toZ w32 (ofZ w32 x), toZ w32 (ofZ w32 y)) (x, y)
+passed-pair x y f g = rw (toZ-ofZ {w = w32} f, toZ-ofZ {w = w32} g) refl
+
 -- a grid whose numbers are stored as they are
 module _ (a b c d : ℤ) (fa : SFits w32 a) (fb : SFits w32 b) (fc : SFits w32 c) (fd : SFits w32 d) where
   stored-grid : gridIn (toZ w32 (ofZ w32 a)) (toZ w32 (ofZ w32 b)) (toZ w32 (ofZ w32 c)) (toZ w32 (ofZ w32 d)) ≡ gridIn a b c d
   stored-grid = rw (toZ-ofZ {w = w32} fa, toZ-ofZ {w = w32} fb, toZ-ofZ {w = w32} fc, toZ-ofZ {w = w32} fd) refl
 
-  pub tile-crosses : (Of : Grid → TileRead → Type 0) (x : TileRead) (n : ℕ) (w p y : List ℕ) → Of (gridIn (toZ w32 (ofZ w32 a)) (toZ w32 (ofZ w32 b)) (toZ w32 (ofZ w32 c)) (toZ w32 (ofZ w32 d))) x → n ≡ tileNumber (x .answer) → w ≡ tileWords (x .answer) (x .tile) → p ≡ rowPoints (x .tile .«zoom_table») → y ≡ rowWays (x .tile .«zoom_table») → Crosses tileWire (Of (gridIn a b c d)) (wire n (w ∷ p ∷ y ∷ []) [] [])
-  tile-crosses Of x n w p y i q1 q2 q3 q4 = record { answer = x; is = subst (λ g. Of g x) stored-grid i; crossed = rw (q1, q2, q3, q4) refl }
+  -- what was handed in (a layout, an interval) is what the inner function took
+  module _ {P Q : Type 0} (p p′ : P) (q q′ : Q) (f : p ≡ p′) (j : q ≡ q′) where
+    abbrev here : Grid
+    here = gridIn (toZ w32 (ofZ w32 a)) (toZ w32 (ofZ w32 b)) (toZ w32 (ofZ w32 c)) (toZ w32 (ofZ w32 d))
 
-  pub fetch-crosses : (Of : Grid → Fetch → Type 0) (x : Fetch) (n : ℕ) (w ids tags : List ℕ) (z : List ℤ) (e : List Float) → Of (gridIn (toZ w32 (ofZ w32 a)) (toZ w32 (ofZ w32 b)) (toZ w32 (ofZ w32 c)) (toZ w32 (ofZ w32 d))) x → n ≡ fetchNumber (x .answer) → w ≡ fetchWords (x .answer) (x .poi) (x .way) → ids ≡ fetchIds (x .answer) (x .poi) (x .way) → tags ≡ fetchTags (x .answer) (x .poi) (x .way) → z ≡ fetchSigned (x .answer) (x .poi) (x .way) → e ≡ fetchDegrees (x .answer) (x .poi) (x .way) → Crosses fetchWire (Of (gridIn a b c d)) (wire n (w ∷ ids ∷ tags ∷ []) z e)
-  fetch-crosses Of x n w ids tags z e i q1 q2 q3 q4 q5 q6 = record { answer = x; is = subst (λ g. Of g x) stored-grid i; crossed = rw (q1, q2, q3, q4, q5, q6) refl }
+    same-call : {A : Type 0} (Of : P → Q → Grid → A → Type 0) (x : A) → Of p q here x → Of p′ q′ (gridIn a b c d) x
+    same-call Of x i = subst (λ g. Of p′ q′ g x) stored-grid (subst (λ u. Of u q′ here x) f (subst (λ u. Of p u here x) j i))
+
+    pub crosses-at : {A : Type 0} (number : A → ℕ) (words : A → List ℕ) (Of : P → Q → Grid → A → Type 0) (x : A) (n : ℕ) (l : List ℕ) → Of p q here x → n ≡ number x → l ≡ words x → Crosses (λ y. wire (number y) (words y ∷ []) [] []) (Of p′ q′ (gridIn a b c d)) (wire n (l ∷ []) [] [])
+    crosses-at number words Of x n l i e k = crosses number words (Of p′ q′ (gridIn a b c d)) x n l (same-call Of x i) e k
+
+    pub opened-crosses : (Of : P → Q → Grid → OpenRead → Type 0) (x : OpenRead) (before : List ℕ) (n : ℕ) (l s : List ℕ) → Of p q here x → n ≡ openedNumber x → l ≡ openedWords x → s ≡ openedState x before → Crosses (openedWire before) (Of p′ q′ (gridIn a b c d)) (wire n (l ∷ s ∷ []) [] [])
+    opened-crosses Of x before n l s i q1 q2 q3 = record { answer = x; is = same-call Of x i; crossed = rw (q1, q2, q3) refl }
+
+    pub tile-crosses : (Of : P → Q → Grid → TileRead → Type 0) (x : TileRead) (n : ℕ) (w y z : List ℕ) → Of p q here x → n ≡ tileNumber (x .answer) → w ≡ tileWords (x .answer) (x .tile) → y ≡ rowPoints (x .tile .«zoom_table») → z ≡ rowWays (x .tile .«zoom_table») → Crosses tileWire (Of p′ q′ (gridIn a b c d)) (wire n (w ∷ y ∷ z ∷ []) [] [])
+    tile-crosses Of x n w y z i q1 q2 q3 q4 = record { answer = x; is = same-call Of x i; crossed = rw (q1, q2, q3, q4) refl }
+
+    pub fetch-crosses : (Of : P → Q → Grid → Fetch → Type 0) (x : Fetch) (n : ℕ) (w ids tags : List ℕ) (z : List ℤ) (e : List Float) → Of p q here x → n ≡ fetchNumber (x .answer) → w ≡ fetchWords (x .answer) (x .poi) (x .way) → ids ≡ fetchIds (x .answer) (x .poi) (x .way) → tags ≡ fetchTags (x .answer) (x .poi) (x .way) → z ≡ fetchSigned (x .answer) (x .poi) (x .way) → e ≡ fetchDegrees (x .answer) (x .poi) (x .way) → Crosses fetchWire (Of p′ q′ (gridIn a b c d)) (wire n (w ∷ ids ∷ tags ∷ []) z e)
+    fetch-crosses Of x n w ids tags z e i q1 q2 q3 q4 q5 q6 = record { answer = x; is = same-call Of x i; crossed = rw (q1, q2, q3, q4, q5, q6) refl }

@@ -4,6 +4,7 @@ use lib.IntN.{ℤ}
 use mathlib.Core.Path.{_≡_}
 use mathlib.Core.List.{List}
 use Rattle.byte_source.specs.Answers.{spanRes}
+use Rattle.format.specs.Index.{tileCount, tileIndexOf, tileIndexEntry}
 use Rattle.format.specs.Kinds.{tagKind}
 use Rattle.format.specs.Lent.{LentLists}
 use Rattle.format.specs.TagTable.{tagText}
@@ -14,18 +15,23 @@ use Rattle.agreement.specs.Calls.{next, accept, decline}
 use Rattle.agreement.specs.Stream.{stream}
 use Rattle.tile_layout.specs.TileLayout.{formatOf}
 use Rattle.tile_layout.specs.declared.TileLayout.{TileLayout}
-use Rattle.visit.specs.Visit.{stateOf, shownStep, NextIs, acceptStep, declineStep}
+use Rattle.visit.specs.Visit.{stateOf, openTile, openRes, shownStep, NextIs, acceptStep, declineStep}
 use Rattle.visit.specs.declared.Stream.{Stream}
 use Rattle.visit.specs.declared.NextStep.{NextStep}
 use Rattle.visit.specs.declared.Accepted.{Accepted}
 use Rattle.visit.specs.declared.Declined.{Declined}
+use Rattle.visit.specs.declared.OpenRead.{OpenRead}
 use Rattle.types.specs.Types.{gridOf}
+use Rattle.index.specs.Answers.{intervalFound, countRes, indexRes, heldRes, entryRes}
+use Rattle.index.specs.declared.IntervalRead.{IntervalRead}
+use Rattle.index.specs.declared.CountRead.{CountRead}
+use Rattle.index.specs.declared.IndexRead.{IndexRead}
+use Rattle.index.specs.declared.EntryRead.{EntryRead}
 use Rattle.tile.specs.Tile.{collectTile, TileIs}
 use Rattle.tile.specs.declared.TileRead.{TileRead}
 use Rattle.fetched.specs.Fetched.{FetchLists}
 use Rattle.fetch.specs.Fetch.{fetchTile, FeatureIs}
 use Rattle.fetch.specs.declared.Fetch.{Fetch}
-use Rattle.on_map.specs.OnMap.{onMap}
 use Rattle.wire.specs.Index.{Named}
 
 abbrev pub gridIn : (xMin yMin xMax yMax : ℤ) → Grid
@@ -49,9 +55,22 @@ pub record AcceptOf (m : List ℕ) (s : Stream) (lent left : LentLists) (a : Acc
 pub record DeclineOf (s : Stream) (a : Declined) : Type 0 where
   pub each : (l : TileLayout) (rows : ℕ) (m : List ℕ) → declineStep a ≡ shownStep (stream (formatOf l rows m) m (stateOf s) decline)
 
--- a tile, and a feature of it, by a grid
-abbrev pub TileOf : (m : List ℕ) → (subFile number : ℕ) → Grid → TileRead → Type 0
-TileOf m s t g a = TileIs (onMap m (λ h. collectTile h s (gridOf g) t m)) a
+-- what is asked of a sub file, by its interval and a grid: its tiles, a tile's number, a tile's entry
+abbrev pub CountOf : IntervalRead → Grid → CountRead → Type 0
+CountOf i g a = countRes a ≡ tileCount (intervalFound i) (gridOf g)
 
-abbrev pub FeatureOf : (m : List ℕ) → (subFile number k : ℕ) → (lent left : FetchLists) → Grid → Fetch → Type 0
-FeatureOf m s t k lent left g a = FeatureIs (onMap m (λ h. fetchTile h s (gridOf g) t k m)) lent a left
+abbrev pub IndexOf : (x y : ℤ) → IntervalRead → Grid → IndexRead → Type 0
+IndexOf x y i g a = indexRes a ≡ tileIndexOf (intervalFound i) (gridOf g) x y
+
+abbrev pub EntryOf : (m : List ℕ) → (number : ℕ) → TileLayout → IntervalRead → Grid → EntryRead → Type 0
+EntryOf m t l i g a = entryRes a ≡ heldRes (tileIndexEntry (l .debug) (intervalFound i) (gridOf g) t m)
+
+-- a tile's stream, the collected tile, and a feature of it
+abbrev pub StreamOf : (m : List ℕ) → (subFile number zoom : ℕ) → TileLayout → IntervalRead → Grid → OpenRead → Type 0
+StreamOf m s t zoom l i g a = openRes a ≡ openTile l (intervalFound i) s (gridOf g) t zoom m
+
+abbrev pub TileOf : (m : List ℕ) → (number : ℕ) → TileLayout → IntervalRead → Grid → TileRead → Type 0
+TileOf m t l i g a = TileIs (collectTile l (intervalFound i) (gridOf g) t m) a
+
+abbrev pub FeatureOf : (m : List ℕ) → (number k : ℕ) → (lent left : FetchLists) → TileLayout → IntervalRead → Grid → Fetch → Type 0
+FeatureOf m t k lent left l i g a = FeatureIs (fetchTile l (intervalFound i) (gridOf g) t k m) lent a left

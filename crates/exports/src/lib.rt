@@ -1,6 +1,6 @@
 // The reader for programs in other languages; include/mapsforge.h declares these functions and says what each word is. A slice goes by its
 // address and its length, an array by its address alone. Each call answers 0, or the number of a refusal, whose values
-// are its first six words.
+// are its first six words. What a call needs of the header is handed in: the layout that opening gave, and its sub file's interval.
 use types::Grid;
 use types::TagTable;
 use utils::Degrees;
@@ -10,22 +10,20 @@ ghost use Rattle.parsing.specs.Parse.{nth, mapRes};
 ghost use Rattle.format.specs.WayData.{wayData};
 ghost use Rattle.way_measure.specs.Answers.{waySizes, wayDataRes};
 ghost use Rattle.format.specs.Header.{opened};
-ghost use Rattle.format.specs.Index.{subFileForZoom, tileCount, tileIndexOf, tileIndexEntry};
-ghost use Rattle.types.specs.Types.{intervalsOf, debugOf, gridOf};
+ghost use Rattle.format.specs.Index.{subFileForZoom};
+ghost use Rattle.types.specs.Types.{intervalsOf};
 ghost use Rattle.text.specs.Writing.{outcome, writing};
 ghost use Rattle.column.specs.Column.{columnRes, longitudeRes, column as columnOf, longitude as longitudeOf};
-ghost use Rattle.index.specs.Answers.{countRes, indexRes, heldRes, entryRes};
 ghost use Rattle.header.specs.HeaderView.{HeaderIs};
-ghost use Rattle.visit.specs.Visit.{openTile, openRes};
 ghost use Rattle.way_data.specs.Reply.{lent, reply, readWayData};
 ghost use Rattle.fetch_way.specs.FetchWay.{lent as lentAll};
-ghost use Rattle.on_map.specs.OnMap.{onMap, asked, intervalRes, subFileRes};
+ghost use Rattle.on_map.specs.OnMap.{asked, intervalRes, subFileRes};
 ghost use Rattle.wire.specs.Wire.{wire, Crosses};
-ghost use Rattle.wire.specs.Index.{countWire, indexWire, subFileWire, intervalWire, entryWire, tagWire, textWire, columnWire, longitudeWire, wayDataWire};
+ghost use Rattle.wire.specs.Index.{countWire, indexWire, subFileWire, intervalWire, intervalIn, entryWire, tagWire, textWire, columnWire, longitudeWire, wayDataWire};
 ghost use Rattle.wire.specs.Header.{headerWire, layoutIn};
 ghost use Rattle.feature_wire.specs.Streams.{streamIn, openedWire, nextWire, acceptWire, declineWire};
 ghost use Rattle.feature_wire.specs.Features.{tileWire, fetchWire};
-ghost use Rattle.exports.specs.Calls.{gridIn, tableOf, TagIs, NextOf, AcceptOf, DeclineOf, TileOf, FeatureOf};
+ghost use Rattle.exports.specs.Calls.{gridIn, tableOf, TagIs, CountOf, IndexOf, EntryOf, StreamOf, NextOf, AcceptOf, DeclineOf, TileOf, FeatureOf};
 
 // The header but for its intervals, in 34 words and six degrees, and what a stream needs of it, in five words.
 #[no_mangle]
@@ -49,14 +47,21 @@ pub extern "C" fn mapsforge_open(
     wire::end_number(end)
 }
 
-// The zoom interval of a sub file.
+// The zoom interval of a sub file, in the six words that other calls take.
 #[no_mangle]
-pub extern "C" fn mapsforge_interval(map: &[u8], sub_file: usize, words: &mut [u64; 12]) -> u64
-    ensures { λ r. ⌜ Crosses intervalWire (λ a. intervalRes a ≡ asked (now (map .entry)) (λ h. nth (intervalsOf h) «sub_file»)) (wire r (now (words .exit) ∷ []) [] []) ⌝ }
+pub extern "C" fn mapsforge_interval(
+    map: &[u8],
+    sub_file: usize,
+    words: &mut [u64; 6],
+    interval: &mut [u64; 6],
+) -> u64
+    ensures { λ r. ⌜ Crosses intervalWire (λ a. intervalRes a ≡ asked (now (map .entry)) (λ h. nth (intervalsOf h) «sub_file»)) (wire r (now (words .exit) ∷ now (interval .exit) ∷ []) [] []) ⌝ }
 {
     let got = on_map::interval(map, sub_file);
     let row = wire::interval_words(got);
     *words = row;
+    let row = wire::interval_row(got);
+    *interval = row;
     wire::interval_number(got)
 }
 
@@ -104,15 +109,14 @@ pub extern "C" fn mapsforge_text(text: &[u8], buffer: &mut [u8], words: &mut [u6
 // How many tiles a sub file has.
 #[no_mangle]
 pub extern "C" fn mapsforge_tile_count(
-    map: &[u8],
-    sub_file: usize,
+    interval: &[u64; 6],
     x_min: i32,
     y_min: i32,
     x_max: i32,
     y_max: i32,
     words: &mut [u64; 8],
 ) -> u64
-    ensures { λ r. ⌜ Crosses countWire (λ a. countRes a ≡ onMap (now (map .entry)) (λ h. tileCount (intervalsOf h) «sub_file» (gridOf (gridIn «x_min» «y_min» «x_max» «y_max»)))) (wire r (now (words .exit) ∷ []) [] []) ⌝ }
+    ensures { λ r. ⌜ Crosses countWire (CountOf (intervalIn (now (interval .entry))) (gridIn «x_min» «y_min» «x_max» «y_max»)) (wire r (now (words .exit) ∷ []) [] []) ⌝ }
 {
     let grid = Grid {
         x_min,
@@ -120,7 +124,7 @@ pub extern "C" fn mapsforge_tile_count(
         x_max,
         y_max,
     };
-    let got = on_map::tile_count(map, sub_file, grid);
+    let got = index::tile_count(wire::interval_in(*interval), grid);
     let row = wire::count_words(got);
     *words = row;
     wire::count_number(got)
@@ -129,8 +133,7 @@ pub extern "C" fn mapsforge_tile_count(
 // The number of the tile x, y.
 #[no_mangle]
 pub extern "C" fn mapsforge_tile_index(
-    map: &[u8],
-    sub_file: usize,
+    interval: &[u64; 6],
     x_min: i32,
     y_min: i32,
     x_max: i32,
@@ -139,7 +142,7 @@ pub extern "C" fn mapsforge_tile_index(
     y: i32,
     words: &mut [u64; 8],
 ) -> u64
-    ensures { λ r. ⌜ Crosses indexWire (λ a. indexRes a ≡ onMap (now (map .entry)) (λ h. tileIndexOf (intervalsOf h) «sub_file» (gridOf (gridIn «x_min» «y_min» «x_max» «y_max»)) x y)) (wire r (now (words .exit) ∷ []) [] []) ⌝ }
+    ensures { λ r. ⌜ Crosses indexWire (IndexOf x y (intervalIn (now (interval .entry))) (gridIn «x_min» «y_min» «x_max» «y_max»)) (wire r (now (words .exit) ∷ []) [] []) ⌝ }
 {
     let grid = Grid {
         x_min,
@@ -147,7 +150,7 @@ pub extern "C" fn mapsforge_tile_index(
         x_max,
         y_max,
     };
-    let got = on_map::tile_index_of(map, sub_file, grid, x, y);
+    let got = index::tile_index_of(wire::interval_in(*interval), grid, x, y);
     let row = wire::index_words(got);
     *words = row;
     wire::index_number(got)
@@ -157,7 +160,8 @@ pub extern "C" fn mapsforge_tile_index(
 #[no_mangle]
 pub extern "C" fn mapsforge_index_entry(
     map: &[u8],
-    sub_file: usize,
+    layout: &[u64; 5],
+    interval: &[u64; 6],
     x_min: i32,
     y_min: i32,
     x_max: i32,
@@ -165,7 +169,7 @@ pub extern "C" fn mapsforge_index_entry(
     tile: usize,
     words: &mut [u64; 9],
 ) -> u64
-    ensures { λ r. ⌜ Crosses entryWire (λ a. entryRes a ≡ onMap (now (map .entry)) (λ h. heldRes (tileIndexEntry (debugOf h) (intervalsOf h) «sub_file» (gridOf (gridIn «x_min» «y_min» «x_max» «y_max»)) tile (now (map .entry))))) (wire r (now (words .exit) ∷ []) [] []) ⌝ }
+    ensures { λ r. ⌜ Crosses entryWire (EntryOf (now (map .entry)) tile (layoutIn (now (layout .entry))) (intervalIn (now (interval .entry))) (gridIn «x_min» «y_min» «x_max» «y_max»)) (wire r (now (words .exit) ∷ []) [] []) ⌝ }
 {
     let grid = Grid {
         x_min,
@@ -173,7 +177,9 @@ pub extern "C" fn mapsforge_index_entry(
         x_max,
         y_max,
     };
-    let got = on_map::tile_index_entry(map, sub_file, grid, tile);
+    let tiles = wire::layout_in(*layout);
+    let found = wire::interval_in(*interval);
+    let got = index::tile_index_entry(map, tiles.debug, found, grid, tile);
     let row = wire::entry_words(got);
     *words = row;
     wire::entry_number(got)
@@ -219,6 +225,8 @@ pub extern "C" fn mapsforge_longitude(
 #[no_mangle]
 pub extern "C" fn mapsforge_stream_open(
     map: &[u8],
+    layout: &[u64; 5],
+    interval: &[u64; 6],
     sub_file: usize,
     x_min: i32,
     y_min: i32,
@@ -229,7 +237,7 @@ pub extern "C" fn mapsforge_stream_open(
     state: &mut [u64; 7],
     words: &mut [u64; 6],
 ) -> u64
-    ensures { λ r. ⌜ Crosses (openedWire (now (state .entry))) (λ a. openRes a ≡ onMap (now (map .entry)) (λ h. openTile h «sub_file» (gridOf (gridIn «x_min» «y_min» «x_max» «y_max»)) tile zoom (now (map .entry)))) (wire r (now (words .exit) ∷ now (state .exit) ∷ []) [] []) ⌝ }
+    ensures { λ r. ⌜ Crosses (openedWire (now (state .entry))) (StreamOf (now (map .entry)) «sub_file» tile zoom (layoutIn (now (layout .entry))) (intervalIn (now (interval .entry))) (gridIn «x_min» «y_min» «x_max» «y_max»)) (wire r (now (words .exit) ∷ now (state .exit) ∷ []) [] []) ⌝ }
 {
     let grid = Grid {
         x_min,
@@ -237,7 +245,9 @@ pub extern "C" fn mapsforge_stream_open(
         x_max,
         y_max,
     };
-    let got = on_map::open(map, sub_file, grid, tile, zoom);
+    let tiles = wire::layout_in(*layout);
+    let found = wire::interval_in(*interval);
+    let got = visit::open(map, tiles, found, sub_file, grid, tile, zoom);
     let row = feature_wire::opened_state(got, *state);
     *state = row;
     let row = feature_wire::opened_words(got);
@@ -325,7 +335,8 @@ pub extern "C" fn mapsforge_stream_decline(state: &mut [u64; 7], words: &mut [u6
 #[no_mangle]
 pub extern "C" fn mapsforge_collect(
     map: &[u8],
-    sub_file: usize,
+    layout: &[u64; 5],
+    interval: &[u64; 6],
     x_min: i32,
     y_min: i32,
     x_max: i32,
@@ -335,7 +346,7 @@ pub extern "C" fn mapsforge_collect(
     points: &mut [u64; 256],
     ways: &mut [u64; 256],
 ) -> u64
-    ensures { λ r. ⌜ Crosses tileWire (TileOf (now (map .entry)) «sub_file» tile (gridIn «x_min» «y_min» «x_max» «y_max»)) (wire r (now (words .exit) ∷ now (points .exit) ∷ now (ways .exit) ∷ []) [] []) ⌝ }
+    ensures { λ r. ⌜ Crosses tileWire (TileOf (now (map .entry)) tile (layoutIn (now (layout .entry))) (intervalIn (now (interval .entry))) (gridIn «x_min» «y_min» «x_max» «y_max»)) (wire r (now (words .exit) ∷ now (points .exit) ∷ now (ways .exit) ∷ []) [] []) ⌝ }
 {
     let grid = Grid {
         x_min,
@@ -343,7 +354,9 @@ pub extern "C" fn mapsforge_collect(
         x_max,
         y_max,
     };
-    let read = on_map::read_tile(map, sub_file, grid, tile);
+    let tiles = wire::layout_in(*layout);
+    let found = wire::interval_in(*interval);
+    let read = tile::read_tile(map, tiles, found, grid, tile);
     let answer = read.answer;
     let whole = read.tile;
     let row = feature_wire::tile_words(answer, whole);
@@ -360,7 +373,8 @@ pub extern "C" fn mapsforge_collect(
 #[no_mangle]
 pub extern "C" fn mapsforge_fetch(
     map: &[u8],
-    sub_file: usize,
+    layout: &[u64; 5],
+    interval: &[u64; 6],
     x_min: i32,
     y_min: i32,
     x_max: i32,
@@ -379,7 +393,7 @@ pub extern "C" fn mapsforge_fetch(
     ids: &mut [u64; 15],
     tags: &mut [u64; 75],
 ) -> u64
-    ensures { λ r. ⌜ Crosses fetchWire (FeatureOf (now (map .entry)) «sub_file» tile feature (lentAll (now («node_counts» .entry)) (now (latitudes .entry)) (now (longitudes .entry)) (now («initial_latitudes» .entry)) (now («initial_longitudes» .entry)) (now (buffer .entry))) (lentAll (now («node_counts» .exit)) (now (latitudes .exit)) (now (longitudes .exit)) (now («initial_latitudes» .exit)) (now («initial_longitudes» .exit)) (now (buffer .exit))) (gridIn «x_min» «y_min» «x_max» «y_max»)) (wire r (now (words .exit) ∷ now (ids .exit) ∷ now (tags .exit) ∷ []) (now («signed_words» .exit)) (now (degrees .exit))) ⌝ }
+    ensures { λ r. ⌜ Crosses fetchWire (FeatureOf (now (map .entry)) tile feature (lentAll (now («node_counts» .entry)) (now (latitudes .entry)) (now (longitudes .entry)) (now («initial_latitudes» .entry)) (now («initial_longitudes» .entry)) (now (buffer .entry))) (lentAll (now («node_counts» .exit)) (now (latitudes .exit)) (now (longitudes .exit)) (now («initial_latitudes» .exit)) (now («initial_longitudes» .exit)) (now (buffer .exit))) (layoutIn (now (layout .entry))) (intervalIn (now (interval .entry))) (gridIn «x_min» «y_min» «x_max» «y_max»)) (wire r (now (words .exit) ∷ now (ids .exit) ∷ now (tags .exit) ∷ []) (now («signed_words» .exit)) (now (degrees .exit))) ⌝ }
 {
     let grid = Grid {
         x_min,
@@ -387,9 +401,12 @@ pub extern "C" fn mapsforge_fetch(
         x_max,
         y_max,
     };
-    let fetch = on_map::fetch_feature(
+    let tiles = wire::layout_in(*layout);
+    let found = wire::interval_in(*interval);
+    let fetch = fetch::fetch_feature(
         map,
-        sub_file,
+        tiles,
+        found,
         grid,
         tile,
         feature,

@@ -8,7 +8,7 @@ use lib.Dec.{ltb}
 use lib.ListN.{length}
 use borrow.Author.Needs.{needs}
 use borrow.Author.Tests.{ltb-true, lt-ltb, le-ltb, le-leb}
-use Rattle.parsing.specs.Parse.{Res, ok, no, andThen, mapRes, many}
+use Rattle.parsing.specs.Parse.{Res, ok, no, andThen, mapRes, many, Maybe}
 use Rattle.parsing.specs.Good.{ok-val, ok-at, no-ok}
 use Rattle.error.specs.Refusals.{refused}
 use Rattle.error.specs.declared.Refusal.{Refusal}
@@ -16,15 +16,15 @@ use Rattle.error.specs.declared.Refusal.the-variants.{InvalidFeature}
 use Rattle.arithmetic.specs.Cut.{cut}
 use Rattle.arithmetic.proofs.CutLaws.{cut-fits, at-cut}
 use Rattle.byte_source.proofs.ReadLaws.{Taken, taken}
+use Rattle.format.specs.Header.{Interval}
 use Rattle.format.specs.Index.{answer, answered, Grid, Located, locate}
 use Rattle.format.specs.Kinds.{tagKinds}
 use Rattle.format.specs.Rows.{rowsOfInterval, intervalHead}
 use Rattle.format.specs.Tile as format
 use Rattle.format.specs.Tile.{tileHead, Point, point}
-use Rattle.types.specs.Types.{endRes, endRefusal, intervalsOf, debugOf}
+use Rattle.types.specs.Types.{endRes, endRefusal}
 use Rattle.types.specs.declared.End.{End}
 use Rattle.types.specs.declared.End.the-variants as end
-use Rattle.types.specs.declared.MapHeader.{MapHeader}
 use Rattle.tag_table.specs.Tables.{tableIn, passed}
 use Rattle.tile_head.specs.TileHead.{headAt, headRes, headRefusal}
 use Rattle.tile_head.specs.declared.TileHead.{TileHead}
@@ -42,7 +42,7 @@ use Rattle.agreement.proofs.Chain.{Chain, stop, link}
 use Rattle.agreement.proofs.CollectLaws.{collect-end}
 use Rattle.agreement.proofs.TileAgrees.{way-good, way-strict, collected}
 use Rattle.agreement.proofs.TileFormatLaws.{tile-laws, tileHead-end}
-use Rattle.tile_layout.specs.TileLayout.{layoutOf, formatOf}
+use Rattle.tile_layout.specs.TileLayout.{formatOf}
 use Rattle.tile_layout.specs.declared.TileLayout.{TileLayout}
 use Rattle.tile_walk.specs.TileWalk.{waysRes, waysRefusal, exactWays, ForAllRows}
 use Rattle.tile_walk.specs.declared.WaysRead.{WaysRead}
@@ -144,14 +144,14 @@ module _ (l : TileLayout) (rows : ℕ) (m : List ℕ) (small : length m < 2 ^ 64
       (uncut k (ltb (k - length (t .points)) (length (t .ways))) refl)
 
 -- the place behind the head, which the tile's place leads to
-module _ (h : MapHeader) (s : ℕ) (grid : Grid) (number : ℕ) (m : List ℕ) (g : PlaceRead) (q : places.placeRes g ≡ mapRes placeOf (locate (debugOf h) (intervalsOf h) s grid number m)) where
+module _ (b : Bool) (i : Maybe Interval) (grid : Grid) (number : ℕ) (m : List ℕ) (g : PlaceRead) (q : places.placeRes g ≡ mapRes placeOf (locate b i grid number m)) where
   abbrev place-found : Res Located
-  place-found = locate (debugOf h) (intervalsOf h) s grid number m
+  place-found = locate b i grid number m
 
   abbrev headOf : Located → Res format.TileHead
-  headOf a = tileHead (debugOf h) (rowsOfInterval (a .interval .min) (a .interval .max)) m (a .entry .absolute)
+  headOf a = tileHead b (rowsOfInterval (a .interval .min) (a .interval .max)) m (a .entry .absolute)
 
-  pub start-nowhere : (x y : Refusal) → g ≡ place-read.Refused x → y ≡ places.placeRefusal g → refused y ≡ tileStart h s grid number m
+  pub start-nowhere : (x y : Refusal) → g ≡ place-read.Refused x → y ≡ places.placeRefusal g → refused y ≡ tileStart b i grid number m
   unfolding tileStart
   start-nowhere x y e w = ap refused (w ∙ ap places.placeRefusal e) ∙ go place-found (ap places.placeRes (sym e) ∙ q)
     where
@@ -159,18 +159,17 @@ module _ (h : MapHeader) (s : ℕ) (grid : Grid) (number : ℕ) (m : List ℕ) (
       go (ok a z) d = no-ok d
       go (no n v) d = cc
 
-  module _ (p : TilePlace) (e : g ≡ place-read.At p) (small : length m < 2 ^ 64) (b : Bool) (f : b ≡ debugOf h) (hd : TileHeadRead) (qh : headRes hd ≡ mapRes (headAt (p .«min_zoom») (p .«max_zoom») (p .«max_zoom»)) (intervalHead b (p .«min_zoom») (p .«max_zoom») m (p .at))) where
+  module _ (p : TilePlace) (e : g ≡ place-read.At p) (small : length m < 2 ^ 64) (hd : TileHeadRead) (qh : headRes hd ≡ mapRes (headAt (p .«min_zoom») (p .«max_zoom») (p .«max_zoom»)) (intervalHead b (p .«min_zoom») (p .«max_zoom») m (p .at))) where
     -- the head is that of the tile, whose place may be cut
     seen : (a : Located) (z : ℕ) → place-found ≡ ok a z → p ≡ placeOf a → headRes hd ≡ mapRes (headAt (a .interval .min) (a .interval .max) (a .interval .max)) (headOf a)
     unfolding intervalHead
     seen a z o d =
         qh
-        ∙ ap (λ c. mapRes (headAt (p .«min_zoom») (p .«max_zoom») (p .«max_zoom»)) (intervalHead c (p .«min_zoom») (p .«max_zoom») m (p .at))) f
-        ∙ ap (λ (c : TilePlace). mapRes (headAt (c .«min_zoom») (c .«max_zoom») (c .«max_zoom»)) (intervalHead (debugOf h) (c .«min_zoom») (c .«max_zoom») m (c .at))) d
-        ∙ rw (le-leb (a .interval .min) (a .interval .max) (located-ordered (debugOf h) (intervalsOf h) s grid number m a z o))
-        (ap (mapRes (headAt (a .interval .min) (a .interval .max) (a .interval .max))) (at-cut (tileHead-end (debugOf h) (rowsOfInterval (a .interval .min) (a .interval .max))) m (a .entry .absolute) small))
+        ∙ ap (λ (c : TilePlace). mapRes (headAt (c .«min_zoom») (c .«max_zoom») (c .«max_zoom»)) (intervalHead b (c .«min_zoom») (c .«max_zoom») m (c .at))) d
+        ∙ rw (le-leb (a .interval .min) (a .interval .max) (located-ordered b i grid number m a z o))
+        (ap (mapRes (headAt (a .interval .min) (a .interval .max) (a .interval .max))) (at-cut (tileHead-end b (rowsOfInterval (a .interval .min) (a .interval .max))) m (a .entry .absolute) small))
 
-    pub start-no : (x y : Refusal) → hd ≡ head-read.Refused x → y ≡ headRefusal hd → refused y ≡ tileStart h s grid number m
+    pub start-no : (x y : Refusal) → hd ≡ head-read.Refused x → y ≡ headRefusal hd → refused y ≡ tileStart b i grid number m
     unfolding tileStart
     start-no x y c w = ap refused (w ∙ ap headRefusal c) ∙ go place-found refl (ap places.placeRes (sym e) ∙ q)
       where
@@ -182,7 +181,7 @@ module _ (h : MapHeader) (s : ℕ) (grid : Grid) (number : ℕ) (m : List ℕ) (
         go (ok a z) o d = on (headAt (a .interval .min) (a .interval .max) (a .interval .max)) (headOf a) (ap headRes (sym c) ∙ seen a z o (ok-val d))
         go (no n v) o d = no-ok (sym d)
 
-    pub start-at : (v : TileHead) (n : ℕ) → hd ≡ head-read.Value v n → ok tt n ≡ tileStart h s grid number m
+    pub start-at : (v : TileHead) (n : ℕ) → hd ≡ head-read.Value v n → ok tt n ≡ tileStart b i grid number m
     unfolding tileStart
     start-at v n c = go place-found refl (ap places.placeRes (sym e) ∙ q)
       where
@@ -197,62 +196,61 @@ module _ (h : MapHeader) (s : ℕ) (grid : Grid) (number : ℕ) (m : List ℕ) (
 pub ruleset starts = (needs, start-nowhere, start-no, start-at)
 
 -- the feature, by what was read
-module _ (h : MapHeader) (s : ℕ) (grid : Grid) (number k : ℕ) (m : List ℕ) where
+module _ (l : TileLayout) (i : Maybe Interval) (grid : Grid) (number k : ℕ) (m : List ℕ) where
   abbrev located : Res Located
-  located = locate (debugOf h) (intervalsOf h) s grid number m
+  located = locate (l .debug) i grid number m
 
   abbrev rowsAt : Located → ℕ
   rowsAt a = rowsOfInterval (a .interval .min) (a .interval .max)
 
   abbrev formatAt : Located → Format
-  formatAt a = formatOf (layoutOf h) (rowsAt a) m
+  formatAt a = formatOf l (rowsAt a) m
 
   abbrev fromTile : Located → Res Place
   fromTile a = andThen (collect (formatAt a) m (a .entry .absolute)) (λ t _. placeIn (formatAt a) t k m)
 
-  pub no-start : (g : End) (x y : Refusal) → endRes tt g ≡ tileStart h s grid number m → g ≡ end.Refused x → y ≡ endRefusal g → refused y ≡ featurePlace h s grid number k m
+  pub no-start : (g : End) (x y : Refusal) → endRes tt g ≡ tileStart (l .debug) i grid number m → g ≡ end.Refused x → y ≡ endRefusal g → refused y ≡ featurePlace l i grid number k m
   unfolding tileStart featurePlace
   no-start g x y q e w = ap refused (w ∙ ap endRefusal e) ∙ go located (ap (endRes tt) (sym e) ∙ q)
     where
-      on : (a : Located) (r : Res format.TileHead) → tileHead (debugOf h) (rowsAt a) m (a .entry .absolute) ≡ r → refused {A = Unit} x ≡ passed r → refused x ≡ fromTile a
+      on : (a : Located) (r : Res format.TileHead) → tileHead (l .debug) (rowsAt a) m (a .entry .absolute) ≡ r → refused {A = Unit} x ≡ passed r → refused x ≡ fromTile a
       on a (ok v n) f d = no-ok d
       on a (no n v) f d = let i : refused {A = Place} x ≡ no n v = cc in rw f i
 
-      go : (r : Res Located) → refused {A = Unit} x ≡ andThen r (λ a _. passed (tileHead (debugOf h) (rowsAt a) m (a .entry .absolute))) → refused x ≡ andThen r (λ a _. fromTile a)
-      go (ok a z) d = on a (tileHead (debugOf h) (rowsAt a) m (a .entry .absolute)) refl d
+      go : (r : Res Located) → refused {A = Unit} x ≡ andThen r (λ a _. passed (tileHead (l .debug) (rowsAt a) m (a .entry .absolute))) → refused x ≡ andThen r (λ a _. fromTile a)
+      go (ok a z) d = on a (tileHead (l .debug) (rowsAt a) m (a .entry .absolute)) refl d
       go (no n v) d = cc
 
-  pub no-tile : (r : TileRead) (x y : Refusal) → TileIs (collectTile h s grid number m) r → r .answer ≡ tile-answer.Refused x → y ≡ tileRefusal (r .answer) → refused y ≡ featurePlace h s grid number k m
+  pub no-tile : (r : TileRead) (x y : Refusal) → TileIs (collectTile l i grid number m) r → r .answer ≡ tile-answer.Refused x → y ≡ tileRefusal (r .answer) → refused y ≡ featurePlace l i grid number k m
   unfolding collectTile featurePlace
   no-tile r x y b e w = ap refused (w ∙ ap tileRefusal e) ∙ go located (ap (λ a. tileRes a (r .tile)) (sym e) ∙ b .answer)
     where
-      on : (a : Located) (c : Res (StoredTile (formatAt a))) → refused x ≡ answered (mapRes (tileOf (layoutOf h) (rowsAt a) m) c) → refused x ≡ andThen c (λ t _. placeIn (formatAt a) t k m)
+      on : (a : Located) (c : Res (StoredTile (formatAt a))) → refused x ≡ answered (mapRes (tileOf l (rowsAt a) m) c) → refused x ≡ andThen c (λ t _. placeIn (formatAt a) t k m)
       on a (ok t z) d = no-ok d
       on a (no n v) d = cc
 
-      go : (g : Res Located) → refused x ≡ andThen g (λ a _. collectAt (layoutOf h) (a .interval .min) (a .interval .max) (a .entry .absolute) m) → refused x ≡ andThen g (λ a _. fromTile a)
+      go : (g : Res Located) → refused x ≡ andThen g (λ a _. collectAt l (a .interval .min) (a .interval .max) (a .entry .absolute) m) → refused x ≡ andThen g (λ a _. fromTile a)
       go (ok a z) d = on a (collect (formatAt a) m (a .entry .absolute)) d
       go (no n v) d = cc
 
-  pub found : (g : End) (n : ℕ) (l : TileLayout) (t : TileRead) (r : Res Place) → endRes tt g ≡ tileStart h s grid number m → g ≡ end.At n → length m < 2 ^ 64 → l ≡ layoutOf h
-      → TileIs (collectTile h s grid number m) t → t .answer ≡ tile-answer.Collected → Behind l m n (t .tile .points) (t .tile .ways) (t .tile .«first_way_offset») k r → r ≡ featurePlace h s grid number k m
+  pub found : (g : End) (n : ℕ) (t : TileRead) (r : Res Place) → endRes tt g ≡ tileStart (l .debug) i grid number m → g ≡ end.At n → length m < 2 ^ 64
+      → TileIs (collectTile l i grid number m) t → t .answer ≡ tile-answer.Collected → Behind l m n (t .tile .points) (t .tile .ways) (t .tile .«first_way_offset») k r → r ≡ featurePlace l i grid number k m
   unfolding collectTile featurePlace tileStart
-  found g n l t r q e small lay b c w = go located (ap (endRes tt) (sym e) ∙ q) (ap (λ a. tileRes a (t .tile)) (sym c) ∙ b .answer)
+  found g n t r q e small b c w = go located (ap (endRes tt) (sym e) ∙ q) (ap (λ a. tileRes a (t .tile)) (sym c) ∙ b .answer)
     where
-      on : (a : Located) → ok tt n ≡ passed (tileHead (debugOf h) (rowsAt a) m (a .entry .absolute)) → (y : Res (StoredTile (formatAt a))) → collect (formatAt a) m (a .entry .absolute) ≡ y
-          → answer (t .tile) ≡ answered (mapRes (tileOf (layoutOf h) (rowsAt a) m) y) → r ≡ andThen y (λ t _. placeIn (formatAt a) t k m)
+      on : (a : Located) → ok tt n ≡ passed (tileHead (l .debug) (rowsAt a) m (a .entry .absolute)) → (y : Res (StoredTile (formatAt a))) → collect (formatAt a) m (a .entry .absolute) ≡ y
+          → answer (t .tile) ≡ answered (mapRes (tileOf l (rowsAt a) m) y) → r ≡ andThen y (λ t _. placeIn (formatAt a) t k m)
       on a d (ok st u) j i =
           let C = collected (formatAt a) m (a .entry .absolute) st u j in
           let start : n ≡ st .start = ok-at (d ∙ ap passed (C .head)) in
           w .each (rowsAt a)
-          ∙ ap (λ x. behind x m n (t .tile .points) (t .tile .ways) (t .tile .«first_way_offset») k (rowsAt a)) lay
-          ∙ ap (λ (x : Tile). behind (layoutOf h) m n (x .points) (x .ways) (x .«first_way_offset») k (rowsAt a)) (ok-val i)
-          ∙ ap (λ x. behind (layoutOf h) m x (length (st .points)) (length (st .ways)) (st .head .offset) k (rowsAt a)) start
-          ∙ behind-is (layoutOf h) (rowsAt a) m small (a .entry .absolute) st u j k
+          ∙ ap (λ (x : Tile). behind l m n (x .points) (x .ways) (x .«first_way_offset») k (rowsAt a)) (ok-val i)
+          ∙ ap (λ x. behind l m x (length (st .points)) (length (st .ways)) (st .head .offset) k (rowsAt a)) start
+          ∙ behind-is l (rowsAt a) m small (a .entry .absolute) st u j k
       on a d (no x y) j i = no-ok (sym i)
 
-      go : (y : Res Located) → ok tt n ≡ andThen y (λ a _. passed (tileHead (debugOf h) (rowsAt a) m (a .entry .absolute)))
-          → answer (t .tile) ≡ andThen y (λ a _. collectAt (layoutOf h) (a .interval .min) (a .interval .max) (a .entry .absolute) m) → r ≡ andThen y (λ a _. fromTile a)
+      go : (y : Res Located) → ok tt n ≡ andThen y (λ a _. passed (tileHead (l .debug) (rowsAt a) m (a .entry .absolute)))
+          → answer (t .tile) ≡ andThen y (λ a _. collectAt l (a .interval .min) (a .interval .max) (a .entry .absolute) m) → r ≡ andThen y (λ a _. fromTile a)
       go (ok a z) d i = on a d (collect (formatAt a) m (a .entry .absolute)) refl i
       go (no x y) d i = no-ok (sym d)
 

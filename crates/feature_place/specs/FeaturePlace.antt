@@ -1,26 +1,25 @@
 -- Where feature k of a collected tile stands (document 01: "points from 0, ways behind them"): behind k points; or behind the ways
 -- before it, which start where the first-way offset leads. That a read from there gives the fetched feature is a law of crate fetch.
 use Prim.Native.Nat.{ℕ, _+_, _-_}
-use mathlib.Core.Bool.{cond}
+use mathlib.Core.Bool.{Bool, cond}
 use mathlib.Core.Path.{_≡_}
 use mathlib.Core.List.{List, []}
 use lib.Dec.{ltb}
 use lib.ListN.{length}
-use Rattle.parsing.specs.Parse.{Res, no, andThen, many}
+use Rattle.parsing.specs.Parse.{Res, no, andThen, many, Maybe}
 use Rattle.error.specs.Refusals.{refused}
 use Rattle.error.specs.declared.Refusal.{Refusal}
 use Rattle.error.specs.declared.Refusal.the-variants.{Source}
 use Rattle.arithmetic.specs.Cut.{cut}
+use Rattle.format.specs.Header.{Interval}
 use Rattle.format.specs.Index.{answer, Grid, locate}
 use Rattle.format.specs.Kinds.{tagKinds}
 use Rattle.format.specs.Rows.{rowsOfInterval}
 use Rattle.format.specs.Tile.{tileHead, point}
-use Rattle.types.specs.Types.{intervalsOf, debugOf}
-use Rattle.types.specs.declared.MapHeader.{MapHeader}
 use Rattle.tag_table.specs.Tables.{tableIn, passed}
 use Rattle.agreement.specs.Format.{Format}
 use Rattle.agreement.specs.Collected.{way, StoredTile, collect}
-use Rattle.tile_layout.specs.TileLayout.{layoutOf, formatOf}
+use Rattle.tile_layout.specs.TileLayout.{formatOf}
 use Rattle.tile_layout.specs.declared.TileLayout.{TileLayout}
 use Rattle.tile.specs.declared.TileAnswer.{TileAnswer}
 use Rattle.tile.specs.declared.TileAnswer.the-variants as tile-answer
@@ -51,17 +50,17 @@ placeIn F t k m =
     (no 17 []))
 
 -- refused as collecting is, then 17
-unfoldable pub featurePlace : MapHeader → (subFile : ℕ) → Grid → (number k : ℕ) → List ℕ → Res Place
-featurePlace h s g n k m =
-    andThen (locate (debugOf h) (intervalsOf h) s g n m) (λ l _.
-    andThen (collect (formatOf (layoutOf h) (rowsOfInterval (l .interval .min) (l .interval .max)) m) m (l .entry .absolute)) (λ t _.
-    placeIn (formatOf (layoutOf h) (rowsOfInterval (l .interval .min) (l .interval .max)) m) t k m))
+unfoldable pub featurePlace : TileLayout → Maybe Interval → Grid → (number k : ℕ) → List ℕ → Res Place
+featurePlace l i g n k m =
+    andThen (locate (l .debug) i g n m) (λ a _.
+    andThen (collect (formatOf l (rowsOfInterval (a .interval .min) (a .interval .max)) m) m (a .entry .absolute)) (λ t _.
+    placeIn (formatOf l (rowsOfInterval (a .interval .min) (a .interval .max)) m) t k m))
 
 -- What the private functions find: the place behind the tile's head
-unfoldable pub tileStart : MapHeader → (subFile : ℕ) → Grid → (number : ℕ) → List ℕ → Res Unit
-tileStart h s g n m =
-    andThen (locate (debugOf h) (intervalsOf h) s g n m) (λ l _.
-    passed (tileHead (debugOf h) (rowsOfInterval (l .interval .min) (l .interval .max)) m (l .entry .absolute)))
+unfoldable pub tileStart : (debug : Bool) → Maybe Interval → Grid → (number : ℕ) → List ℕ → Res Unit
+tileStart d i g n m =
+    andThen (locate d i g n m) (λ a _.
+    passed (tileHead d (rowsOfInterval (a .interval .min) (a .interval .max)) m (a .entry .absolute)))
 
 -- behind n points
 abbrev pub pointPlace : TileLayout → List ℕ → (at n : ℕ) → Res Place

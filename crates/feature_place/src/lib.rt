@@ -1,5 +1,6 @@
 // tile.rs: where a feature of a collected tile stands. It is found by walking there; a later request finds it directly.
 use error::Refusal;
+use index::IntervalRead;
 use tile::TileAnswer;
 use tile_head::TileHeadRead;
 use tile_layout::TileLayout;
@@ -7,9 +8,9 @@ use tile_place::PlaceRead;
 use tile_walk::WaysRead;
 use types::End;
 use types::Grid;
-use types::MapHeader;
 ghost use mathlib.Core.Path.{_≡_};
 ghost use Rattle.types.specs.Types.{gridOf, endRes};
+ghost use Rattle.index.specs.Answers.{intervalFound};
 ghost use Rattle.feature_place.specs.FeaturePlace.{placeRes, placeRefusal, tileRefusal, pointPlace, WayPlace, Behind, tileStart, featurePlace};
 
 // Where a point starts, or a way; its signature's place in debug maps.
@@ -84,11 +85,10 @@ fn behind_head(
 }
 
 // The place behind a tile's head.
-fn tile_start(map: &[u8], header: MapHeader, sub_file: usize, grid: Grid, tile: usize) -> End
-    ensures { λ r. ⌜ endRes tt r ≡ tileStart header «sub_file» (gridOf grid) tile (now (map .entry)) ⌝ }
+fn tile_start(map: &[u8], debug: bool, found: IntervalRead, grid: Grid, tile: usize) -> End
+    ensures { λ r. ⌜ endRes tt r ≡ tileStart debug (intervalFound found) (gridOf grid) tile (now (map .entry)) ⌝ }
 {
-    let debug = header.flags / 128 % 2 == 1;
-    let got = tile_place::find_tile(map, header, sub_file, grid, tile);
+    let got = tile_place::find_tile(map, debug, found, grid, tile);
     let PlaceRead::At(place) = got else {
         return End::Refused(tile_place::place_refusal(got));
     };
@@ -109,20 +109,19 @@ fn tile_start(map: &[u8], header: MapHeader, sub_file: usize, grid: Grid, tile: 
 // Refused as collecting is; then 17 for a number at or above the count of features.
 pub fn find_feature(
     map: &[u8],
-    header: MapHeader,
-    sub_file: usize,
+    layout: TileLayout,
+    found: IntervalRead,
     grid: Grid,
     tile: usize,
     feature: u64,
 ) -> FeaturePlace
-    ensures { λ r. ⌜ placeRes r ≡ featurePlace header «sub_file» (gridOf grid) tile feature (now (map .entry)) ⌝ }
+    ensures { λ r. ⌜ placeRes r ≡ featurePlace layout (intervalFound found) (gridOf grid) tile feature (now (map .entry)) ⌝ }
 {
-    let layout = tile_layout::layout_of(header);
-    let end = tile_start(map, header, sub_file, grid, tile);
+    let end = tile_start(map, layout.debug, found, grid, tile);
     let End::At(start) = end else {
         return FeaturePlace::Refused(types::end_refusal(end));
     };
-    let read = tile::read_tile(map, header, sub_file, grid, tile);
+    let read = tile::read_tile(map, layout, found, grid, tile);
     let answer = read.answer;
     let TileAnswer::Collected = answer else {
         return FeaturePlace::Refused(tile_refusal(answer));

@@ -16,15 +16,15 @@ use Rattle.parsing.proofs.Lists.{nth-past}
 use Rattle.error.specs.Refusals.{refused}
 use Rattle.error.specs.declared.Refusal.{Refusal}
 use Rattle.error.specs.declared.Refusal.the-variants.{Source}
+use Rattle.format.specs.Header.{Interval}
 use Rattle.format.specs.Index.{answer, answered, Grid, Located, locate}
 use Rattle.format.specs.Kinds.{tagKinds}
 use Rattle.format.specs.Rows.{rowsOfInterval}
 use Rattle.format.specs.Tile.{Point, point, Head, head, Body, body}
-use Rattle.types.specs.Types.{endRes, intervalsOf, debugOf}
+use Rattle.types.specs.Types.{endRes}
 use Rattle.types.specs.Beside.{viewOr}
 use Rattle.types.specs.declared.End.{End}
 use Rattle.types.specs.declared.End.the-variants as end
-use Rattle.types.specs.declared.MapHeader.{MapHeader}
 use Rattle.types.specs.declared.TagTable.{TagTable}
 use Rattle.tag_table.specs.Tables.{tableIn}
 use Rattle.agreement.specs.Format.{Format}
@@ -32,7 +32,7 @@ use Rattle.agreement.specs.Collected as collected
 use Rattle.agreement.specs.Collected.{Way, way, StoredTile, storedTile, collect}
 use Rattle.agreement.proofs.Chain.{Chain, stop, link}
 use Rattle.agreement.proofs.TileAgrees as tile
-use Rattle.tile_layout.specs.TileLayout.{layoutOf, formatOf}
+use Rattle.tile_layout.specs.TileLayout.{formatOf}
 use Rattle.tile_layout.specs.declared.TileLayout.{TileLayout}
 use Rattle.feature_place.specs.FeaturePlace.{Place, pointAt, wayAt, placeRes, placeIn, featurePlace}
 use Rattle.feature_place.specs.declared.FeaturePlace.{FeaturePlace}
@@ -257,37 +257,37 @@ module _ (l : TileLayout) (rows : ℕ) (m : List ℕ) (i : ℕ) (t : StoredTile 
       points false h = ways (ltb (k - length (t .points)) (length (t .ways))) refl
 
 -- fetching is reading from there
-module _ (h : MapHeader) (s : ℕ) (grid : Grid) (number k : ℕ) (m : List ℕ) where
-  fetched-is : answered (andThen (featurePlace h s grid number k m) (λ p _. readAt (layoutOf h) p m)) ≡ fetchTile h s grid number k m
+module _ (l : TileLayout) (i : Maybe Interval) (grid : Grid) (number k : ℕ) (m : List ℕ) where
+  fetched-is : answered (andThen (featurePlace l i grid number k m) (λ p _. readAt l p m)) ≡ fetchTile l i grid number k m
   unfolding featurePlace fetchTile
-  fetched-is = located (locate (debugOf h) (intervalsOf h) s grid number m)
+  fetched-is = located (locate (l .debug) i grid number m)
     where
       rowsAt : Located → ℕ
       rowsAt a = rowsOfInterval (a .interval .min) (a .interval .max)
 
-      collects : (a : Located) (r : Res (StoredTile (formatOf (layoutOf h) (rowsAt a) m))) → collect (formatOf (layoutOf h) (rowsAt a) m) m (a .entry .absolute) ≡ r
-          → answered (andThen (andThen r (λ t _. placeIn (formatOf (layoutOf h) (rowsAt a) m) t k m)) (λ p _. readAt (layoutOf h) p m))
-          ≡ andThen r (λ t _. given (layoutOf h) (rowsAt a) m (collected.fetch (storedTile t (record { subFile = s; water = a .entry .water })) k))
-      collects a (ok t z) c = place-gives (layoutOf h) (rowsAt a) m (a .entry .absolute) t z c (record { subFile = s; water = a .entry .water }) k
+      collects : (a : Located) (r : Res (StoredTile (formatOf l (rowsAt a) m))) → collect (formatOf l (rowsAt a) m) m (a .entry .absolute) ≡ r
+          → answered (andThen (andThen r (λ t _. placeIn (formatOf l (rowsAt a) m) t k m)) (λ p _. readAt l p m))
+          ≡ andThen r (λ t _. given l (rowsAt a) m (collected.fetch (storedTile t (record { subFile = 0; water = a .entry .water })) k))
+      collects a (ok t z) c = place-gives l (rowsAt a) m (a .entry .absolute) t z c (record { subFile = 0; water = a .entry .water }) k
       collects a (no n v) c = refl
 
-      located : (r : Res Located) → answered (andThen (andThen r (λ a _. andThen (collect (formatOf (layoutOf h) (rowsAt a) m) m (a .entry .absolute)) (λ t _. placeIn (formatOf (layoutOf h) (rowsAt a) m) t k m))) (λ p _. readAt (layoutOf h) p m)) ≡ andThen r (λ a _. fetchAt (layoutOf h) k s a m)
-      located (ok a z) = collects a (collect (formatOf (layoutOf h) (rowsAt a) m) m (a .entry .absolute)) refl
+      located : (r : Res Located) → answered (andThen (andThen r (λ a _. andThen (collect (formatOf l (rowsAt a) m) m (a .entry .absolute)) (λ t _. placeIn (formatOf l (rowsAt a) m) t k m))) (λ p _. readAt l p m)) ≡ andThen r (λ a _. fetchAt l k a m)
+      located (ok a z) = collects a (collect (formatOf l (rowsAt a) m) m (a .entry .absolute)) refl
       located (no n v) = refl
 
-  feature-is : (p : Res Place) (l : TileLayout) (lists left : FetchLists) (r : Fetch) → p ≡ featurePlace h s grid number k m → l ≡ layoutOf h → FetchedAt l p m lists r left → FeatureIs (fetchTile h s grid number k m) lists r left
-  feature-is p l lists left r q e f =
+  feature-is : (p : Res Place) (lists left : FetchLists) (r : Fetch) → p ≡ featurePlace l i grid number k m → FetchedAt l p m lists r left → FeatureIs (fetchTile l i grid number k m) lists r left
+  feature-is p lists left r q f =
       subst (λ (x : Res (Fetched Feature)). FeatureIs x lists r left)
-      (ap (λ x. answered (andThen p (λ p _. readAt x p m))) e ∙ ap (λ x. answered (andThen x (λ p _. readAt (layoutOf h) p m))) q ∙ fetched-is) f
+      (ap (λ x. answered (andThen x (λ p _. readAt l p m))) q ∙ fetched-is) f
 
-  module _ (g : FeaturePlace) (l : TileLayout) (r : Fetch) (q : placeRes g ≡ featurePlace h s grid number k m) (e : l ≡ layoutOf h) (w : End) (f : w ≡ wayEnd g) (c : List ℕ) (la lo il io : List Float) (b : List ℕ) where
-    pub other-fetched : (x : Refusal) (left : List ℕ) → w ≡ end.Refused x → OtherAt l g m b r left → FeatureIs (fetchTile h s grid number k m) (lent c la lo il io b) r (lent c la lo il io left)
-    other-fetched x left d o = feature-is (placeRes g) l (lent c la lo il io b) (lent c la lo il io left) r q e (o .each x (sym f ∙ d) c la lo il io)
+  module _ (g : FeaturePlace) (r : Fetch) (q : placeRes g ≡ featurePlace l i grid number k m) (w : End) (f : w ≡ wayEnd g) (c : List ℕ) (la lo il io : List Float) (b : List ℕ) where
+    pub other-fetched : (x : Refusal) (left : List ℕ) → w ≡ end.Refused x → OtherAt l g m b r left → FeatureIs (fetchTile l i grid number k m) (lent c la lo il io b) r (lent c la lo il io left)
+    other-fetched x left d o = feature-is (placeRes g) (lent c la lo il io b) (lent c la lo il io left) r q (o .each x (sym f ∙ d) c la lo il io)
 
-    pub way-fetched : (i : ℕ) (y : WayFetch) (left : FetchLists) → w ≡ end.At i → WayFetchIs (wayStored (l .debug) (l .«way_tags») m i) (lent c la lo il io b) y left → r ≡ ofWay y
-        → FeatureIs (fetchTile h s grid number k m) (lent c la lo il io b) r left
-    way-fetched i y left d o v =
-        feature-is (answer (wayAt i)) l (lent c la lo il io b) left r (sym (there g (sym f ∙ d)) ∙ q) e (rw v (way-is (wayStored (l .debug) (l .«way_tags») m i) (lent c la lo il io b) left y o))
+    pub way-fetched : (at : ℕ) (y : WayFetch) (left : FetchLists) → w ≡ end.At at → WayFetchIs (wayStored (l .debug) (l .«way_tags») m at) (lent c la lo il io b) y left → r ≡ ofWay y
+        → FeatureIs (fetchTile l i grid number k m) (lent c la lo il io b) r left
+    way-fetched at y left d o v =
+        feature-is (answer (wayAt at)) (lent c la lo il io b) left r (sym (there g (sym f ∙ d)) ∙ q) (rw v (way-is (wayStored (l .debug) (l .«way_tags») m at) (lent c la lo il io b) left y o))
       where
         isAt : End → ℕ
         isAt (end.At n) = 0
@@ -297,7 +297,7 @@ module _ (h : MapHeader) (s : ℕ) (grid : Grid) (number k : ℕ) (m : List ℕ)
         placeAt (end.At n) = n
         placeAt (end.Refused x) = 0
 
-        there : (p : FeaturePlace) → wayEnd p ≡ end.At i → placeRes p ≡ answer (wayAt i)
+        there : (p : FeaturePlace) → wayEnd p ≡ end.At at → placeRes p ≡ answer (wayAt at)
         there (place.Point n) d = let z = ap isAt d in absurd (omega arith)
         there (place.Way n) d = ap (λ a. answer (wayAt a)) (ap placeAt d)
         there (place.Refused x) d = let z = ap isAt d in absurd (omega arith)

@@ -5,23 +5,22 @@ use mathlib.Core.Bool.{Bool}
 use mathlib.Core.Path.{_≡_}
 use mathlib.Core.List.{List, []}
 use lib.Ieee.{Float}
-use Rattle.parsing.specs.Parse.{Res, ok, no, andThen, mapRes}
+use Rattle.parsing.specs.Parse.{Res, ok, no, andThen, mapRes, Maybe}
 use Rattle.error.specs.Refusals.{refused}
 use Rattle.error.specs.declared.Refusal.{Refusal}
 use Rattle.error.specs.declared.Refusal.the-variants.{Source}
+use Rattle.format.specs.Header.{Interval}
 use Rattle.format.specs.Index.{answer, answered, Grid, Located, locate}
 use Rattle.format.specs.Kinds.{tagKinds}
 use Rattle.format.specs.Rows.{rowsOfInterval}
-use Rattle.types.specs.Types.{intervalsOf, debugOf}
 use Rattle.types.specs.declared.End.{End}
 use Rattle.types.specs.declared.End.the-variants as end
-use Rattle.types.specs.declared.MapHeader.{MapHeader}
 use Rattle.tag_table.specs.Tables.{tableIn}
 use Rattle.tag.specs.declared.Kind.{Kind}
 use Rattle.agreement.specs.TileFormat.{tileFormat}
 use Rattle.agreement.specs.Collected as collected
 use Rattle.agreement.specs.Collected.{storedCollection, storedTile, collect}
-use Rattle.tile_layout.specs.TileLayout.{layoutOf, formatOf}
+use Rattle.tile_layout.specs.TileLayout.{formatOf}
 use Rattle.tile_layout.specs.declared.TileLayout.{TileLayout}
 use Rattle.feature_place.specs.FeaturePlace.{Place, pointAt, wayAt, placeRes}
 use Rattle.feature_place.specs.declared.FeaturePlace.{FeaturePlace}
@@ -56,15 +55,15 @@ given l rows m f =
     givenBy (l .debug) rows (tagKinds (tableIn (l .«poi_tags»)) m) (tagKinds (tableIn (l .«way_tags»)) m) (walkedName (tableIn (l .«poi_tags»)) m)
     (walkedName (tableIn (l .«way_tags»)) m) f
 
--- feature k of the tile at a place
-abbrev pub fetchAt : TileLayout → (k subFile : ℕ) → Located → List ℕ → Res (Fetched Feature)
-fetchAt l k s a m =
+-- feature k of the tile at a place (what the end of its stream says plays no part in it)
+abbrev pub fetchAt : TileLayout → (k : ℕ) → Located → List ℕ → Res (Fetched Feature)
+fetchAt l k a m =
     andThen (collect (formatOf l (rowsOfInterval (a .interval .min) (a .interval .max)) m) m (a .entry .absolute)) (λ t _.
-    given l (rowsOfInterval (a .interval .min) (a .interval .max)) m (collected.fetch (storedTile t (record { subFile = s; water = a .entry .water })) k))
+    given l (rowsOfInterval (a .interval .min) (a .interval .max)) m (collected.fetch (storedTile t (record { subFile = 0; water = a .entry .water })) k))
 
 -- refused as collecting is (sub file, grid, tile, entry, interval, the tile's bytes), then 17
-unfoldable pub fetchTile : MapHeader → (subFile : ℕ) → Grid → (number k : ℕ) → List ℕ → Res (Fetched Feature)
-fetchTile h s g n k m = andThen (locate (debugOf h) (intervalsOf h) s g n m) (λ a _. fetchAt (layoutOf h) k s a m)
+unfoldable pub fetchTile : TileLayout → Maybe Interval → Grid → (number k : ℕ) → List ℕ → Res (Fetched Feature)
+fetchTile l i g n k m = andThen (locate (l .debug) i g n m) (λ a _. fetchAt l k a m)
 
 -- the answer of the code
 abbrev pub featureRes : FetchAnswer → FetchedPoi → FetchedWay → Res Feature

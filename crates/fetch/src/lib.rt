@@ -5,12 +5,13 @@ use fetch_poi::PoiFetch;
 use fetch_way::WayFetch;
 use fetched::FetchedPoi;
 use fetched::FetchedWay;
+use index::IntervalRead;
 use tile_layout::TileLayout;
 use types::End;
 use types::Grid;
-use types::MapHeader;
 ghost use mathlib.Core.Path.{_≡_};
 ghost use Rattle.types.specs.Types.{gridOf};
+ghost use Rattle.index.specs.Answers.{intervalFound};
 ghost use Rattle.fetch_way.specs.FetchWay.{lent};
 ghost use Rattle.fetch.specs.Fetch.{answerAt, ofPoi, ofWay, noFetch, fetchTile, wayEnd, OtherAt, FeatureIs};
 
@@ -101,8 +102,8 @@ fn of_place(map: &[u8], place: FeaturePlace, layout: TileLayout, buffer: &mut [u
 // blocks' initial latitudes and longitudes to the others. A refusal leaves them all alone.
 pub fn fetch_feature(
     map: &[u8],
-    header: MapHeader,
-    sub_file: usize,
+    layout: TileLayout,
+    found: IntervalRead,
     grid: Grid,
     tile: usize,
     feature: u64,
@@ -113,10 +114,9 @@ pub fn fetch_feature(
     initial_longitudes: &mut [f64],
     buffer: &mut [u8],
 ) -> Fetch
-    ensures { λ r. ⌜ FeatureIs (fetchTile header «sub_file» (gridOf grid) tile feature (now (map .entry))) (lent (now («node_counts» .entry)) (now (latitudes .entry)) (now (longitudes .entry)) (now («initial_latitudes» .entry)) (now («initial_longitudes» .entry)) (now (buffer .entry))) r (lent (now («node_counts» .exit)) (now (latitudes .exit)) (now (longitudes .exit)) (now («initial_latitudes» .exit)) (now («initial_longitudes» .exit)) (now (buffer .exit))) ⌝ }
+    ensures { λ r. ⌜ FeatureIs (fetchTile layout (intervalFound found) (gridOf grid) tile feature (now (map .entry))) (lent (now («node_counts» .entry)) (now (latitudes .entry)) (now (longitudes .entry)) (now («initial_latitudes» .entry)) (now («initial_longitudes» .entry)) (now (buffer .entry))) r (lent (now («node_counts» .exit)) (now (latitudes .exit)) (now (longitudes .exit)) (now («initial_latitudes» .exit)) (now («initial_longitudes» .exit)) (now (buffer .exit))) ⌝ }
 {
-    let layout = tile_layout::layout_of(header);
-    let place = feature_place::find_feature(map, header, sub_file, grid, tile, feature);
+    let place = feature_place::find_feature(map, layout, found, grid, tile, feature);
     let end = way_end(place);
     let End::At(at) = end else {
         return of_place(map, place, layout, buffer);

@@ -6,7 +6,7 @@ use mathlib.Core.List.{List, [], _∷_}
 use lib.Dec.{leb, ltb}
 use lib.IntN.{ℤ, natAbs, _-ℤ_}
 use lib.Signed.{leZ}
-use Rattle.parsing.specs.Parse.{Res, ok, no, Parser, andThen, mapRes, _>>=_, return, Maybe, none, some, nth}
+use Rattle.parsing.specs.Parse.{Res, ok, no, Parser, andThen, mapRes, _>>=_, return, Maybe, none, some}
 use Rattle.parsing.specs.Good.{Good, goods}
 use Rattle.byte_source.specs.BigEndian.{bigEndian, bytes}
 use Rattle.format.specs.Header.{Interval, between}
@@ -19,7 +19,7 @@ answer a = ok a 0
 abbrev pub answered : {A : Type 0} → Res A → Res A
 answered r = andThen r (λ a _. answer a)
 
--- what is asked of a sub file, or the answer for a missing one
+-- what is asked of a sub file by its interval, or the answer for a missing one
 abbrev pub inSubFile : {A : Type 0} → Maybe Interval → Res A → (Interval → Res A) → Res A
 inSubFile none r f = r
 inSubFile (some z) r f = f z
@@ -58,8 +58,8 @@ unfoldable pub gridTiles : Grid → Res ℕ
 gridTiles g = cond (goodGrid g) (answer (tilesOf g)) (no 14 [])
 
 -- none for a missing sub file, then 14 for a bad grid
-unfoldable pub tileCount : List Interval → ℕ → Grid → Res (Maybe ℕ)
-tileCount zs s g = inSubFile (nth zs s) (answer none) (λ z. mapRes some (gridTiles g))
+unfoldable pub tileCount : Maybe Interval → Grid → Res (Maybe ℕ)
+tileCount i g = inSubFile i (answer none) (λ z. mapRes some (gridTiles g))
 
 abbrev pub inGrid : Grid → ℤ → ℤ → Bool
 inGrid g x y = between (g .xMin) (g .xMax) x && between (g .yMin) (g .yMax) y
@@ -76,8 +76,8 @@ unfoldable pub gridIndex : Grid → ℤ → ℤ → Res (Maybe ℕ)
 gridIndex g x y = andThen (gridTiles g) (λ _ _. answer (indexIn g x y))
 
 -- none for a missing sub file first
-unfoldable pub tileIndexOf : List Interval → ℕ → Grid → ℤ → ℤ → Res (Maybe ℕ)
-tileIndexOf zs s g x y = inSubFile (nth zs s) (answer none) (λ z. gridIndex g x y)
+unfoldable pub tileIndexOf : Maybe Interval → Grid → ℤ → ℤ → Res (Maybe ℕ)
+tileIndexOf i g x y = inSubFile i (answer none) (λ z. gridIndex g x y)
 
 -- 5 bytes: the top bit is water, the other 39 bits are the tile's offset in the sub file
 pub record Entry : Type 0 where
@@ -100,8 +100,8 @@ entryIn d start g tile m =
     andThen (gridTiles g) (λ n _. cond (ltb tile n) (entry start m (entryAt d start tile)) (no 8 []))
 
 -- sub file (8) first
-unfoldable pub tileIndexEntry : Bool → List Interval → ℕ → Grid → ℕ → List ℕ → Res Entry
-tileIndexEntry d zs s g tile m = inSubFile (nth zs s) (no 8 []) (λ z. entryIn d (z .start) g tile m)
+unfoldable pub tileIndexEntry : Bool → Maybe Interval → Grid → ℕ → List ℕ → Res Entry
+tileIndexEntry d i g tile m = inSubFile i (no 8 []) (λ z. entryIn d (z .start) g tile m)
 
 -- a tile's interval and entry
 pub record Located : Type 0 where
@@ -115,8 +115,8 @@ locateIn d z g tile m =
     cond (leb (z .min) (z .max)) (answer (record { interval = z; entry = n })) (no 13 []))
 
 -- sub file (8) first
-unfoldable pub locate : Bool → List Interval → ℕ → Grid → ℕ → List ℕ → Res Located
-locate d zs s g tile m = inSubFile (nth zs s) (no 8 []) (λ z. locateIn d z g tile m)
+unfoldable pub locate : Bool → Maybe Interval → Grid → ℕ → List ℕ → Res Located
+locate d i g tile m = inSubFile i (no 8 []) (λ z. locateIn d z g tile m)
 
 -- the laws
 pub entry-good : (start : ℕ) → Good (entry start)

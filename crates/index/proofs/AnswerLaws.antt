@@ -33,11 +33,11 @@ entry-refused g e h = taken entryRefusal h refl
 pub ruleset refusals = (reading.refusals, grid-refused, entry-refused)
 
 module _ {B : Type 0} where
-  pub interval-at : (g : IntervalRead) (z : ZoomInterval) (r : Maybe Interval) (q : Res B) (f : Interval → Res B) (x : Res B) → intervalFound g ≡ r → g ≡ interval.At z → x ≡ f (intervalOf z) → x ≡ inSubFile r q f
-  interval-at g z r q f x e h p = p ∙ ap (λ s. inSubFile s q f) (ap intervalFound (sym h) ∙ e)
+  pub interval-at : (g : IntervalRead) (z : ZoomInterval) (q : Res B) (f : Interval → Res B) (x : Res B) → g ≡ interval.At z → x ≡ f (intervalOf z) → x ≡ inSubFile (intervalFound g) q f
+  interval-at g z q f x h p = p ∙ ap (λ s. inSubFile (intervalFound s) q f) (sym h)
 
-  pub interval-missing : (g : IntervalRead) (r : Maybe Interval) (q : Res B) (f : Interval → Res B) (x : Res B) → intervalFound g ≡ r → g ≡ interval.Missing → x ≡ q → x ≡ inSubFile r q f
-  interval-missing g r q f x e h p = p ∙ ap (λ s. inSubFile s q f) (ap intervalFound (sym h) ∙ e)
+  pub interval-missing : (g : IntervalRead) (q : Res B) (f : Interval → Res B) (x : Res B) → g ≡ interval.Missing → x ≡ q → x ≡ inSubFile (intervalFound g) q f
+  interval-missing g q f x h p = p ∙ ap (λ s. inSubFile (intervalFound s) q f) (sym h)
 
   -- a definition over a sub file, put through another
   pub file-then : {A : Type 0} (r : Maybe Interval) (q : Res A) (f : Interval → Res A) (g : A → ℕ → Res B) (x : Res B) → x ≡ inSubFile r (andThen q g) (λ z. andThen (f z) g) → x ≡ andThen (inSubFile r q f) g

@@ -1,13 +1,12 @@
 -- Where an entry of the tile index stands, and what it says.
-use Prim.Native.Nat.{ℕ, _+_, _*_, _/_, _%_, _^_, _<_}
+use Prim.Native.Nat.{ℕ, _+_, _*_, _%_, _^_, _<_}
 use native.Mathlib.Nat.{add-assoc}
 use native.Mathlib.Omega.{arith}
 use mathlib.Core.Path.{_≡_, refl, sym, ap, _∙_}
-use mathlib.Core.Bool.{Bool, cond}
+use mathlib.Core.Bool.{Bool, true, false, cond}
 use mathlib.Core.List.{List}
 use lib.Dec.{leb, lit≤}
 use lib.ListN.{length}
-use borrow.Author.Tests.{eq-eqb, ne-eqb}
 use Rattle.parsing.specs.Parse.{Res, ok, no, Parser, andThen}
 use Rattle.parsing.specs.Good.{ok-val, no-ok}
 use Rattle.parsing.proofs.Ends.{PastEnd, bind-end}
@@ -16,7 +15,6 @@ use Rattle.error.specs.declared.Refusal.{Refusal}
 use Rattle.arithmetic.specs.Cut.{cut}
 use Rattle.arithmetic.proofs.CutLaws.{at-cut}
 use Rattle.byte_source.proofs.ByteLaws.{bigEndian-end}
-use Rattle.format.specs.Header.{bit}
 use Rattle.format.specs.Index.{Grid as TileGrid, gridTiles, Entry, entry, entryAt}
 use Rattle.index.specs.Answers.{gridRes, heldEntry, heldRes, entryRes, entryRefusal}
 use Rattle.index.specs.declared.TileIndexEntry.{TileIndexEntry}
@@ -27,11 +25,11 @@ use Rattle.index.specs.declared.GridRead.the-variants as grid
 use Rattle.index.proofs.AnswerLaws.{reads, tiles-small, entry-refused}
 
 -- the debug flag
-pub bit-set : (b x y : ℕ) → b / 128 % 2 ≡ 1 → x ≡ cond (bit 7 b) x y
-bit-set b x y h = rw (eq-eqb (b / 128 % 2) 1 h)
+pub flag-set : (d : Bool) (x y : ℕ) → d ≡ true → x ≡ cond d x y
+flag-set d x y h = rw h
 
-pub bit-clear : (b x y : ℕ) → (b / 128 % 2 ≡ 1 → ⊥) → y ≡ cond (bit 7 b) x y
-bit-clear b x y h = rw (ne-eqb (b / 128 % 2) 1 h)
+pub flag-clear : (d : Bool) (x y : ℕ) → d ≡ false → y ≡ cond d x y
+flag-clear d x y h = rw h
 
 -- the entry's place
 pub place-is : (d : Bool) (size tile start r : ℕ) → size ≡ cond d 16 0 → r ≡ cut (start + (size + 5 * tile)) → r ≡ cut (entryAt d start tile)
@@ -52,7 +50,7 @@ entry-end start = bind-end _ (bigEndian-end 5 (lit≤ tt))
 pub entry-cut : {B : Type 0} (m : List ℕ) (start place at : ℕ) (f : Entry → ℕ → Res B) (x : Res B) → length m < 2 ^ 64 → at ≡ cut place → x ≡ andThen (entry start m at) f → x ≡ andThen (entry start m place) f
 entry-cut m start place at f x l h e = e ∙ ap (λ r. andThen r f) (ap (entry start m) h ∙ at-cut (entry-end start) m place l)
 
-pub ruleset entries = (reads, bit-set, bit-clear, place-is, tile-small, entry-held, entry-cut)
+pub ruleset entries = (reads, flag-set, flag-clear, place-is, tile-small, entry-held, entry-cut)
 
 -- for callers: what a definition reads at the entry's tile, the code may read at the place that it holds
 pub entry-ok : {B : Type 0} (g : EntryRead) (v : TileIndexEntry) (m : List ℕ) (r : Res Entry) (body : Bool → Parser B) (x : Res B) → entryRes g ≡ heldRes r → g ≡ read.Entry v → length m < 2 ^ 64 → ((water : Bool) → PastEnd (body water)) → x ≡ body (v .«is_water») m (v .«offset_abs») → x ≡ andThen r (λ e _. body (e .water) m (e .absolute))

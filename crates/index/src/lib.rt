@@ -11,9 +11,9 @@ ghost use lib.IntN.{natAbs, _-ℤ_};
 ghost use lib.Signed.{leZ};
 ghost use Rattle.arithmetic.specs.Cut.{cut};
 ghost use Rattle.parsing.specs.Parse.{nth};
-ghost use Rattle.format.specs.Header.{between, bit};
+ghost use Rattle.format.specs.Header.{between};
 ghost use Rattle.format.specs.Index.{holdsZoom, subFileForZoom, width, gridTiles, tileCount, inGrid, rowMajor, gridIndex, tileIndexOf, entry, entryAt, entryIn, tileIndexEntry};
-ghost use Rattle.types.specs.Types.{intervalOf, intervalsOf, debugOf, gridOf};
+ghost use Rattle.types.specs.Types.{intervalOf, intervalsOf, gridOf};
 ghost use Rattle.index.specs.Asked.{Ordered, Inside};
 ghost use Rattle.index.specs.Answers.{subFileNumber, intervalFound, gridRes, gridRefusal, countRes, indexRes, heldRes, entryRes, entryRefusal};
 
@@ -77,7 +77,7 @@ pub fn entry_refusal(got: EntryRead) -> Refusal
     }
 }
 
-// The zoom interval of a sub file.
+// The zoom interval of a sub file: all that the calls below need to know of it.
 pub fn interval_of(header: MapHeader, sub_file: usize) -> IntervalRead
     ensures { λ r. ⌜ intervalFound r ≡ nth (intervalsOf header) «sub_file» ⌝ }
 {
@@ -154,10 +154,9 @@ pub fn grid_tiles(grid: Grid) -> GridRead
 }
 
 // How many tiles, and so index entries, a sub file has.
-pub fn tile_count(header: MapHeader, sub_file: usize, grid: Grid) -> CountRead
-    ensures { λ r. ⌜ countRes r ≡ tileCount (intervalsOf header) «sub_file» (gridOf grid) ⌝ }
+pub fn tile_count(found: IntervalRead, grid: Grid) -> CountRead
+    ensures { λ r. ⌜ countRes r ≡ tileCount (intervalFound found) (gridOf grid) ⌝ }
 {
-    let found = interval_of(header, sub_file);
     let IntervalRead::At(_) = found else {
         return CountRead::Missing;
     };
@@ -211,10 +210,9 @@ fn grid_index(grid: Grid, x: i32, y: i32) -> IndexRead
 }
 
 // The number of the tile x, y in its sub file.
-pub fn tile_index_of(header: MapHeader, sub_file: usize, grid: Grid, x: i32, y: i32) -> IndexRead
-    ensures { λ r. ⌜ indexRes r ≡ tileIndexOf (intervalsOf header) «sub_file» (gridOf grid) x y ⌝ }
+pub fn tile_index_of(found: IntervalRead, grid: Grid, x: i32, y: i32) -> IndexRead
+    ensures { λ r. ⌜ indexRes r ≡ tileIndexOf (intervalFound found) (gridOf grid) x y ⌝ }
 {
-    let found = interval_of(header, sub_file);
     let IntervalRead::At(_) = found else {
         return IndexRead::Missing;
     };
@@ -222,21 +220,21 @@ pub fn tile_index_of(header: MapHeader, sub_file: usize, grid: Grid, x: i32, y: 
 }
 
 // What stands in front of the entries: in debug maps the index signature.
-fn signature_size(flags: u8) -> usize
-    ensures { λ r. ⌜ (r ≡ cond (bit 7 flags) 16 0) × (r ≤ 16) ⌝ }
+fn signature_size(debug: bool) -> usize
+    ensures { λ r. ⌜ (r ≡ cond debug 16 0) × (r ≤ 16) ⌝ }
 {
-    if flags / 128 % 2 == 1 {
+    if debug {
         return 16;
     }
     0
 }
 
 // Where the entry of a tile stands; 2^64 - 1 stands for any place behind it, and is behind every map's end too.
-fn entry_place(flags: u8, start: u64, tile: usize) -> usize
+fn entry_place(debug: bool, start: u64, tile: usize) -> usize
     requires { ⌜ tile < 2 ^ 32 ⌝ }
-    ensures { λ r. ⌜ r ≡ cut (entryAt (bit 7 flags) start tile) ⌝ }
+    ensures { λ r. ⌜ r ≡ cut (entryAt debug start tile) ⌝ }
 {
-    let size = signature_size(flags);
+    let size = signature_size(debug);
     arithmetic::saturating_add_usize(start as usize, size + 5 * tile)
 }
 
@@ -258,8 +256,8 @@ fn read_entry(map: &[u8], start: u64, at: usize) -> EntryRead
 }
 
 // The entry of a tile of the sub file with this start.
-pub fn entry_in(map: &[u8], flags: u8, start: u64, grid: Grid, tile: usize) -> EntryRead
-    ensures { λ r. ⌜ entryRes r ≡ heldRes (entryIn (bit 7 flags) start (gridOf grid) tile (now (map .entry))) ⌝ }
+pub fn entry_in(map: &[u8], debug: bool, start: u64, grid: Grid, tile: usize) -> EntryRead
+    ensures { λ r. ⌜ entryRes r ≡ heldRes (entryIn debug start (gridOf grid) tile (now (map .entry))) ⌝ }
 {
     let got = grid_tiles(grid);
     let GridRead::Tiles(tiles) = got else {
@@ -268,23 +266,21 @@ pub fn entry_in(map: &[u8], flags: u8, start: u64, grid: Grid, tile: usize) -> E
     if tiles <= tile as u64 {
         return EntryRead::Refused(Refusal::InvalidTileIndex);
     }
-    read_entry(map, start, entry_place(flags, start, tile))
+    read_entry(map, start, entry_place(debug, start, tile))
 }
 
 // The entry of a tile. Refused in this order: sub file (8), grid (14), tile (8), the map's end (1).
 pub fn tile_index_entry(
     map: &[u8],
-    header: MapHeader,
-    sub_file: usize,
+    debug: bool,
+    found: IntervalRead,
     grid: Grid,
     tile: usize,
 ) -> EntryRead
-    ensures { λ r. ⌜ entryRes r ≡ heldRes (tileIndexEntry (debugOf header) (intervalsOf header) «sub_file» (gridOf grid) tile (now (map .entry))) ⌝ }
+    ensures { λ r. ⌜ entryRes r ≡ heldRes (tileIndexEntry debug (intervalFound found) (gridOf grid) tile (now (map .entry))) ⌝ }
 {
-    let flags = header.flags;
-    let found = interval_of(header, sub_file);
     let IntervalRead::At(interval) = found else {
         return EntryRead::Refused(Refusal::InvalidTileIndex);
     };
-    entry_in(map, flags, interval.sub_file_start, grid, tile)
+    entry_in(map, debug, interval.sub_file_start, grid, tile)
 }

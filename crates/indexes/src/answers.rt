@@ -1,5 +1,6 @@
 // The index of the base map.
 use byte_source::SpanRead;
+use index::IntervalRead;
 use report::Words;
 use types::Grid;
 use types::MapHeader;
@@ -29,22 +30,21 @@ fn tag_words(map: &[u8], table: TagTable, k: usize) -> Words {
     report::push(words, questions::letter_of(kind))
 }
 
-fn grid_answer(letter: u8, map: &[u8], h: MapHeader, question: &[u8]) -> Words {
-    let sub_file = questions::number_at(question, 0) as usize;
+// Of a sub file with this interval.
+fn grid_answer(letter: u8, map: &[u8], debug: bool, found: IntervalRead, question: &[u8]) -> Words {
     let grid = grid_at(question);
     match letter {
-        b'n' => header_words::count_words(index::tile_count(h, sub_file, grid)),
+        b'n' => header_words::count_words(index::tile_count(found, grid)),
         b'i' => header_words::index_words(index::tile_index_of(
-            h,
-            sub_file,
+            found,
             grid,
             questions::int_at(question, 24),
             questions::int_at(question, 28),
         )),
         b'e' => header_words::entry_words(index::tile_index_entry(
             map,
-            h,
-            sub_file,
+            debug,
+            found,
             grid,
             questions::number_at(question, 24) as usize,
         )),
@@ -60,6 +60,16 @@ pub(crate) fn answer(letter: u8, map: &[u8], h: MapHeader, question: &[u8]) -> W
         )),
         b'p' => tag_words(map, h.poi_tags, tag_number(question)),
         b'w' => tag_words(map, h.way_tags, tag_number(question)),
-        _ => grid_answer(letter, map, h, question),
+        _ => {
+            let debug = h.flags / 128 % 2 == 1;
+            let sub_file = questions::number_at(question, 0) as usize;
+            grid_answer(
+                letter,
+                map,
+                debug,
+                index::interval_of(h, sub_file),
+                question,
+            )
+        }
     }
 }

@@ -17,15 +17,17 @@ use Rattle.format.specs.Lent.{Reply}
 use Rattle.format.specs.Rows.{rowsOfInterval, rowsUpto}
 use Rattle.format.specs.Tile.{Point, Head, Body}
 use Rattle.tag.specs.declared.Kind.{Kind}
-use Rattle.types.specs.Types.{endRes, intervalsOf, debugOf}
+use Rattle.types.specs.Types.{endRes, intervalsOf}
 use Rattle.tag_table.specs.Tables.{tableIn}
 use Rattle.types.specs.Beside.{viewOr}
 use Rattle.types.specs.declared.End.the-variants as end
-use Rattle.types.specs.declared.MapHeader.{MapHeader}
 use Rattle.header.specs.HeaderView.{mapHeader, emptyHeader, HeaderIs}
 use Rattle.header.specs.declared.HeaderRead.{HeaderRead}
 use Rattle.header.proofs.HeaderLaws.{intervals-back}
+use Rattle.index.specs.Answers.{intervalFound}
+use Rattle.index.specs.declared.IntervalRead.{IntervalRead}
 use Rattle.tile_layout.specs.TileLayout.{layoutOf, formatOf}
+use Rattle.tile_layout.specs.declared.TileLayout.{TileLayout}
 use Rattle.agreement.specs.Calls.{Answer, Call, run}
 use Rattle.agreement.specs.Book.{bookReplies}
 use Rattle.agreement.specs.Collected.{StoredTile, allExact, collect}
@@ -118,10 +120,17 @@ module _ (m : List ℕ) (small : length m < 2 ^ 64) (s : ℕ) (grid : Grid) (num
   abbrev rows : ℕ
   rows = rowsOfInterval (lowest s grid number h) (highest s grid number h)
 
+  -- what `layout_of` and `interval_of` give of the header
+  abbrev lay : TileLayout
+  lay = layoutOf (mapHeader h)
+
+  abbrev found : Maybe Interval
+  found = nth (intervalsOf (mapHeader h)) s
+
   kinds : HeaderKinds m h
   kinds = header-kinds m 0 h e (header-of m h e o)
 
-  located-as : locate (debugOf (mapHeader h)) (intervalsOf (mapHeader h)) s grid number m ≡ answered (C .entry h m (C .entryAt h))
+  located-as : locate (lay .debug) found grid number m ≡ answered (C .entry h m (C .entryAt h))
   unfolding locate
   located-as = ap (λ zs. inSubFile (nth zs s) (no 8 []) (λ z. locateIn (debug h) z grid number m)) (intervals-back h) ∙ located grid number (debug h) m (nth (h .intervals) s)
 
@@ -136,10 +145,10 @@ module _ (m : List ℕ) (small : length m < 2 ^ 64) (s : ℕ) (grid : Grid) (num
     collects low high p w = answered (mapRes (shownTile (debug h) (rowsOfInterval low high) p w) (collect (tileFormat (debug h) (rowsOfInterval low high) p w) m (l .entry .absolute)))
 
     -- collecting, by the header's value
-    collected-as : collectTile (mapHeader h) s grid number m ≡ collects (lowest s grid number h) (highest s grid number h) poiKinds wayKinds
+    collected-as : collectTile lay found grid number m ≡ collects (lowest s grid number h) (highest s grid number h) poiKinds wayKinds
     unfolding collectTile
     collected-as =
-        ap (λ r. andThen {B = Tile} r (λ l _. collectAt (layoutOf (mapHeader h)) (l .interval .min) (l .interval .max) (l .entry .absolute) m)) (located-as ∙ ap answered en)
+        ap (λ r. andThen {B = Tile} r (λ l _. collectAt lay (l .interval .min) (l .interval .max) (l .entry .absolute) m)) (located-as ∙ ap answered en)
         ∙ ap (λ p. collects (l .interval .min) (l .interval .max) p (tagKinds (tableOf (h .wayTags)) m)) (kinds .poi)
         ∙ ap (λ w. collects (l .interval .min) (l .interval .max) poiKinds w) (kinds .way)
         ∙ ap (λ a. collects a (l .interval .max) poiKinds wayKinds) low-is
@@ -151,10 +160,10 @@ module _ (m : List ℕ) (small : length m < 2 ^ 64) (s : ℕ) (grid : Grid) (num
         andThen (collect (tileFormat (debug h) (rowsOfInterval low high) p w) m (l .entry .absolute)) (λ t _.
         fetch.givenBy (debug h) (rowsOfInterval low high) p w (walkedName (tableOf (h .poiTags)) m) (walkedName (tableOf (h .wayTags)) m) (collected.fetch (collected.storedTile t (record { subFile = s; water = l .entry .water })) k))
 
-    fetched-as : (k : ℕ) → fetch.fetchTile (mapHeader h) s grid number k m ≡ fetchesAt k (lowest s grid number h) (highest s grid number h) poiKinds wayKinds
+    fetched-as : (k : ℕ) → fetch.fetchTile lay found grid number k m ≡ fetchesAt k (lowest s grid number h) (highest s grid number h) poiKinds wayKinds
     unfolding fetch.fetchTile
     fetched-as k =
-        ap (λ r. andThen {B = Fetched fetch.Feature} r (λ l _. fetch.fetchAt (layoutOf (mapHeader h)) k s l m)) (located-as ∙ ap answered en)
+        ap (λ r. andThen {B = Fetched fetch.Feature} r (λ l _. fetch.fetchAt lay k l m)) (located-as ∙ ap answered en)
         ∙ ap (λ p. fetchesAt k (l .interval .min) (l .interval .max) p (tagKinds (tableOf (h .wayTags)) m)) (kinds .poi)
         ∙ ap (λ w. fetchesAt k (l .interval .min) (l .interval .max) poiKinds w) (kinds .way)
         ∙ ap (λ a. fetchesAt k a (l .interval .max) poiKinds wayKinds) low-is
@@ -164,10 +173,10 @@ module _ (m : List ℕ) (small : length m < 2 ^ 64) (s : ℕ) (grid : Grid) (num
     opensAt low high zoom p w = answered (openStream (tileFormat (debug h) (rowsOfInterval low high) p w) (rowsUpto low high zoom) (record { subFile = s; water = l .entry .water }) m (l .entry .absolute))
 
     -- opening a stream, by the header's value
-    opened-as : (zoom : ℕ) → openTile (mapHeader h) s grid number zoom m ≡ answered (layout.openTile C h zoom m)
+    opened-as : (zoom : ℕ) → openTile lay found s grid number zoom m ≡ answered (layout.openTile C h zoom m)
     unfolding openTile
     opened-as zoom =
-        ap (λ r. andThen {B = State TileEnd} r (λ l _. answered (openStream (formatOf (layoutOf (mapHeader h)) (rowsOfInterval (l .interval .min) (l .interval .max)) m) (rowsUpto (l .interval .min) (l .interval .max) zoom) (record { subFile = s; water = l .entry .water }) m (l .entry .absolute)))) (located-as ∙ ap answered en)
+        ap (λ r. andThen {B = State TileEnd} r (λ l _. answered (openStream (formatOf lay (rowsOfInterval (l .interval .min) (l .interval .max)) m) (rowsUpto (l .interval .min) (l .interval .max) zoom) (record { subFile = s; water = l .entry .water }) m (l .entry .absolute)))) (located-as ∙ ap answered en)
         ∙ ap (λ p. opensAt (l .interval .min) (l .interval .max) zoom p (tagKinds (tableOf (h .wayTags)) m)) (kinds .poi)
         ∙ ap (λ w. opensAt (l .interval .min) (l .interval .max) zoom poiKinds w) (kinds .way)
         ∙ ap (λ a. opensAt a (l .interval .max) zoom poiKinds wayKinds) low-is
@@ -187,14 +196,14 @@ module _ (m : List ℕ) (small : length m < 2 ^ 64) (s : ℕ) (grid : Grid) (num
       D : Demand3 C m h l t
       D = demand-3 C (mapsforge-laws s grid number) m h l t whole
 
-      fresh-opens : (zoom : ℕ) → openTile (mapHeader h) s grid number zoom m ≡ answer (freshTile C h l t zoom)
+      fresh-opens : (zoom : ℕ) → openTile lay found s grid number zoom m ≡ answer (freshTile C h l t zoom)
       fresh-opens zoom = opened-as zoom ∙ ap answered (D .agrees zoom [] .opens)
 
       names : TagNames m h
       names = header-tags m 0 h e (header-of m h e o)
 
       -- what the fetches give is what the book is fed
-      fetched-is : (k : ℕ) → fetch.fetchTile (mapHeader h) s grid number k m ≡ fetchGives (collected.fetch (collectedTile (C .view h) t (C .end h l)) k)
+      fetched-is : (k : ℕ) → fetch.fetchTile lay found grid number k m ≡ fetchGives (collected.fetch (collectedTile (C .view h) t (C .end h l)) k)
       fetched-is k =
           fetched-as k
           ∙ ap (λ r. andThen {B = Fetched fetch.Feature} r (λ t _. fetch.givenBy (debug h) rows poiKinds wayKinds (walkedName (tableOf (h .poiTags)) m) (walkedName (tableOf (h .wayTags)) m) (collected.fetch (collected.storedTile t (C .end h l)) k))) c
@@ -203,7 +212,7 @@ module _ (m : List ℕ) (small : length m < 2 ^ 64) (s : ℕ) (grid : Grid) (num
       abbrev machine : (p w : List Kind) → State TileEnd → List Call → List (Reply ShownAnswer)
       machine p w a cs = shownReplies (run (stream (tileFormat (debug h) rows p w) m) a cs)
 
-      says : BookSays m s grid number (mapHeader h)
+      says : BookSays m s grid number lay found
       says = record {
         stored = h;
         place = l;
@@ -214,7 +223,7 @@ module _ (m : List ℕ) (small : length m < 2 ^ 64) (s : ℕ) (grid : Grid) (num
         streams = λ zoom q r. never-refused q (r ∙ fresh-opens zoom);
         replies = λ zoom st r cs rs k.
             let f : stateOf st ≡ freshTile C h l t zoom = ok-val (r ∙ fresh-opens zoom) in
-            called-run m (layoutOf (mapHeader h)) rows st cs rs k
+            called-run m lay rows st cs rs k
             ∙ ap (λ p. machine p (tagKinds (tableOf (h .wayTags)) m) (stateOf st) cs) (kinds .poi)
             ∙ ap (λ w. machine poiKinds w (stateOf st) cs) (kinds .way)
             ∙ ap (λ a. machine poiKinds wayKinds a cs) f
@@ -227,25 +236,29 @@ module _ (m : List ℕ) (small : length m < 2 ^ 64) (s : ℕ) (grid : Grid) (num
           never-refused (open-read.Refused r) d = no-ok d
 
     -- the tile as stored
-    from-tile : (v : Tile) → v .exact ≡ true → answer v ≡ collectTile (mapHeader h) s grid number m → BookSays m s grid number (mapHeader h)
+    from-tile : (v : Tile) → v .exact ≡ true → answer v ≡ collectTile lay found grid number m → BookSays m s grid number lay found
     from-tile v f q = go (collect (C .format h) m (l .entry .absolute)) refl (q ∙ collected-as)
       where
-        go : (r : Res (StoredTile (C .format h))) → collect (C .format h) m (l .entry .absolute) ≡ r → answer v ≡ answered (mapRes (shownTile (debug h) rows poiKinds wayKinds) r) → BookSays m s grid number (mapHeader h)
+        go : (r : Res (StoredTile (C .format h))) → collect (C .format h) m (l .entry .absolute) ≡ r → answer v ≡ answered (mapRes (shownTile (debug h) rows poiKinds wayKinds) r) → BookSays m s grid number lay found
         go (ok t past) c d = says t past c (ap (λ (a : Tile). a .exact) (sym (ok-val d)) ∙ f)
         go (no k y) c d = no-ok (sym d)
 
-  from-map : (v : Tile) → v .exact ≡ true → answer v ≡ collectTile (mapHeader h) s grid number m → BookSays m s grid number (mapHeader h)
+  from-map : (v : Tile) → v .exact ≡ true → answer v ≡ collectTile lay found grid number m → BookSays m s grid number lay found
   unfolding collectTile
-  from-map v f q = go (C .entry h m (C .entryAt h)) refl (q ∙ ap (λ r. andThen {B = Tile} r (λ l _. collectAt (layoutOf (mapHeader h)) (l .interval .min) (l .interval .max) (l .entry .absolute) m)) located-as)
+  from-map v f q = go (C .entry h m (C .entryAt h)) refl (q ∙ ap (λ r. andThen {B = Tile} r (λ l _. collectAt lay (l .interval .min) (l .interval .max) (l .entry .absolute) m)) located-as)
     where
-      go : (r : Res Located) → C .entry h m (C .entryAt h) ≡ r → answer v ≡ andThen {B = Tile} (answered r) (λ l _. collectAt (layoutOf (mapHeader h)) (l .interval .min) (l .interval .max) (l .entry .absolute) m) → BookSays m s grid number (mapHeader h)
+      go : (r : Res Located) → C .entry h m (C .entryAt h) ≡ r → answer v ≡ andThen {B = Tile} (answered r) (λ l _. collectAt lay (l .interval .min) (l .interval .max) (l .entry .absolute) m) → BookSays m s grid number lay found
       go (ok l x) en d = from-tile l x en v f q
       go (no k y) en d = no-ok (sym d)
 
 -- Demand 3, from the contracts
-pub book-says : (m : List ℕ) (subFile : ℕ) (grid : Grid) (number : ℕ) (h : HeaderRead) (t : TileRead) → Collected m subFile grid number h t → BookSays m subFile grid number (h .header)
-book-says m s grid number h t c =
+pub book-says : (m : List ℕ) (subFile : ℕ) (grid : Grid) (number : ℕ) (h : HeaderRead) (l : TileLayout) (i : IntervalRead) (t : TileRead) → Collected m subFile grid number h l i t → BookSays m subFile grid number l (intervalFound i)
+book-says m s grid number h l i t c =
     let k = stored m h (c .headerEnd) (c .header) (c .opens) in
-    let q : answer (t .tile) ≡ collectTile (h .header) s grid number m = ap (λ a. tileRes a (t .tile)) (sym (c .collects)) ∙ c .tile .answer in
-    subst (λ (a : MapHeader). BookSays m s grid number a) (sym (k .shown))
-    (from-map m (c .small) s grid number (k .header) (c .headerEnd) (k .opened) (t .tile) (c .exact) (q ∙ ap (λ a. collectTile a s grid number m) (k .shown)))
+    let a : l ≡ layoutOf (mapHeader (k .header)) = c .layout ∙ ap layoutOf (k .shown) in
+    let b : intervalFound i ≡ nth (intervalsOf (mapHeader (k .header))) s = c .interval ∙ ap (λ x. nth (intervalsOf x) s) (k .shown) in
+    let q : answer (t .tile) ≡ collectTile l (intervalFound i) grid number m = ap (λ a. tileRes a (t .tile)) (sym (c .collects)) ∙ c .tile .answer in
+    subst (λ x. BookSays m s grid number x (intervalFound i)) (sym a)
+    (subst (λ x. BookSays m s grid number (layoutOf (mapHeader (k .header))) x) (sym b)
+    (from-map m (c .small) s grid number (k .header) (c .headerEnd) (k .opened) (t .tile) (c .exact)
+    (q ∙ ap (λ x. collectTile x (intervalFound i) grid number m) a ∙ ap (λ x. collectTile (layoutOf (mapHeader (k .header))) x grid number m) b)))

@@ -5,14 +5,18 @@ use mathlib.Core.Path.{_≡_}
 use mathlib.Core.Bool.{true}
 use mathlib.Core.List.{List}
 use lib.ListN.{length}
-use Rattle.format.specs.Header.{Header, opened}
+use Rattle.parsing.specs.Parse.{Maybe, nth}
+use Rattle.format.specs.Header.{Interval, Header, opened}
 use Rattle.format.specs.Index.{Grid, Located}
 use Rattle.format.specs.Lent.{Reply}
 use Rattle.types.specs.declared.End.the-variants as end
-use Rattle.types.specs.declared.MapHeader.{MapHeader}
+use Rattle.types.specs.Types.{intervalsOf}
 use Rattle.header.specs.HeaderView.{HeaderIs}
 use Rattle.header.specs.declared.HeaderRead.{HeaderRead}
+use Rattle.index.specs.Answers.{intervalFound}
+use Rattle.index.specs.declared.IntervalRead.{IntervalRead}
 use Rattle.tile_layout.specs.TileLayout.{layoutOf}
+use Rattle.tile_layout.specs.declared.TileLayout.{TileLayout}
 use Rattle.agreement.specs.Calls.{Call}
 use Rattle.agreement.specs.Book.{bookReplies}
 use Rattle.agreement.specs.Collected.{StoredTile, fetch}
@@ -33,14 +37,16 @@ use Rattle.map_agreement.specs.TileView.{tileCollection, fetchGives}
 use Rattle.map_agreement.specs.MapsforgeMap.{mapsforge}
 use Rattle.map_agreement.specs.Called.{Called}
 
--- the contracts of `from_source` and `read_tile`, neither of which was refused; and collecting said that every stored size is the
--- decoded length. (No lent map has 2 ^ 64 bytes.)
-pub record Collected (m : List ℕ) (subFile : ℕ) (grid : Grid) (number : ℕ) (h : HeaderRead) (t : TileRead) : Type 0 where
+-- the contracts of `from_source`, `layout_of`, `interval_of` and `read_tile`: the map opened, the tile collected, and collecting said that
+-- every stored size is the decoded length. (No lent map has 2 ^ 64 bytes.)
+pub record Collected (m : List ℕ) (subFile : ℕ) (grid : Grid) (number : ℕ) (h : HeaderRead) (l : TileLayout) (i : IntervalRead) (t : TileRead) : Type 0 where
   pub small : length m < 2 ^ 64
   pub header : HeaderIs (opened m) h
   pub headerEnd : ℕ
   pub opens : h .end ≡ end.At headerEnd
-  pub tile : TileIs (collectTile (h .header) subFile grid number m) t
+  pub layout : l ≡ layoutOf (h .header)
+  pub interval : intervalFound i ≡ nth (intervalsOf (h .header)) subFile
+  pub tile : TileIs (collectTile l (intervalFound i) grid number m) t
   pub collects : t .answer ≡ tile-answer.Collected
   pub exact : t .tile .exact ≡ true
 
@@ -50,15 +56,15 @@ pub data Opens : OpenRead → Type 0 where
 
 -- The map's stored header and the tile as stored, of which demand 3 holds; what the book is fed is what the fetches give; the stream
 -- opens; and whatever a program calls, it sees the book's replies.
-pub record BookSays (m : List ℕ) (subFile : ℕ) (grid : Grid) (number : ℕ) (h : MapHeader) : Type 0 where
+pub record BookSays (m : List ℕ) (subFile : ℕ) (grid : Grid) (number : ℕ) (l : TileLayout) (i : Maybe Interval) : Type 0 where
   pub stored : Header
   pub place : Located
   pub tile : StoredTile (mapsforge subFile grid number .format stored)
   pub collects : MapCollects (mapsforge subFile grid number) m stored place tile
   pub demand-3 : Demand3 (mapsforge subFile grid number) m stored place tile
-  pub fetches : (k : ℕ) (lent left : FetchLists) (r : Fetch) → FeatureIs (fetchTile h subFile grid number k m) lent r left
+  pub fetches : (k : ℕ) (lent left : FetchLists) (r : Fetch) → FeatureIs (fetchTile l i grid number k m) lent r left
       → FeatureIs (fetchGives (fetch (collectedTile (mapsforge subFile grid number .view stored) tile (mapsforge subFile grid number .end stored place)) k)) lent r left
-  pub streams : (zoom : ℕ) (o : OpenRead) → openRes o ≡ openTile h subFile grid number zoom m → Opens o
-  pub replies : (zoom : ℕ) (s : Stream) → openRes (open-read.Stream s) ≡ openTile h subFile grid number zoom m
-      → (cs : List Call) (rs : List (Reply ShownAnswer)) → Called m (layoutOf h) s cs rs
+  pub streams : (zoom : ℕ) (o : OpenRead) → openRes o ≡ openTile l i subFile grid number zoom m → Opens o
+  pub replies : (zoom : ℕ) (s : Stream) → openRes (open-read.Stream s) ≡ openTile l i subFile grid number zoom m
+      → (cs : List Call) (rs : List (Reply ShownAnswer)) → Called m l s cs rs
       → rs ≡ bookReplies tileCollection (collectedTile (mapsforge subFile grid number .view stored) tile (mapsforge subFile grid number .end stored place)) (rowsAt (mapsforge subFile grid number) stored zoom) cs

@@ -15,17 +15,17 @@ use Rattle.error.specs.declared.Refusal.{Refusal}
 use Rattle.arithmetic.specs.Cut.{cut}
 use Rattle.arithmetic.proofs.CutLaws.{at-cut}
 use Rattle.utils.specs.Vbe.{unsigned}
+use Rattle.format.specs.Header.{Interval}
 use Rattle.format.specs.Index.{answer, answered, Grid, Located, locate}
 use Rattle.format.specs.Kinds.{tagKinds}
 use Rattle.format.specs.Rows.{rowsOfInterval, intervalTable, intervalHead, pointsOf, waysOf}
 use Rattle.format.specs.Tile as format
 use Rattle.format.specs.Tile.{Row, zoomTable, debugSignature, tileHead, Point, point}
-use Rattle.types.specs.Types.{optionalSpan, endRes, endRefusal, intervalsOf, debugOf}
+use Rattle.types.specs.Types.{optionalSpan, endRes, endRefusal}
 use Rattle.types.specs.Beside.{Beside, viewOr}
 use Rattle.types.specs.declared.End.{End}
 use Rattle.types.specs.declared.End.the-variants as end
 use Rattle.types.specs.declared.OptionalSpan.{OptionalSpan}
-use Rattle.types.specs.declared.MapHeader.{MapHeader}
 use Rattle.types.proofs.BesideLaws.{beside-no}
 use Rattle.tag_table.specs.Tables.{tableIn}
 use Rattle.fields.specs.Fields.{optionalSpanRes, optionalSpanRefusal}
@@ -46,7 +46,7 @@ use Rattle.tile_place.proofs.PlaceLaws.{located-ordered}
 use Rattle.agreement.specs.Collected.{Way, way, allExact, StoredTile, collect, cutPlace}
 use Rattle.agreement.proofs.CollectLaws.{collect-cut, collect-end}
 use Rattle.agreement.proofs.TileFormatLaws.{tile-laws, tileHead-end, head-end}
-use Rattle.tile_layout.specs.TileLayout.{layoutOf, formatOf}
+use Rattle.tile_layout.specs.TileLayout.{formatOf}
 use Rattle.tile_layout.specs.declared.TileLayout.{TileLayout}
 use Rattle.tile_walk.specs.TileWalk.{waysRes, waysRefusal, exactWays, ForAllRows}
 use Rattle.tile_walk.specs.declared.WaysRead.{WaysRead}
@@ -245,16 +245,16 @@ module _ (l : TileLayout) (low high : ℕ) (m : List ℕ) (at : ℕ) (o : low �
 pub ruleset collects = (needs, no-head, no-walk, collect-done)
 
 -- a tile's place, first
-module _ (h : MapHeader) (s : ℕ) (grid : Grid) (number : ℕ) (m : List ℕ) (g : PlaceRead) (q : placeRes g ≡ mapRes placeOf (locate (debugOf h) (intervalsOf h) s grid number m)) where
+module _ (l : TileLayout) (i : Maybe Interval) (grid : Grid) (number : ℕ) (m : List ℕ) (g : PlaceRead) (q : placeRes g ≡ mapRes placeOf (locate (l .debug) i grid number m)) where
   abbrev located : Res Located
-  located = locate (debugOf h) (intervalsOf h) s grid number m
+  located = locate (l .debug) i grid number m
 
-  pub no-place : (x y : Refusal) (r : TileRead) → g ≡ place.Refused x → y ≡ placeRefusal g → r .tile ≡ emptyTile → r .answer ≡ tile-answer.Refused y → TileIs (collectTile h s grid number m) r
+  pub no-place : (x y : Refusal) (r : TileRead) → g ≡ place.Refused x → y ≡ placeRefusal g → r .tile ≡ emptyTile → r .answer ≡ tile-answer.Refused y → TileIs (collectTile l i grid number m) r
   unfolding collectTile
   no-place x y r e w t a = is-refused y _ r t a (ap refused (w ∙ ap placeRefusal e) ∙ go located (ap placeRes (sym e) ∙ q))
     where
-      go : (k : Res Located) → refused x ≡ mapRes placeOf k → refused x ≡ andThen k (λ l _. collectAt (layoutOf h) (l .interval .min) (l .interval .max) (l .entry .absolute) m)
-      go (ok l e) d = no-ok d
+      go : (k : Res Located) → refused x ≡ mapRes placeOf k → refused x ≡ andThen k (λ a _. collectAt l (a .interval .min) (a .interval .max) (a .entry .absolute) m)
+      go (ok a e) d = no-ok d
       go (no k v) d = cc
 
   module _ (p : TilePlace) (e : g ≡ place.At p) where
@@ -262,20 +262,19 @@ module _ (h : MapHeader) (s : ℕ) (grid : Grid) (number : ℕ) (m : List ℕ) (
     place-ordered = go located refl (ap placeRes (sym e) ∙ q)
       where
         go : (k : Res Located) → located ≡ k → ok p 0 ≡ mapRes placeOf k → p .«min_zoom» ≤ p .«max_zoom»
-        go (ok l e) f d = rw (ok-val d) (located-ordered (debugOf h) (intervalsOf h) s grid number m l e f)
+        go (ok a e) f d = rw (ok-val d) (located-ordered (l .debug) i grid number m a e f)
         go (no k v) f d = no-ok (sym d)
 
-    pub at-place : (l : TileLayout) (r : TileRead) → length m < 2 ^ 64 → l ≡ layoutOf h → TileIs (collectAt l (p .«min_zoom») (p .«max_zoom») (p .at) m) r → TileIs (collectTile h s grid number m) r
+    pub at-place : (r : TileRead) → length m < 2 ^ 64 → TileIs (collectAt l (p .«min_zoom») (p .«max_zoom») (p .at) m) r → TileIs (collectTile l i grid number m) r
     unfolding collectTile
-    at-place l r small w b = go located (ap placeRes (sym e) ∙ q)
+    at-place r small b = go located (ap placeRes (sym e) ∙ q)
       where
-        go : (k : Res Located) → ok p 0 ≡ mapRes placeOf k → TileIs (andThen k (λ a _. collectAt (layoutOf h) (a .interval .min) (a .interval .max) (a .entry .absolute) m)) r
+        go : (k : Res Located) → ok p 0 ≡ mapRes placeOf k → TileIs (andThen k (λ a _. collectAt l (a .interval .min) (a .interval .max) (a .entry .absolute) m)) r
         go (ok a n) d =
             subst (λ (x : Res Tile). TileIs x r)
-            (ap (λ x. collectAt x (p .«min_zoom») (p .«max_zoom») (p .at) m) w
-            ∙ ap (λ (x : TilePlace). collectAt (layoutOf h) (x .«min_zoom») (x .«max_zoom») (x .at) m) (ok-val d)
-            ∙ ap (λ x. answered (mapRes (tileOf (layoutOf h) (rowsOfInterval (a .interval .min) (a .interval .max)) m) x))
-            (at-cut (collect-end (formatOf (layoutOf h) (rowsOfInterval (a .interval .min) (a .interval .max)) m) (tileHead-end (debugOf h) (rowsOfInterval (a .interval .min) (a .interval .max)))) m (a .entry .absolute) small)) b
+            (ap (λ (x : TilePlace). collectAt l (x .«min_zoom») (x .«max_zoom») (x .at) m) (ok-val d)
+            ∙ ap (λ x. answered (mapRes (tileOf l (rowsOfInterval (a .interval .min) (a .interval .max)) m) x))
+            (at-cut (collect-end (formatOf l (rowsOfInterval (a .interval .min) (a .interval .max)) m) (tileHead-end (l .debug) (rowsOfInterval (a .interval .min) (a .interval .max)))) m (a .entry .absolute) small)) b
         go (no k v) d = no-ok (sym d)
 
 pub ruleset places = (needs, no-place, place-ordered, at-place)

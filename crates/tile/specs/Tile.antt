@@ -6,23 +6,23 @@ use mathlib.Core.Bool.{Bool, false}
 use mathlib.Core.Path.{_≡_}
 use mathlib.Core.List.{List}
 use lib.ListN.{length, replicate}
-use Rattle.parsing.specs.Parse.{Res, Parser, _>>=_, andThen, mapRes, many, none}
+use Rattle.parsing.specs.Parse.{Res, Parser, _>>=_, andThen, mapRes, many, Maybe, none}
 use Rattle.error.specs.Refusals.{refused}
 use Rattle.arithmetic.specs.Cut.{cut}
+use Rattle.format.specs.Header.{Interval}
 use Rattle.format.specs.Index.{answer, answered, Grid, locate}
 use Rattle.format.specs.Kinds.{tagKinds}
 use Rattle.format.specs.Rows.{rowsOfInterval, intervalTable}
 use Rattle.format.specs.Tile as format
 use Rattle.format.specs.Tile.{Row, debugSignature, point}
-use Rattle.types.specs.Types.{optionalSpan, intervalsOf, debugOf}
+use Rattle.types.specs.Types.{optionalSpan}
 use Rattle.types.specs.Beside.{viewOr}
-use Rattle.types.specs.declared.MapHeader.{MapHeader}
 use Rattle.tag_table.specs.Tables.{tableIn}
 use Rattle.blocks.specs.Blocks.{emptyRow, filledRows}
 use Rattle.tag.specs.declared.Kind.{Kind}
 use Rattle.agreement.specs.TileFormat.{tileFormat}
 use Rattle.agreement.specs.Collected.{allExact, StoredTile, collect}
-use Rattle.tile_layout.specs.TileLayout.{layoutOf, formatOf}
+use Rattle.tile_layout.specs.TileLayout.{formatOf}
 use Rattle.tile_layout.specs.declared.TileLayout.{TileLayout}
 use Rattle.tile_walk.specs.TileWalk.{exactWays}
 use Rattle.tile.specs.declared.Tile.{Tile}
@@ -62,10 +62,10 @@ abbrev pub collectAt : TileLayout → (low high at : ℕ) → List ℕ → Res T
 collectAt l low high at m = answered (mapRes (tileOf l (rowsOfInterval low high) m) (collect (formatOf l (rowsOfInterval low high) m) m at))
 
 -- sub file (8), grid (14), tile (8), entry (1), interval (13), then the tile's bytes
-unfoldable pub collectTile : MapHeader → (subFile : ℕ) → Grid → (number : ℕ) → List ℕ → Res Tile
-collectTile h s g t m =
-    andThen (locate (debugOf h) (intervalsOf h) s g t m) (λ l _.
-    collectAt (layoutOf h) (l .interval .min) (l .interval .max) (l .entry .absolute) m)
+unfoldable pub collectTile : TileLayout → Maybe Interval → Grid → (number : ℕ) → List ℕ → Res Tile
+collectTile l i g t m =
+    andThen (locate (l .debug) i g t m) (λ a _.
+    collectAt l (a .interval .min) (a .interval .max) (a .entry .absolute) m)
 
 abbrev pub tileRes : TileAnswer → Tile → Res Tile
 tileRes tile-answer.Collected t = answer t

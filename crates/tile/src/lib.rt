@@ -4,6 +4,7 @@ use blocks::ZoomRow;
 use blocks::ZoomTableRead;
 use error::Refusal;
 use fields::OptionalSpanRead;
+use index::IntervalRead;
 use tile_head::TileHeadRead;
 use tile_layout::TileLayout;
 use tile_place::PlaceRead;
@@ -11,11 +12,11 @@ use tile_place::TilePlace;
 use tile_walk::WaysRead;
 use types::End;
 use types::Grid;
-use types::MapHeader;
 use types::OptionalSpan;
 ghost use mathlib.Core.Path.{_≡_};
 ghost use Prim.Native.Nat.{_≤_};
 ghost use Rattle.types.specs.Types.{gridOf};
+ghost use Rattle.index.specs.Answers.{intervalFound};
 ghost use Rattle.blocks.specs.Blocks.{TableIs};
 ghost use Rattle.tile_walk.specs.TileWalk.{waysRes, ForAllRows};
 ghost use Rattle.tile.specs.Tile.{emptyTile, rowsRead, walked, collectAt, collectTile, TileIs};
@@ -122,15 +123,14 @@ fn collect_at(map: &[u8], place: TilePlace, layout: TileLayout) -> TileRead
 // Refused in this order: sub file (8), grid (14), tile (8), entry (1), interval (13), then as the tile's bytes are read.
 pub fn read_tile(
     map: &[u8],
-    header: MapHeader,
-    sub_file: usize,
+    layout: TileLayout,
+    found: IntervalRead,
     grid: Grid,
     tile: usize,
 ) -> TileRead
-    ensures { λ r. ⌜ TileIs (collectTile header «sub_file» (gridOf grid) tile (now (map .entry))) r ⌝ }
+    ensures { λ r. ⌜ TileIs (collectTile layout (intervalFound found) (gridOf grid) tile (now (map .entry))) r ⌝ }
 {
-    let layout = tile_layout::layout_of(header);
-    let got = tile_place::find_tile(map, header, sub_file, grid, tile);
+    let got = tile_place::find_tile(map, layout.debug, found, grid, tile);
     let PlaceRead::At(place) = got else {
         return refused_tile(tile_place::place_refusal(got));
     };

@@ -6,7 +6,7 @@ use mathlib.Core.List.{List, []}
 use lib.Dec.{leb}
 use borrow.Author.Needs.{needs}
 use borrow.Author.Tests.{le-leb, lt-leb, leb-true}
-use Rattle.parsing.specs.Parse.{Res, ok, no, andThen, mapRes, Maybe, none, some, nth}
+use Rattle.parsing.specs.Parse.{Res, ok, no, andThen, mapRes, Maybe, none, some}
 use Rattle.parsing.specs.Good.{ok-val, no-ok}
 use Rattle.parsing.proofs.Steps.{then-then}
 use Rattle.error.specs.Refusals.{refused}
@@ -75,10 +75,7 @@ located-in z (ok a n) l e h = go (leb (z .min) (z .max)) refl h
     go true f h = subst (λ (y : Located). y .interval .min ≤ y .interval .max) (ok-val h) (leb-true (z .min) (z .max) f)
     go false f h = no-ok h
 
-pub located-ordered : (d : Bool) (zs : List Interval) (s : ℕ) (grid : Grid) (tile : ℕ) (m : List ℕ) (l : Located) (e : ℕ) → locate d zs s grid tile m ≡ ok l e → l .interval .min ≤ l .interval .max
+pub located-ordered : (d : Bool) (i : Maybe Interval) (grid : Grid) (tile : ℕ) (m : List ℕ) (l : Located) (e : ℕ) → locate d i grid tile m ≡ ok l e → l .interval .min ≤ l .interval .max
 unfolding locate locateIn
-located-ordered d zs s grid tile m l e h = go (nth zs s) h
-  where
-    go : (r : Maybe Interval) → inSubFile r (no 8 []) (λ z. andThen (entryIn d (z .start) grid tile m) (λ n _. cond (leb (z .min) (z .max)) (answer (record { interval = z; entry = n })) (no 13 []))) ≡ ok l e → l .interval .min ≤ l .interval .max
-    go none h = no-ok h
-    go (some z) h = located-in z (entryIn d (z .start) grid tile m) l e h
+located-ordered d none grid tile m l e h = no-ok h
+located-ordered d (some z) grid tile m l e h = located-in z (entryIn d (z .start) grid tile m) l e h

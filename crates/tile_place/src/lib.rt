@@ -3,13 +3,12 @@ use error::Refusal;
 use index::EntryRead;
 use index::IntervalRead;
 use types::Grid;
-use types::MapHeader;
 use types::ZoomInterval;
 ghost use mathlib.Core.Path.{_≡_};
 ghost use Rattle.parsing.specs.Parse.{mapRes};
-ghost use Rattle.format.specs.Header.{bit};
 ghost use Rattle.format.specs.Index.{locateIn, locate};
-ghost use Rattle.types.specs.Types.{intervalOf, intervalsOf, debugOf, gridOf};
+ghost use Rattle.types.specs.Types.{intervalOf, gridOf};
+ghost use Rattle.index.specs.Answers.{intervalFound};
 ghost use Rattle.tile_place.specs.Places.{placeOf, placeRes, placeRefusal};
 
 // `at` is the tile's first byte; 2^64 - 1 stands for any place behind it, and is behind every map's end too.
@@ -35,12 +34,12 @@ pub fn place_refusal(got: PlaceRead) -> Refusal
 }
 
 // In the sub file of this interval.
-fn place_in(map: &[u8], flags: u8, interval: ZoomInterval, grid: Grid, tile: usize) -> PlaceRead
-    ensures { λ r. ⌜ placeRes r ≡ mapRes placeOf (locateIn (bit 7 flags) (intervalOf interval) (gridOf grid) tile (now (map .entry))) ⌝ }
+fn place_in(map: &[u8], debug: bool, interval: ZoomInterval, grid: Grid, tile: usize) -> PlaceRead
+    ensures { λ r. ⌜ placeRes r ≡ mapRes placeOf (locateIn debug (intervalOf interval) (gridOf grid) tile (now (map .entry))) ⌝ }
 {
     let min_zoom = interval.min_zoom_level;
     let max_zoom = interval.max_zoom_level;
-    let got = index::entry_in(map, flags, interval.sub_file_start, grid, tile);
+    let got = index::entry_in(map, debug, interval.sub_file_start, grid, tile);
     let EntryRead::Entry(entry) = got else {
         return PlaceRead::Refused(index::entry_refusal(got));
     };
@@ -56,19 +55,11 @@ fn place_in(map: &[u8], flags: u8, interval: ZoomInterval, grid: Grid, tile: usi
 }
 
 // Refused in this order: sub file (8), grid (14), tile (8), the map's end (1), interval (13).
-pub fn find_tile(
-    map: &[u8],
-    header: MapHeader,
-    sub_file: usize,
-    grid: Grid,
-    tile: usize,
-) -> PlaceRead
-    ensures { λ r. ⌜ placeRes r ≡ mapRes placeOf (locate (debugOf header) (intervalsOf header) «sub_file» (gridOf grid) tile (now (map .entry))) ⌝ }
+pub fn find_tile(map: &[u8], debug: bool, found: IntervalRead, grid: Grid, tile: usize) -> PlaceRead
+    ensures { λ r. ⌜ placeRes r ≡ mapRes placeOf (locate debug (intervalFound found) (gridOf grid) tile (now (map .entry))) ⌝ }
 {
-    let flags = header.flags;
-    let found = index::interval_of(header, sub_file);
     let IntervalRead::At(interval) = found else {
         return PlaceRead::Refused(Refusal::InvalidTileIndex);
     };
-    place_in(map, flags, interval, grid, tile)
+    place_in(map, debug, interval, grid, tile)
 }

@@ -6,16 +6,15 @@ use mathlib.Core.Path.{_≡_}
 use mathlib.Core.List.{List}
 use lib.Ieee.{Float}
 use lib.ListN.{take}
-use Rattle.parsing.specs.Parse.{Res, andThen}
+use Rattle.parsing.specs.Parse.{Res, andThen, Maybe}
 use Rattle.error.specs.Refusals as error
 use Rattle.error.specs.Refusals.{numberOf, valuesOf}
 use Rattle.arithmetic.specs.Cut.{cut}
+use Rattle.format.specs.Header.{Interval}
 use Rattle.format.specs.Index.{answer, answered, Grid, locate}
 use Rattle.format.specs.Rows.{rowsOfInterval, rowsUpto, intervalHead, pointsOf, waysOf}
 use Rattle.format.specs.Streamed.{streamedPoint, streamedFields}
 use Rattle.format.specs.Tile.{TileHead, Point, Head, Body}
-use Rattle.types.specs.Types.{intervalsOf, debugOf}
-use Rattle.types.specs.declared.MapHeader.{MapHeader}
 use Rattle.tagged.specs.TagIds.{tagIds, noTags}
 use Rattle.fields.specs.Fields.{streamedSpan}
 use Rattle.poi.specs.Poi.{poiOf, emptyPoi}
@@ -28,7 +27,8 @@ use Rattle.way_head.specs.declared.WayHead.{WayHead}
 use Rattle.agreement.specs.Calls.{Answer, gotPoint, gotHead, gotBody, declined, ended, refused, Step, plain, lending, mapAnswer}
 use Rattle.agreement.specs.Stream.{State, idle, waits, openStream}
 use Rattle.agreement.specs.TileFormat as tile
-use Rattle.tile_layout.specs.TileLayout.{layoutOf, formatOf}
+use Rattle.tile_layout.specs.TileLayout.{formatOf}
+use Rattle.tile_layout.specs.declared.TileLayout.{TileLayout}
 use Rattle.visit.specs.declared.TileEnd.{TileEnd}
 use Rattle.visit.specs.declared.Turn.{Turn}
 use Rattle.visit.specs.declared.Turn.the-variants as turn
@@ -59,11 +59,11 @@ abbrev pub stateOf : Stream → State tile.TileEnd
 stateOf s = turnState (s .turn) (endOf (s .end))
 
 -- opening: sub file (8), grid (14), tile (8), entry (1), interval (13), then the tile's head
-unfoldable pub openTile : MapHeader → (subFile : ℕ) → Grid → (number zoom : ℕ) → List ℕ → Res (State tile.TileEnd)
-openTile h s g t zoom m =
-    andThen (locate (debugOf h) (intervalsOf h) s g t m) (λ l _.
-    answered (openStream (formatOf (layoutOf h) (rowsOfInterval (l .interval .min) (l .interval .max)) m)
-    (rowsUpto (l .interval .min) (l .interval .max) zoom) (record { subFile = s; water = l .entry .water }) m (l .entry .absolute)))
+unfoldable pub openTile : TileLayout → Maybe Interval → (subFile : ℕ) → Grid → (number zoom : ℕ) → List ℕ → Res (State tile.TileEnd)
+openTile l i s g t zoom m =
+    andThen (locate (l .debug) i g t m) (λ a _.
+    answered (openStream (formatOf l (rowsOfInterval (a .interval .min) (a .interval .max)) m)
+    (rowsUpto (a .interval .min) (a .interval .max) zoom) (record { subFile = s; water = a .entry .water }) m (a .entry .absolute)))
 
 abbrev pub openRes : OpenRead → Res (State tile.TileEnd)
 openRes (open-read.Stream s) = answer (stateOf s)

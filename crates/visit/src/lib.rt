@@ -1,6 +1,7 @@
 // visit.rs: a tile's stream, as a chain of calls. Each call takes the stream that the last one left and gives it back; a refused call
 // gives it back as it was.
 use error::Refusal;
+use index::IntervalRead;
 use poi::Poi;
 use tagged::TagIds;
 use tile_head::TileHeadRead;
@@ -9,7 +10,6 @@ use tile_place::PlaceRead;
 use tile_place::TilePlace;
 use types::End;
 use types::Grid;
-use types::MapHeader;
 use types::OptionalPosition;
 use types::OptionalSpan;
 use way::WayBody;
@@ -19,6 +19,7 @@ ghost use mathlib.Core.Path.{_≡_};
 ghost use mathlib.Core.List.{List};
 ghost use Prim.Native.Nat.{ℕ, _≤_, _<_};
 ghost use Rattle.types.specs.Types.{gridOf};
+ghost use Rattle.index.specs.Answers.{intervalFound};
 ghost use Rattle.poi.specs.Poi.{emptyPoi};
 ghost use Rattle.way_data.specs.Reply.{lent};
 ghost use Rattle.agreement.specs.Calls.{next as nextCall, accept as acceptCall, decline as declineCall};
@@ -351,16 +352,17 @@ fn open_at(map: &[u8], place: TilePlace, debug: bool, sub_file: usize, zoom: u8)
 // entry (1), interval (13), then as the tile's head is read.
 pub fn open(
     map: &[u8],
-    header: MapHeader,
+    layout: TileLayout,
+    found: IntervalRead,
     sub_file: usize,
     grid: Grid,
     tile: usize,
     zoom: u8,
 ) -> OpenRead
-    ensures { λ r. ⌜ openRes r ≡ openTile header «sub_file» (gridOf grid) tile zoom (now (map .entry)) ⌝ }
+    ensures { λ r. ⌜ openRes r ≡ openTile layout (intervalFound found) «sub_file» (gridOf grid) tile zoom (now (map .entry)) ⌝ }
 {
-    let debug = header.flags / 128 % 2 == 1;
-    let got = tile_place::find_tile(map, header, sub_file, grid, tile);
+    let debug = layout.debug;
+    let got = tile_place::find_tile(map, debug, found, grid, tile);
     let PlaceRead::At(place) = got else {
         return OpenRead::Refused(tile_place::place_refusal(got));
     };

@@ -1,5 +1,5 @@
 -- What a definition by cases says of a value whose case is known, and values in front of an answer's words.
-use Prim.Native.Nat.{ℕ, _<_, _^_}
+use Prim.Native.Nat.{ℕ, _%_, _≤_, _<_, _^_}
 use lib.IntN.{ℤ}
 use lib.Signed.{mag}
 use mathlib.Core.Bool.{Bool}
@@ -11,6 +11,8 @@ use mir.Val.{SFits, toZ, ofZ}
 use mir.Facts.{toZ-ofZ}
 use borrow.Author.Needs.{sfits-of}
 use borrow.Author.Needs.{needs}
+use borrow.Author.Tests.{lt-ltb, le-ltb}
+use Rattle.index.specs.declared.IntervalRead.the-variants as interval-read
 use Rattle.error.specs.declared.Lengths.{Lengths}
 use Rattle.byte_source.specs.declared.Span.{Span}
 use Rattle.byte_source.specs.declared.SpanRead.{SpanRead}
@@ -23,7 +25,7 @@ use Rattle.tile_layout.specs.declared.TileLayout.{TileLayout}
 use Rattle.column.specs.declared.ColumnRead.{ColumnRead}
 use Rattle.column.specs.declared.ColumnRead.the-variants as column
 use Rattle.wire.specs.Verdicts.{behind, valuesIn, endValues, endPlace, spanWords, byteWords, placeWords}
-use Rattle.wire.specs.Index.{found, kindWord, tagWords, columnSigned}
+use Rattle.wire.specs.Index.{found, kindWord, tagWords, columnSigned, intervalIn}
 use Rattle.wire.specs.Header.{headerWords, layoutIn}
 use Rattle.wire.specs.Wire.{truth}
 use Rattle.wire.specs.declared.SpanWords.{SpanWords}
@@ -59,6 +61,19 @@ pub layout-made : (l : List ℕ) (t : Bool) → t ≡ truth (getD l 0 0) → _�
 }) (layoutIn l)
 layout-made l t h = rw h refl
 
+-- an interval as it is taken
+pub interval-there : (l : List ℕ) → 0 < getD l 0 0 → interval-read.At (record {
+  «base_zoom_level» = getD l 1 0 % 256;
+  «min_zoom_level» = getD l 2 0 % 256;
+  «max_zoom_level» = getD l 3 0 % 256;
+  «sub_file_start» = getD l 4 0;
+  «sub_file_size» = getD l 5 0;
+}) ≡ intervalIn l
+interval-there l h = rw (lt-ltb 0 (getD l 0 0) h)
+
+pub interval-absent : (l : List ℕ) → getD l 0 0 ≤ 0 → interval-read.Missing ≡ intervalIn l
+interval-absent l h = rw (le-ltb 0 (getD l 0 0) h)
+
 pub header-made : (h : MapHeader) (e : End) (v : Lengths) (n f k : ℕ) (p : PlaceWords) (z : ByteWords) (a b d : SpanWords) → f ≡ h .flags → k ≡ h .«num_zoom_intervals» → v ≡ endValues e → n ≡ endPlace e → p ≡ placeWords (h .«map_start_position») → z ≡ byteWords (h .«start_zoom_level») → a ≡ spanWords (h .«language_preference») → b ≡ spanWords (h .comment) → d ≡ spanWords (h .«created_by») →
     v .list1 ∷ v .list2 ∷ v .list3 ∷ v .list4 ∷ v .list5 ∷ v .buffer ∷ n ∷ h .«header_size» ∷ h .«file_version» ∷ h .«file_size» ∷ h .«creation_date» ∷ h .«tile_size» ∷ f ∷
     h .magic .start ∷ h .magic .size ∷ h .projection .start ∷ h .projection .size ∷ p .present ∷ z .present ∷ z .value ∷
@@ -90,5 +105,7 @@ module _ (a b : PlaceWords) (h : a ≡ b) where
 pub ruleset parts = (needs, values-behind, span-present, span-start, span-size, place-present, place-latitude, place-longitude)
 
 pub ruleset headers = (needs, header-made, layout-made)
+
+pub ruleset intervals = (needs, interval-there, interval-absent)
 
 pub ruleset tags = (needs, tag-value, tag-refused)

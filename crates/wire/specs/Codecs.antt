@@ -1,5 +1,6 @@
 -- Encode, then decode, is the identity: how the other program reads the words, and that nothing is lost on the way.
-use Prim.Native.Nat.{ℕ, _-_}
+use Prim.Native.Nat.{ℕ, _-_, _%_, _<_}
+use native.Mathlib.Omega.{arith}
 use lib.IntN.{ℤ, pos}
 use mathlib.Core.Bool.{Bool, true, false, cond}
 use mathlib.Core.Path.{_≡_, refl, sym, ap, _∙_}
@@ -22,6 +23,8 @@ use Rattle.text.specs.declared.Written.{Written}
 use Rattle.text.specs.declared.Written.the-variants as written
 use Rattle.tag.specs.declared.Kind.{Kind}
 use Rattle.tag.specs.declared.Kind.the-variants as kind
+use Rattle.types.specs.declared.ZoomInterval.{ZoomInterval}
+use Rattle.index.specs.declared.IntervalRead.the-variants as interval-read
 use Rattle.index.specs.declared.CountRead.{CountRead}
 use Rattle.index.specs.declared.CountRead.the-variants as count
 use Rattle.index.specs.declared.IndexRead.{IndexRead}
@@ -46,7 +49,7 @@ use Rattle.tile_layout.specs.declared.TileLayout.{TileLayout}
 use Rattle.wire.specs.Wire.{Wire, Decoder, Codec, word, truth, there}
 use Rattle.wire.specs.Verdicts.{valuesIn, endNumber, endValues, endPlace, spanWords, byteWords, placeWords, nowhere}
 use Rattle.wire.specs.Header.{headerWire, layoutWords, layoutIn}
-use Rattle.wire.specs.Index.{Named, kindWord, countWire, indexWire, subFileWire, intervalWire, entryWire, tagWire, textWire, columnWire, longitudeWire, wayDataWire}
+use Rattle.wire.specs.Index.{Named, kindWord, countWire, indexWire, subFileWire, intervalWire, intervalRow, intervalIn, entryWire, tagWire, textWire, columnWire, longitudeWire, wayDataWire}
 
 -- a refusal by its number and values
 abbrev pub refusals : Lengths → List Refusal
@@ -145,16 +148,24 @@ subFile-back (sub-file.Refused r) = settled sub-file.Refused sub-file.None r
 pub subFileCodec : Codec subFileWire
 subFileCodec = record { decode = subFileIn; back = subFile-back }
 
-abbrev pub intervalIn : Wire → IntervalAnswer
-intervalIn w = settle interval.Refused (there (word w 0 6) interval.Missing (interval.At (record { «base_zoom_level» = word w 0 7; «min_zoom_level» = word w 0 8; «max_zoom_level» = word w 0 9; «sub_file_start» = word w 0 10; «sub_file_size» = word w 0 11 }))) w
+abbrev pub intervalAnswerIn : Wire → IntervalAnswer
+intervalAnswerIn w = settle interval.Refused (there (word w 1 0) interval.Missing (interval.At (record { «base_zoom_level» = word w 1 1; «min_zoom_level» = word w 1 2; «max_zoom_level» = word w 1 3; «sub_file_start» = word w 1 4; «sub_file_size» = word w 1 5 }))) w
 
-pub interval-back : (a : IntervalAnswer) → intervalIn (intervalWire a) ≡ a
+pub interval-back : (a : IntervalAnswer) → intervalAnswerIn (intervalWire a) ≡ a
 interval-back interval.Missing = refl
 interval-back (interval.At z) = refl
 interval-back (interval.Refused r) = settled interval.Refused interval.Missing r
 
+-- and what was handed out of an interval is taken as the same one; its zooms are bytes
+pub interval-taken : (z : ZoomInterval) → z .«base_zoom_level» < 256 → z .«min_zoom_level» < 256 → z .«max_zoom_level» < 256 → intervalIn (intervalRow (interval.At z)) ≡ interval-read.At z
+interval-taken z a b c =
+    let x : z .«base_zoom_level» % 256 ≡ z .«base_zoom_level» = omega arith in
+    let y : z .«min_zoom_level» % 256 ≡ z .«min_zoom_level» = omega arith in
+    let w : z .«max_zoom_level» % 256 ≡ z .«max_zoom_level» = omega arith in
+    rw (x, y, w) refl
+
 pub intervalCodec : Codec intervalWire
-intervalCodec = record { decode = intervalIn; back = interval-back }
+intervalCodec = record { decode = intervalAnswerIn; back = interval-back }
 
 abbrev pub entryIn : Wire → EntryRead
 entryIn w = settle entry.Refused (entry.Entry (record { «is_water» = truth (word w 0 6); offset = word w 0 7; «offset_abs» = word w 0 8 })) w

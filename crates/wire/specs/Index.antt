@@ -1,9 +1,10 @@
 -- The answers about sub files, tiles, tags, texts, columns and a way's data as words.
-use Prim.Native.Nat.{ℕ}
+use Prim.Native.Nat.{ℕ, _%_}
 use lib.IntN.{ℤ, pos}
 use mathlib.Core.Bool.{cond}
 use mathlib.Core.List.{List, [], _∷_}
 use lib.Ieee.{Float}
+use lib.ListN.{getD}
 use Rattle.error.specs.Refusals.{numberOf}
 use Rattle.error.specs.declared.Lengths.{Lengths}
 use Rattle.byte_source.specs.declared.SpanRead.{SpanRead}
@@ -12,6 +13,8 @@ use Rattle.text.specs.declared.Written.{Written}
 use Rattle.text.specs.declared.Written.the-variants as written
 use Rattle.tag.specs.declared.Kind.{Kind}
 use Rattle.tag.specs.declared.Kind.the-variants as kind
+use Rattle.index.specs.declared.IntervalRead.{IntervalRead}
+use Rattle.index.specs.declared.IntervalRead.the-variants as interval-read
 use Rattle.index.specs.declared.CountRead.{CountRead}
 use Rattle.index.specs.declared.CountRead.the-variants as count
 use Rattle.index.specs.declared.IndexRead.{IndexRead}
@@ -28,7 +31,7 @@ use Rattle.on_map.specs.declared.SubFileAnswer.{SubFileAnswer}
 use Rattle.on_map.specs.declared.SubFileAnswer.the-variants as sub-file
 use Rattle.way_measure.specs.declared.WayDataRead.{WayDataRead}
 use Rattle.way_measure.specs.declared.WayDataRead.the-variants as way-data
-use Rattle.wire.specs.Wire.{Wire}
+use Rattle.wire.specs.Wire.{Wire, wire, there}
 use Rattle.wire.specs.Verdicts.{valuesIn, noValues, behind, nowhere}
 
 -- a number that may be absent
@@ -71,9 +74,27 @@ intervalNumber (interval.At z) = 0
 intervalNumber (interval.Refused r) = numberOf r
 
 abbrev pub intervalWords : IntervalAnswer → List ℕ
-intervalWords interval.Missing = behind noValues (0 ∷ 0 ∷ 0 ∷ 0 ∷ 0 ∷ 0 ∷ [])
-intervalWords (interval.At z) = behind noValues (1 ∷ z .«base_zoom_level» ∷ z .«min_zoom_level» ∷ z .«max_zoom_level» ∷ z .«sub_file_start» ∷ z .«sub_file_size» ∷ [])
-intervalWords (interval.Refused r) = behind (valuesIn r) (0 ∷ 0 ∷ 0 ∷ 0 ∷ 0 ∷ 0 ∷ [])
+intervalWords interval.Missing = behind noValues []
+intervalWords (interval.At z) = behind noValues []
+intervalWords (interval.Refused r) = behind (valuesIn r) []
+
+-- a sub file's interval as other calls take it: 1, base, lowest and highest zoom, start, size; all 0 if there is none
+abbrev pub intervalRow : IntervalAnswer → List ℕ
+intervalRow interval.Missing = 0 ∷ 0 ∷ 0 ∷ 0 ∷ 0 ∷ 0 ∷ []
+intervalRow (interval.At z) = 1 ∷ z .«base_zoom_level» ∷ z .«min_zoom_level» ∷ z .«max_zoom_level» ∷ z .«sub_file_start» ∷ z .«sub_file_size» ∷ []
+intervalRow (interval.Refused r) = 0 ∷ 0 ∷ 0 ∷ 0 ∷ 0 ∷ 0 ∷ []
+
+-- as it is taken: a zoom is one byte
+abbrev pub intervalIn : List ℕ → IntervalRead
+intervalIn l =
+    there (getD l 0 0) interval-read.Missing
+    (interval-read.At (record {
+      «base_zoom_level» = getD l 1 0 % 256;
+      «min_zoom_level» = getD l 2 0 % 256;
+      «max_zoom_level» = getD l 3 0 % 256;
+      «sub_file_start» = getD l 4 0;
+      «sub_file_size» = getD l 5 0;
+    }))
 
 abbrev pub entryNumber : EntryRead → ℕ
 entryNumber (entry.Entry e) = 0
@@ -159,7 +180,7 @@ abbrev pub subFileWire : SubFileAnswer → Wire
 subFileWire a = plain (subFileNumber a) (subFileWords a)
 
 abbrev pub intervalWire : IntervalAnswer → Wire
-intervalWire a = plain (intervalNumber a) (intervalWords a)
+intervalWire a = wire (intervalNumber a) (intervalWords a ∷ intervalRow a ∷ []) [] []
 
 abbrev pub entryWire : EntryRead → Wire
 entryWire a = plain (entryNumber a) (entryWords a)

@@ -8,6 +8,7 @@ use error::Refusal;
 use index::CountRead;
 use index::EntryRead;
 use index::IndexRead;
+use index::IntervalRead;
 use on_map::IntervalAnswer;
 use on_map::SubFileAnswer;
 use tag::Kind;
@@ -19,6 +20,7 @@ use types::OptionalByte;
 use types::OptionalPosition;
 use types::OptionalSpan;
 use types::TagTable;
+use types::ZoomInterval;
 use way_measure::WayDataRead;
 ghost use mathlib.Core.Path.{_≡_};
 ghost use mathlib.Core.Bool.{cond};
@@ -26,7 +28,7 @@ ghost use Prim.Native.Nat.{_<_, _^_};
 ghost use lib.Signed.{mag};
 ghost use Rattle.wire.specs.Wire.{truth};
 ghost use Rattle.wire.specs.Verdicts.{oneValue, noValues, valuesIn, endNumber, endValues, endPlace, spanWords, byteWords, placeWords};
-ghost use Rattle.wire.specs.Index.{found, countNumber, countWords, indexNumber, indexWords, subFileNumber, subFileWords, intervalNumber, intervalWords, entryNumber, entryWords, kindWord, tagNumber, tagWords, textNumber, textWords, columnNumber, columnWords, columnSigned, longitudeNumber, longitudeWords, longitudeDegrees, wayDataNumber, wayDataWords};
+ghost use Rattle.wire.specs.Index.{found, countNumber, countWords, indexNumber, indexWords, subFileNumber, subFileWords, intervalNumber, intervalWords, intervalRow, intervalIn, entryNumber, entryWords, kindWord, tagNumber, tagWords, textNumber, textWords, columnNumber, columnWords, columnSigned, longitudeNumber, longitudeWords, longitudeDegrees, wayDataNumber, wayDataWords};
 ghost use Rattle.wire.specs.Header.{headerWords, headerDegrees, layoutWords, layoutIn};
 
 pub struct SpanWords {
@@ -245,18 +247,26 @@ pub fn interval_number(got: IntervalAnswer) -> u64
     }
 }
 
-pub fn interval_words(got: IntervalAnswer) -> [u64; 12]
+pub fn interval_words(got: IntervalAnswer) -> [u64; 6]
     ensures { λ r. ⌜ r ≡ intervalWords got ⌝ }
 {
     match got {
-        IntervalAnswer::Missing => [0; 12],
+        IntervalAnswer::Missing => [0; 6],
+        IntervalAnswer::At(_) => [0; 6],
+        IntervalAnswer::Refused(r) => {
+            let v = values_of(r);
+            [v.list1, v.list2, v.list3, v.list4, v.list5, v.buffer]
+        }
+    }
+}
+
+// A sub file's interval, as other calls take it.
+pub fn interval_row(got: IntervalAnswer) -> [u64; 6]
+    ensures { λ r. ⌜ r ≡ intervalRow got ⌝ }
+{
+    match got {
+        IntervalAnswer::Missing => [0; 6],
         IntervalAnswer::At(z) => [
-            0,
-            0,
-            0,
-            0,
-            0,
-            0,
             1,
             z.base_zoom_level as u64,
             z.min_zoom_level as u64,
@@ -264,24 +274,23 @@ pub fn interval_words(got: IntervalAnswer) -> [u64; 12]
             z.sub_file_start,
             z.sub_file_size,
         ],
-        IntervalAnswer::Refused(r) => {
-            let v = values_of(r);
-            [
-                v.list1,
-                v.list2,
-                v.list3,
-                v.list4,
-                v.list5,
-                v.buffer,
-                0,
-                0,
-                0,
-                0,
-                0,
-                0,
-            ]
-        }
+        IntervalAnswer::Refused(_) => [0; 6],
     }
+}
+
+pub fn interval_in(words: [u64; 6]) -> IntervalRead
+    ensures { λ r. ⌜ r ≡ intervalIn words ⌝ }
+{
+    if 0 < words[0] {
+        return IntervalRead::At(ZoomInterval {
+            base_zoom_level: (words[1] % 256) as u8,
+            min_zoom_level: (words[2] % 256) as u8,
+            max_zoom_level: (words[3] % 256) as u8,
+            sub_file_start: words[4],
+            sub_file_size: words[5],
+        });
+    }
+    IntervalRead::Missing
 }
 
 pub fn entry_number(got: EntryRead) -> u64

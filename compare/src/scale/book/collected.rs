@@ -2,12 +2,11 @@
 
 use super::super::check::Checked;
 use super::super::lent::{Fronts, Lengths};
-use super::super::library::{self, degree, Fetch, Lists, Nodes, BYTE, WORD};
+use super::super::library::{self, degree, Ask, Fetch, Lists, Nodes, BYTE, WORD};
 use super::super::opening::Opening;
 use super::Counts;
 use crate::differences::tile::Opened;
 use crate::tiles::feature::{Feature, Text, Tile};
-use crate::tiles::Address;
 
 /// A feature: what was fetched of it, its lists, and its texts as a stream gives them.
 pub struct Fetched {
@@ -20,8 +19,7 @@ pub struct Fetched {
 /// "the collected tile, as collecting and fetches with long enough lists give it, together with its texts
 /// as stored, its sub file and its entry's water mark".
 pub struct Collected<'a> {
-    pub map: &'a [u8],
-    pub at: Address,
+    pub ask: Ask<'a>,
     features: Vec<Fetched>,
     /// The zoom table: points and ways of each row.
     rows: Vec<[u64; 2]>,
@@ -41,13 +39,8 @@ pub struct Book<'a> {
 
 impl<'a> Collected<'a> {
     /// None if the tile is not in the theorem, which is counted.
-    pub fn of(
-        map: &'a [u8],
-        opening: &Opening,
-        at: &Address,
-        counts: &mut Counts,
-    ) -> Checked<Option<Self>> {
-        let tile = library::collect(map, at);
+    pub fn of(opening: &Opening, ask: Ask<'a>, counts: &mut Counts) -> Checked<Option<Self>> {
+        let tile = library::collect(&ask);
         if tile.got.number != 0 {
             counts.refused += 1;
             return Ok(None);
@@ -58,22 +51,19 @@ impl<'a> Collected<'a> {
             return Ok(None);
         }
         let file = opening.as_ref().map_err(|_| "collects although it does not open")?;
-        let stored = Opened::of(file).streamed_tile(at);
+        let stored = Opened::of(file).streamed_tile(&ask.at);
         let stored = stored.map_err(|refusal| format!("collects, but document 01: {refusal:?}"))?;
-        let features = (0..points + ways)
-            .map(|k| fetched(map, at, k, &stored))
-            .collect::<Checked<Vec<_>>>()?;
-        let interval = library::interval(map, at.sub_file as usize).words;
+        let features =
+            (0..points + ways).map(|k| fetched(&ask, k, &stored)).collect::<Checked<Vec<_>>>()?;
         let rows = (0..rows as usize).map(|k| [tile.points[k], tile.ways[k]]).collect();
         Ok(Some(Collected {
-            map,
-            at: *at,
+            ask,
             features,
             rows,
             points: points as usize,
-            water: library::index_entry(map, at).words[6],
-            lowest: interval[8] as u8,
-            highest: interval[9] as u8,
+            water: library::index_entry(&ask).words[6],
+            lowest: ask.interval[2] as u8,
+            highest: ask.interval[3] as u8,
         }))
     }
 
@@ -108,14 +98,14 @@ impl<'a> Collected<'a> {
 }
 
 /// Fetches feature `k`: first with no lists, which tells the lengths.
-fn fetched(map: &[u8], at: &Address, k: u64, stored: &Tile) -> Checked<Fetched> {
-    let (first, _) = fetch(map, at, k, [0; 6]);
+fn fetched(ask: &Ask, k: u64, stored: &Tile) -> Checked<Fetched> {
+    let (first, _) = fetch(ask, k, [0; 6]);
     let lengths: Lengths = match first.got.number {
         0 => [0; 6],
         15 => std::array::from_fn(|k| first.got.words[k] as usize),
         number => return Err(format!("feature {k} is not fetched: {number}")),
     };
-    let (fetch, fronts) = fetch(map, at, k, lengths);
+    let (fetch, fronts) = fetch(ask, k, lengths);
     if fetch.got.number != 0 {
         return Err(format!("feature {k} is not fetched: {}", fetch.got.number));
     }
@@ -129,7 +119,7 @@ fn fetched(map: &[u8], at: &Address, k: u64, stored: &Tile) -> Checked<Fetched> 
     Ok(Fetched { fetch, fronts, texts })
 }
 
-fn fetch(map: &[u8], at: &Address, k: u64, lengths: Lengths) -> (Fetch, Fronts) {
+fn fetch(ask: &Ask, k: u64, lengths: Lengths) -> (Fetch, Fronts) {
     let [counts, a, b, c, d, buffer] = lengths;
     let mut fronts = Fronts {
         counts: vec![WORD; counts],
@@ -139,6 +129,6 @@ fn fetch(map: &[u8], at: &Address, k: u64, lengths: Lengths) -> (Fetch, Fronts) 
     let [latitudes, longitudes, initial_latitudes, initial_longitudes] = &mut fronts.floats;
     let nodes = Nodes { counts: &mut fronts.counts, latitudes, longitudes };
     let lists = Lists { nodes, initial_latitudes, initial_longitudes, buffer: &mut fronts.buffer };
-    let fetch = library::fetch(map, at, k, lists);
+    let fetch = library::fetch(ask, k, lists);
     (fetch, fronts)
 }

@@ -3,7 +3,7 @@
 use super::super::check::{front, Call as Kind, Check, Checked};
 use super::super::collected::stored_part;
 use super::super::lent::{suffice, Fronts, Lengths, Lent};
-use super::super::library::{self, Layout, Next, State};
+use super::super::library::{self, Next, State};
 use super::collected::{Book, Fetched};
 use crate::random::Random;
 
@@ -51,7 +51,6 @@ impl Both {
 /// A tile at a zoom, and the calls of the list so far.
 pub struct Run<'a> {
     pub book: Book<'a>,
-    pub layout: Layout,
     pub check: &'a mut Check,
     pub lent: &'a mut Lent,
     pub calls: Vec<Call>,
@@ -112,9 +111,9 @@ impl Run<'_> {
     /// way k − P (the first is 0), which then waits; else the end, with sub file and water mark."
     fn next(&mut self, both: &mut Both) -> Checked {
         let before = both.stream;
-        let ours = library::stream_next(self.book.tile.map, &self.layout, &mut both.stream);
-        let (points, ways) = (self.book.points, self.book.ways);
         let tile = self.book.tile;
+        let ours = library::stream_next(tile.ask.map, &tile.ask.layout, &mut both.stream);
+        let (points, ways) = (self.book.points, self.book.ways);
         let page = &mut both.page;
         if page.waits {
             self.check.refused(Kind::StreamNext, &ours.got, &[16])?;
@@ -132,7 +131,7 @@ impl Run<'_> {
             return Ok(());
         }
         let mut words = [0; 21];
-        (words[6], words[19], words[20]) = (2, tile.at.sub_file, tile.water());
+        (words[6], words[19], words[20]) = (2, tile.ask.at.sub_file, tile.water());
         self.check.got(Kind::StreamNext, &ours.got, 0, &words)?;
         self.nothing(&ours)
     }
@@ -147,7 +146,7 @@ impl Run<'_> {
         let lengths = lengths(lend, &needed);
         let before = both.stream;
         let lists = self.lent.lists(lengths);
-        let ours = library::stream_accept(tile.map, &mut both.stream, lists.nodes);
+        let ours = library::stream_accept(tile.ask.map, &mut both.stream, lists.nodes);
         let refusal = match waiting {
             None => vec![16],
             Some(_) if !suffice(&lengths, &needed) => {
@@ -229,7 +228,7 @@ impl Run<'_> {
         let text = &feature.texts[k];
         let there = feature.fetch.got.words[11 + 6 * k];
         self.check.same("whether a text is there", u64::from(text.is_some()), there)?;
-        let part = stored_part(self.check, self.book.tile.map, &ours[at..at + 3], text)?;
+        let part = stored_part(self.check, self.book.tile.ask.map, &ours[at..at + 3], text)?;
         words[at..at + 3].copy_from_slice(&part);
         Ok(())
     }

@@ -1,6 +1,7 @@
 use borrow.Author.Needs.{needs}
 use Rattle.wire.specs.Index.{entryNumber, entryWords}
-use Rattle.exports.proofs.CallLaws.{crosses}
+use Rattle.exports.specs.Calls.{EntryOf}
+use Rattle.exports.proofs.CallLaws.{crosses-at}
 use Rattle.exports.proofs.mapsforge_index_entry.Statement.{statement}
 use Rattle.exports.proofs.mapsforge_index_entry.Tie as tie
 
@@ -11,4 +12,6 @@ mapsforge-index-entry-spec =
     (λ c κs. search needs)
     (λ c κs. search needs)
     (λ c κs. search needs)
-    (λ c. search (needs, crosses entryNumber entryWords, c .before .before .tile-index-entry .ensures, c .before .entry-words .ensures, c .entry-number .ensures)))
+    (λ c κs. search needs)
+    (λ c κs. search needs)
+    (λ c. crosses-at _ _ _ _ (c .before .before .before .before .before .before .before .before .fits .x-min) (c .before .before .before .before .before .before .before .before .fits .y-min) (c .before .before .before .before .before .before .before .before .fits .x-max) (c .before .before .before .before .before .before .before .before .fits .y-max) _ _ _ _ (c .before .before .before .before .before .layout-in .ensures) (c .before .before .before .interval-in .ensures) entryNumber entryWords (EntryOf _ _) (c .before .before .tile-index-entry .result) _ _ (c .before .before .tile-index-entry .ensures) (c .entry-number .ensures) (c .before .entry-words .ensures)))

@@ -1,6 +1,6 @@
 use borrow.Author.Needs.{needs}
-use Rattle.wire.specs.Index.{intervalNumber, intervalWords}
-use Rattle.exports.proofs.CallLaws.{crosses}
+use Rattle.wire.specs.Index.{intervalNumber, intervalWords, intervalRow}
+use Rattle.exports.proofs.CallLaws.{crosses-two}
 use Rattle.exports.proofs.mapsforge_interval.Statement.{statement}
 use Rattle.exports.proofs.mapsforge_interval.Tie as tie
 
@@ -11,4 +11,5 @@ mapsforge-interval-spec =
     (λ c κs. search needs)
     (λ c κs. search needs)
     (λ c κs. search needs)
-    (λ c. search (needs, crosses intervalNumber intervalWords, c .before .before .interval .ensures, c .before .interval-words .ensures, c .interval-number .ensures)))
+    (λ c κs. search needs)
+    (λ c. search (needs, crosses-two intervalNumber intervalWords intervalRow, c .before .before .before .interval .ensures, c .before .before .interval-words .ensures, c .before .interval-row .ensures, c .interval-number .ensures)))

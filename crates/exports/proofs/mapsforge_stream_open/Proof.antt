@@ -1,4 +1,5 @@
 use borrow.Author.Needs.{needs}
+use Rattle.exports.specs.Calls.{StreamOf}
 use Rattle.exports.proofs.CallLaws.{opened-crosses}
 use Rattle.exports.proofs.mapsforge_stream_open.Statement.{statement}
 use Rattle.exports.proofs.mapsforge_stream_open.Tie as tie
@@ -11,4 +12,6 @@ mapsforge-stream-open-spec =
     (λ c κs. search needs)
     (λ c κs. search needs)
     (λ c κs. search needs)
-    (λ c. search (needs, opened-crosses, c .before .before .before .before .«open» .ensures, c .before .before .opened-state .ensures, c .before .opened-words .ensures, c .opened-number .ensures)))
+    (λ c κs. search needs)
+    (λ c κs. search needs)
+    (λ c. opened-crosses _ _ _ _ (c .before .before .before .before .before .before .before .before .before .before .fits .x-min) (c .before .before .before .before .before .before .before .before .before .before .fits .y-min) (c .before .before .before .before .before .before .before .before .before .before .fits .x-max) (c .before .before .before .before .before .before .before .before .before .before .fits .y-max) _ _ _ _ (c .before .before .before .before .before .before .before .layout-in .ensures) (c .before .before .before .before .before .interval-in .ensures) (StreamOf _ _ _ _) (c .before .before .before .before .«open» .result) _ _ _ _ (c .before .before .before .before .«open» .ensures) (c .opened-number .ensures) (c .before .opened-words .ensures) (c .before .before .opened-state .ensures)))

@@ -7,7 +7,6 @@ find-feature-spec =
     tie.close
     (tie.spec
     (λ c κs. search finds)
-    (λ c κs. search finds)
     (λ c. search finds)
     (λ c. search finds)
     (λ c κs. search finds)

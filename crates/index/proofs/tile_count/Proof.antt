@@ -10,7 +10,6 @@ tile-count-spec =
     (tie.spec
     (search reads)
     (search reads)
-    (search reads)
     (λ c. search reads)
     (search reads)
     (search reads)

@@ -10,7 +10,6 @@ tile-index-entry-spec =
     (tie.spec
     (search entries)
     (search entries)
-    (search entries)
     (λ c. search entries)
     (search entries)
     (λ c. search entries))

@@ -11,7 +11,6 @@ read-tile-spec =
     (search places)
     (search places)
     (search places)
-    (search places)
     (λ c. search places)
     (λ c κs. search places)
     (λ c. search places))

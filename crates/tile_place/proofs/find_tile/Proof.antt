@@ -10,7 +10,6 @@ find-tile-spec =
     (tie.spec
     (search places)
     (search places)
-    (search places)
     (λ c. search places)
     (search places)
     (λ c. search places))

@@ -8,13 +8,10 @@ pub interval-words-spec : {M : Type 1} → statement M
 interval-words-spec =
     tie.close
     (tie.spec
-    (λ c. search (needs, values-behind, by-case intervalWords))
-    (λ c. search (needs, values-behind, by-case intervalWords))
-    (λ c. search (needs, values-behind, by-case intervalWords))
-    (λ c. search (needs, values-behind, by-case intervalWords))
-    (λ c. search (needs, values-behind, by-case intervalWords))
-    (λ c. search (needs, values-behind, by-case intervalWords))
-    (λ c κs. search (needs, values-behind, by-case intervalWords))
+    (search (needs, values-behind, by-case intervalWords))
+    (search (needs, values-behind, by-case intervalWords))
+    (search (needs, values-behind, by-case intervalWords))
+    (search (needs, values-behind, by-case intervalWords))
     (λ c. search (needs, values-behind, by-case intervalWords))
     (λ c. search (needs, values-behind, by-case intervalWords))
     (λ c. search (needs, values-behind, by-case intervalWords)))

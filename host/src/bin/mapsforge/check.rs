@@ -10,18 +10,23 @@ use std::io::{self, IsTerminal, Write};
 use std::time::{Duration, Instant};
 
 pub const HELP: &str = "\
-mapsforge check MAP [--all]
+mapsforge check MAP [--all] [--skip-empty]
 
 Reads every tile of every sub file, and tells where a stream of the map may part from the list
 of its features: tiles that are refused, ways whose stored size is not their decoded length,
 first-way offsets that do not lead to the end of the points. Each finding names its place.
 
-    --all    all findings, not only the first 100
+    --all           all findings, not only the first 100
+    --skip-empty    not the tiles that the map marks as empty, by giving the next one the same
+                    offset: for a program that looks at that mark before it asks for a tile
 
 The status is 0 if nothing is found, 1 if something is, 2 if the file is no map.
 ";
 
-pub const OPTIONS: &[Choice] = &[Choice { long: "--all", short: None, valued: false }];
+pub const OPTIONS: &[Choice] = &[
+    Choice { long: "--all", short: None, valued: false },
+    Choice { long: "--skip-empty", short: None, valued: false },
+];
 
 const SHOWN: u64 = 100;
 
@@ -34,7 +39,8 @@ pub fn run(args: &Args, out: &mut impl Write) -> Outcome {
     let file = open(path)?;
     let map = open_map(path, &file)?;
     let shown = if args.has("--all") { u64::MAX } else { SHOWN };
-    let mut checked = Checked { shown, ..Checked::default() };
+    let skip_empty = args.has("--skip-empty");
+    let mut checked = Checked { shown, skip_empty, ..Checked::default() };
     let mut unwalked = HashSet::new();
     for finding in check::map(&map) {
         checked.find(out, &finding.to_string())?;
@@ -57,6 +63,7 @@ pub fn run(args: &Args, out: &mut impl Write) -> Outcome {
 #[derive(Default)]
 struct Checked {
     shown: u64,
+    skip_empty: bool,
     findings: u64,
     tiles: u64,
     empty: u64,
@@ -82,8 +89,12 @@ impl Checked {
         out: &mut impl Write,
     ) -> Result<(), Failure> {
         for place in sub_file.tiles()? {
-            let report = check::tile(sub_file, place);
-            self.report(sub_file, &report, bar, out)?;
+            if self.skip_empty && sub_file.marked_empty(place.number).unwrap_or(false) {
+                self.tiles += 1;
+                self.empty += 1;
+            } else {
+                self.report(sub_file, &check::tile(sub_file, place), bar, out)?;
+            }
             bar.step();
         }
         Ok(())
@@ -106,9 +117,10 @@ impl Checked {
             }
             None => {}
         }
+        let mark = if report.marked_empty { ", marked empty" } else { "" };
         for finding in &report.findings {
             bar.clear();
-            self.find(out, &format!("{}: {finding}", named(sub_file, report.place)))?;
+            self.find(out, &format!("{}{mark}: {finding}", named(sub_file, report.place)))?;
         }
         // On a terminal each finding is seen as it is met.
         if bar.on && !report.findings.is_empty() {
@@ -117,20 +129,29 @@ impl Checked {
         Ok(())
     }
 
+    /// What is true of tiles that are marked empty, and is no finding.
+    fn note_on_empty(&self, out: &mut impl Write) -> io::Result<()> {
+        let verb = if self.empty == 1 { "is" } else { "are" };
+        let marked = format!("{} {verb} marked empty", count(self.empty, "tile"));
+        if self.skip_empty {
+            return writeln!(out, "{marked}, and left out");
+        }
+        writeln!(
+            out,
+            "{marked}, by the offset of the next one: the library reads what stands there, \
+             another tile's features in {}, and refuses {}; a program that looks at the mark \
+             first does not meet them (--skip-empty)",
+            self.borrowed,
+            self.empty - self.borrowed
+        )
+    }
+
     fn summary(&self, map: &Map<'_>, out: &mut impl Write) -> io::Result<()> {
         if self.findings > self.shown {
             writeln!(out, "... and {} more: --all shows them", self.findings - self.shown)?;
         }
         if self.empty > 0 {
-            let verb = if self.empty == 1 { "is" } else { "are" };
-            writeln!(
-                out,
-                "{} {verb} marked empty, by the offset of the next one: the library reads what \
-                 stands there, another tile's features in {}, and refuses the rest, so a program \
-                 has to look at the mark first",
-                count(self.empty, "tile"),
-                self.borrowed
-            )?;
+            self.note_on_empty(out)?;
         }
         let verdict = match self.findings {
             0 => "stream and list agree".into(),

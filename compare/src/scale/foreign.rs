@@ -1,0 +1,208 @@
+//! Words for a header that are not the map's own. Whatever they are, the answers are those of a map with
+//! such a header, which the Rust can be given.
+
+use mapsforge_rs::header::DEBUG_INFO_MASK;
+use mapsforge_rs::types::{BoundingBox, MapFile, MapHeader, ZoomInterval};
+
+use super::check::{Call, Check, Checked};
+use super::lent::{Fronts, Lent};
+use super::library::{self, Ask, Got, Interval, Layout, State, WORD};
+use super::{asked, indexed, known};
+use crate::differences::tile::Opened;
+use crate::random::Random;
+use crate::source::Source;
+use crate::tiles::Address;
+
+/// The Rust is given up to so many tags of a table.
+const TAGS: u64 = 1 << 10;
+/// Up to so many features of a stream are asked for that nothing is compared with.
+const STEPS: usize = 40;
+
+/// A map that does not open has no words, and so no sub file.
+pub fn unopened(map: &[u8]) -> MapFile<Source<'_>> {
+    file(map, &[0; 5], &[0; 6])
+}
+
+/// The map with the header that the words say, but for tags above the limit; the sub file is its first.
+fn file<'a>(map: &'a [u8], layout: &Layout, interval: &Interval) -> MapFile<Source<'a>> {
+    let [debug, points, point_count, ways, way_count] = *layout;
+    let mut header = header(debug != 0, interval);
+    let opened = Opened { map, header: &header };
+    let tags = |start, count: u64| opened.tags(start, count.min(TAGS) as usize);
+    let (poi_tags, way_tags) = (tags(points, point_count), tags(ways, way_count));
+    (header.poi_tags, header.way_tags) = (poi_tags, way_tags);
+    MapFile { header, reader: Source::new(map) }
+}
+
+/// A header without tags; nothing else of it matters to a tile.
+fn header(debug: bool, interval: &Interval) -> MapHeader {
+    let intervals: Vec<ZoomInterval> = taken(interval).into_iter().collect();
+    MapHeader {
+        magic: String::new(),
+        header_size: 0,
+        file_version: 0,
+        file_size: 0,
+        creation_date: 0,
+        bounding_box: BoundingBox { min_lat: 0.0, min_lon: 0.0, max_lat: 0.0, max_lon: 0.0 },
+        tile_size: 0,
+        projection: String::new(),
+        flags: if debug { DEBUG_INFO_MASK } else { 0 },
+        map_start_position: None,
+        start_zoom_level: None,
+        language_preference: None,
+        comment: None,
+        created_by: None,
+        poi_tags: Vec::new(),
+        way_tags: Vec::new(),
+        num_zoom_intervals: intervals.len() as u8,
+        zoom_interval_configuration: intervals,
+    }
+}
+
+/// The header file: "any word 0 but 0 for a sub file that is there, and words 1 to 3 modulo 256".
+fn taken(interval: &Interval) -> Option<ZoomInterval> {
+    let [there, base, lowest, highest, start, size] = *interval;
+    let zoom = |word: u64| (word % 256) as u8;
+    (there != 0).then(|| ZoomInterval {
+        base_zoom_level: zoom(base),
+        min_zoom_level: zoom(lowest),
+        max_zoom_level: zoom(highest),
+        sub_file_start: start,
+        sub_file_size: size,
+    })
+}
+
+/// A tile by words that are the map's own or were so once, some of them changed.
+pub fn compare(check: &mut Check, lent: &mut Lent, own: &Ask, random: &mut Random) -> Checked {
+    let ask = random.foreign(own);
+    let Ask { map, layout, interval, .. } = &ask;
+    let mut file = file(map, layout, interval);
+    let has_tags = layout[2].max(layout[4]) <= TAGS;
+    let compared = asked::grid(check, &file, &ask, random).and_then(|()| match has_tags {
+        true => asked::tile(check, lent, &mut file, &ask, random),
+        false => many_tags(check, lent, &mut file, &ask, random),
+    });
+    compared.map_err(|why| format!("layout {layout:x?}, interval {interval:x?}: {why}"))
+}
+
+/// With more tags than the Rust is given: what it says of a tile that has none of the others.
+fn many_tags(
+    check: &mut Check,
+    lent: &mut Lent,
+    file: &mut MapFile<Source>,
+    ask: &Ask,
+    random: &mut Random,
+) -> Checked {
+    indexed::entry(check, file, ask)?;
+    match known::tile(check, file, &ask.at)? {
+        Err(refusal) if refusal[0] == 7 => any_tile(check, lent, ask, random)?,
+        tile => asked::features(check, lent, ask, &tile, random)?,
+    }
+    any_stream(check, lent, ask, random)
+}
+
+/// A tile that nothing is compared with: a refusal must leave everything alone.
+fn any_tile(check: &mut Check, lent: &mut Lent, ask: &Ask, random: &mut Random) -> Checked {
+    let collect = library::collect(ask);
+    if refused(check, Call::Collect, &collect.got)? {
+        check.words("points of no tile", &collect.points, &[0; 256])?;
+        check.words("ways of no tile", &collect.ways, &[0; 256])?;
+    }
+    let lengths = random.lengths(&[2, 10, 10, 2, 2, 200]);
+    let fetch = library::fetch(ask, random.below(20) as u64, lent.lists(lengths));
+    match refused(check, Call::Fetch, &fetch.got)? {
+        true => lent.check(check, lengths, &Fronts::default()),
+        false => lent.check_behind(check, lengths),
+    }
+}
+
+/// The same of a stream. One that declines may read elsewhere than collecting does, and so have other tags.
+fn any_stream(check: &mut Check, lent: &mut Lent, ask: &Ask, random: &mut Random) -> Checked {
+    let mut state = [WORD; 7];
+    let opened = library::stream_open(ask, random.next(), random.byte(), &mut state);
+    if refused(check, Call::StreamOpen, &opened)? {
+        return check.words("the state of a stream that does not open", &state, &[WORD; 7]);
+    }
+    for _ in 0..STEPS {
+        if !step(check, lent, ask, &mut state, random)? {
+            break;
+        }
+    }
+    Ok(())
+}
+
+/// A feature of a stream, and whether there is another behind it.
+fn step(
+    check: &mut Check,
+    lent: &mut Lent,
+    ask: &Ask,
+    state: &mut State,
+    random: &mut Random,
+) -> Checked<bool> {
+    let before = *state;
+    let next = library::stream_next(ask.map, &ask.layout, state);
+    if refused(check, Call::StreamNext, &next.got)? {
+        check.words("the state of a refused next", state, &before)?;
+        return Ok(false);
+    }
+    if next.got.words[6] != 1 {
+        return Ok(next.got.words[6] == 0);
+    }
+    let lengths = random.lengths(&[2, 10, 10, 0, 0, 0]);
+    let before = *state;
+    let accept = library::stream_accept(ask.map, state, lent.lists(lengths).nodes);
+    if !refused(check, Call::StreamAccept, &accept.got)? {
+        lent.check_behind(check, lengths)?;
+        return Ok(true);
+    }
+    check.words("the state of a refused accept", state, &before)?;
+    lent.check(check, lengths, &Fronts::default())?;
+    let number = library::stream_decline(state);
+    check.call(Call::StreamDecline, number);
+    check.same("a decline", number, 0)?;
+    Ok(true)
+}
+
+/// Whether a call is refused; its words are then 0 behind the refusal's values.
+fn refused<const N: usize>(check: &mut Check, call: Call, ours: &Got<N>) -> Checked<bool> {
+    check.call(call, ours.number);
+    if ours.number == 0 {
+        check.words("the values of no refusal", &ours.words[..6], &[0; 6])?;
+        return Ok(false);
+    }
+    check.same("a number of the table", ours.number <= 18, true)?;
+    check.words("words of a refused call", &ours.words[6..], &vec![0; N - 6])?;
+    Ok(true)
+}
+
+impl Random {
+    /// The tile, or one beside it, by words of which up to three are others.
+    fn foreign<'a>(&mut self, own: &Ask<'a>) -> Ask<'a> {
+        let at = if self.below(8) == 0 { self.other_place(own.at) } else { own.at };
+        let mut ask = Ask { at: Address { sub_file: 0, ..at }, ..*own };
+        if self.below(8) == 0 {
+            let [debug, points, point_count, ways, way_count] = ask.layout;
+            ask.layout = [debug, ways, way_count, points, point_count];
+        }
+        for _ in 0..self.below(4) {
+            let mut words = ask.layout.iter_mut().chain(&mut ask.interval);
+            let word = words.nth(self.below(11)).expect("five words and six");
+            *word = self.other_word(*word, own.map.len());
+        }
+        ask
+    }
+
+    /// Another word: near, with the same last byte, a place in the map, or any.
+    fn other_word(&mut self, word: u64, length: usize) -> u64 {
+        match self.below(8) {
+            0 => 0,
+            1 => self.next(),
+            2 => u64::MAX - self.below(20) as u64,
+            3 => self.below(300) as u64,
+            4 => word ^ 1 << self.below(64),
+            5 => word.wrapping_add(self.next() << 8),
+            6 => word.wrapping_add(self.below(9) as u64).wrapping_sub(4),
+            _ => self.below(length + 20) as u64,
+        }
+    }
+}
