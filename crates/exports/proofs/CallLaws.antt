@@ -30,10 +30,10 @@ use Rattle.visit.specs.declared.OpenRead.{OpenRead}
 use Rattle.tile.specs.declared.TileRead.{TileRead}
 use Rattle.fetch.specs.declared.Fetch.{Fetch}
 use Rattle.wire.specs.Wire.{Wire, wire, Crosses}
-use Rattle.wire.specs.Index.{Named, tagWire, tagNumber, tagWords}
-use Rattle.wire.specs.Header.{headerWire, headerWords, headerDegrees, layoutWords}
-use Rattle.wire.specs.Verdicts.{endNumber}
-use Rattle.feature_wire.specs.Streams.{streamWords, openedNumber, openedWords, openedState, openedWire, nextNumber, nextWords, nextSigned, nextDegrees, nextIds, nextWire, acceptNumber, acceptWords, acceptDegrees, acceptWire, declineNumber, declineWords, declineWire}
+use Rattle.index_wire.specs.Index.{Named, tagWire, tagNumber, tagWords}
+use Rattle.header_wire.specs.Header.{headerWire, headerWords, headerDegrees, layoutWords}
+use Rattle.header_wire.specs.Header.{endNumber}
+use Rattle.stream_wire.specs.Streams.{streamWords, openedNumber, openedWords, openedState, openedWire, nextNumber, nextWords, nextSigned, nextDegrees, nextIds, nextWire, acceptNumber, acceptWords, acceptDegrees, acceptWire, declineNumber, declineWords, declineWire}
 use Rattle.feature_wire.specs.Features.{tileNumber, tileWords, rowPoints, rowWays, tileWire, fetchNumber, fetchWords, fetchSigned, fetchDegrees, fetchIds, fetchTags, fetchWire}
 use Rattle.exports.specs.Calls.{gridIn, TagIs, NextOf, AcceptOf, DeclineOf}
 

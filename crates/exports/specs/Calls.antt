@@ -32,7 +32,7 @@ use Rattle.tile.specs.declared.TileRead.{TileRead}
 use Rattle.fetched.specs.Fetched.{FetchLists}
 use Rattle.fetch.specs.Fetch.{fetchTile, FeatureIs}
 use Rattle.fetch.specs.declared.Fetch.{Fetch}
-use Rattle.wire.specs.Index.{Named}
+use Rattle.index_wire.specs.Index.{Named}
 
 abbrev pub gridIn : (xMin yMin xMax yMax : ℤ) → Grid
 gridIn a b c d = record { «x_min» = a; «y_min» = b; «x_max» = c; «y_max» = d }

@@ -19,9 +19,9 @@ ghost use Rattle.way_data.specs.Reply.{lent, reply, readWayData};
 ghost use Rattle.fetch_way.specs.FetchWay.{lent as lentAll};
 ghost use Rattle.on_map.specs.OnMap.{asked, intervalRes, subFileRes};
 ghost use Rattle.wire.specs.Wire.{wire, Crosses};
-ghost use Rattle.wire.specs.Index.{countWire, indexWire, subFileWire, intervalWire, intervalIn, entryWire, tagWire, textWire, columnWire, longitudeWire, wayDataWire};
-ghost use Rattle.wire.specs.Header.{headerWire, layoutIn};
-ghost use Rattle.feature_wire.specs.Streams.{streamIn, openedWire, nextWire, acceptWire, declineWire};
+ghost use Rattle.index_wire.specs.Index.{countWire, indexWire, subFileWire, intervalWire, intervalIn, entryWire, tagWire, textWire, columnWire, longitudeWire, wayDataWire};
+ghost use Rattle.header_wire.specs.Header.{headerWire, layoutIn};
+ghost use Rattle.stream_wire.specs.Streams.{streamIn, openedWire, nextWire, acceptWire, declineWire};
 ghost use Rattle.feature_wire.specs.Features.{tileWire, fetchWire};
 ghost use Rattle.exports.specs.Calls.{gridIn, tableOf, TagIs, CountOf, IndexOf, EntryOf, StreamOf, NextOf, AcceptOf, DeclineOf, TileOf, FeatureOf};
 
@@ -38,13 +38,13 @@ pub extern "C" fn mapsforge_open(
     let read = opening::from_source(map);
     let end = read.end;
     let header = read.header;
-    let row = wire::header_words(header, end);
+    let row = header_wire::header_words(header, end);
     *words = row;
-    let row = wire::header_degrees(header);
+    let row = header_wire::header_degrees(header);
     *degrees = row;
-    let row = wire::layout_words(tile_layout::layout_of(header));
+    let row = header_wire::layout_words(tile_layout::layout_of(header));
     *layout = row;
-    wire::end_number(end)
+    header_wire::end_number(end)
 }
 
 // The zoom interval of a sub file, in the six words that other calls take.
@@ -58,11 +58,11 @@ pub extern "C" fn mapsforge_interval(
     ensures { λ r. ⌜ Crosses intervalWire (λ a. intervalRes a ≡ asked (now (map .entry)) (λ h. nth (intervalsOf h) «sub_file»)) (wire r (now (words .exit) ∷ now (interval .exit) ∷ []) [] []) ⌝ }
 {
     let got = on_map::interval(map, sub_file);
-    let row = wire::interval_words(got);
+    let row = index_wire::interval_words(got);
     *words = row;
-    let row = wire::interval_row(got);
+    let row = index_wire::interval_row(got);
     *interval = row;
-    wire::interval_number(got)
+    index_wire::interval_number(got)
 }
 
 // The first sub file whose interval has the zoom.
@@ -71,9 +71,9 @@ pub extern "C" fn mapsforge_sub_file(map: &[u8], zoom: u8, words: &mut [u64; 8])
     ensures { λ r. ⌜ Crosses subFileWire (λ a. subFileRes a ≡ asked (now (map .entry)) (λ h. subFileForZoom (intervalsOf h) zoom)) (wire r (now (words .exit) ∷ []) [] []) ⌝ }
 {
     let got = on_map::sub_file_for_zoom(map, zoom);
-    let row = wire::sub_file_words(got);
+    let row = index_wire::sub_file_words(got);
     *words = row;
-    wire::sub_file_number(got)
+    index_wire::sub_file_number(got)
 }
 
 // Where the text of tag k of a table stands, and the kind of its inline value.
@@ -90,9 +90,9 @@ pub extern "C" fn mapsforge_tag(
     let table = TagTable { start, count };
     let kind = tag_kinds::tag_kind(map, table, k);
     let got = tag_table::tag_text(map, table, k);
-    let row = wire::tag_words(got, kind);
+    let row = index_wire::tag_words(got, kind);
     *words = row;
-    wire::tag_number(got)
+    index_wire::tag_number(got)
 }
 
 // A text with each ill-formed part replaced by U+FFFD, to the front of the buffer.
@@ -101,9 +101,9 @@ pub extern "C" fn mapsforge_text(text: &[u8], buffer: &mut [u8], words: &mut [u6
     ensures { λ r. ⌜ Crosses textWire (λ a. outcome a (now (buffer .exit)) ≡ writing (now (text .entry)) (now (buffer .entry)) 0) (wire r (now (words .exit) ∷ []) [] []) ⌝ }
 {
     let got = text::write_replaced(text, buffer, 0);
-    let row = wire::text_words(got);
+    let row = index_wire::text_words(got);
     *words = row;
-    wire::text_number(got)
+    index_wire::text_number(got)
 }
 
 // How many tiles a sub file has.
@@ -124,10 +124,10 @@ pub extern "C" fn mapsforge_tile_count(
         x_max,
         y_max,
     };
-    let got = index::tile_count(wire::interval_in(*interval), grid);
-    let row = wire::count_words(got);
+    let got = index::tile_count(index_wire::interval_in(*interval), grid);
+    let row = index_wire::count_words(got);
     *words = row;
-    wire::count_number(got)
+    index_wire::count_number(got)
 }
 
 // The number of the tile x, y.
@@ -150,10 +150,10 @@ pub extern "C" fn mapsforge_tile_index(
         x_max,
         y_max,
     };
-    let got = index::tile_index_of(wire::interval_in(*interval), grid, x, y);
-    let row = wire::index_words(got);
+    let got = index::tile_index_of(index_wire::interval_in(*interval), grid, x, y);
+    let row = index_wire::index_words(got);
     *words = row;
-    wire::index_number(got)
+    index_wire::index_number(got)
 }
 
 // A tile's entry in the index.
@@ -177,12 +177,12 @@ pub extern "C" fn mapsforge_index_entry(
         x_max,
         y_max,
     };
-    let tiles = wire::layout_in(*layout);
-    let found = wire::interval_in(*interval);
+    let tiles = header_wire::layout_in(*layout);
+    let found = index_wire::interval_in(*interval);
     let got = index::tile_index_entry(map, tiles.debug, found, grid, tile);
-    let row = wire::entry_words(got);
+    let row = index_wire::entry_words(got);
     *words = row;
-    wire::entry_number(got)
+    index_wire::entry_number(got)
 }
 
 // The column that a longitude lies in.
@@ -196,11 +196,11 @@ pub extern "C" fn mapsforge_column(
     ensures { λ r. ⌜ Crosses columnWire (λ a. columnRes a ≡ columnOf longitude zoom) (wire r (now (words .exit) ∷ []) (now (column .exit)) []) ⌝ }
 {
     let got = column::tile_column(Degrees(longitude), zoom);
-    let row = wire::column_words(got);
+    let row = index_wire::column_words(got);
     *words = row;
-    let row = wire::column_signed(got);
+    let row = index_wire::column_signed(got);
     *column = row;
-    wire::column_number(got)
+    index_wire::column_number(got)
 }
 
 // The longitude at which a column starts.
@@ -214,11 +214,11 @@ pub extern "C" fn mapsforge_longitude(
     ensures { λ r. ⌜ Crosses longitudeWire (λ a. longitudeRes a ≡ longitudeOf column zoom) (wire r (now (words .exit) ∷ []) [] (now (longitude .exit))) ⌝ }
 {
     let got = column::tilex2long(column, zoom);
-    let row = wire::longitude_words(got);
+    let row = index_wire::longitude_words(got);
     *words = row;
-    let row = wire::longitude_degrees(got);
+    let row = index_wire::longitude_degrees(got);
     *longitude = row;
-    wire::longitude_number(got)
+    index_wire::longitude_number(got)
 }
 
 // A stream of a tile: its state, in seven words.
@@ -245,14 +245,14 @@ pub extern "C" fn mapsforge_stream_open(
         x_max,
         y_max,
     };
-    let tiles = wire::layout_in(*layout);
-    let found = wire::interval_in(*interval);
+    let tiles = header_wire::layout_in(*layout);
+    let found = index_wire::interval_in(*interval);
     let got = visit::open(map, tiles, found, sub_file, grid, tile, zoom);
-    let row = feature_wire::opened_state(got, *state);
+    let row = stream_wire::opened_state(got, *state);
     *state = row;
-    let row = feature_wire::opened_words(got);
+    let row = stream_wire::opened_words(got);
     *words = row;
-    feature_wire::opened_number(got)
+    stream_wire::opened_number(got)
 }
 
 // The next point, the next way's head, or the end.
@@ -270,24 +270,24 @@ pub extern "C" fn mapsforge_stream_next(
 {
     let step = visit::next(
         map,
-        wire::layout_in(*layout),
-        feature_wire::stream_in(*state),
+        header_wire::layout_in(*layout),
+        stream_wire::stream_in(*state),
     );
     let answer = step.answer;
     let poi = step.poi;
     let head = step.head;
     let stream = step.stream;
-    let row = feature_wire::stream_words(stream);
+    let row = stream_wire::stream_words(stream);
     *state = row;
-    let row = feature_wire::next_words(answer, poi, head);
+    let row = stream_wire::next_words(answer, poi, head);
     *words = row;
-    let row = feature_wire::next_signed(answer, poi, head);
+    let row = stream_wire::next_signed(answer, poi, head);
     *signed_words = row;
-    let row = feature_wire::next_degrees(answer, poi);
+    let row = stream_wire::next_degrees(answer, poi);
     *degrees = row;
-    let row = feature_wire::next_ids(answer, poi, head);
+    let row = stream_wire::next_ids(answer, poi, head);
     *ids = row;
-    feature_wire::next_number(answer)
+    stream_wire::next_number(answer)
 }
 
 // The waiting way's body; its node counts, latitudes and longitudes go to the fronts of the lists.
@@ -303,17 +303,17 @@ pub extern "C" fn mapsforge_stream_accept(
 ) -> u64
     ensures { λ r. ⌜ Crosses acceptWire (AcceptOf (now (map .entry)) (streamIn (now (state .entry))) (lent (now («node_counts» .entry)) (now (latitudes .entry)) (now (longitudes .entry))) (lent (now («node_counts» .exit)) (now (latitudes .exit)) (now (longitudes .exit)))) (wire r (now (words .exit) ∷ now (state .exit) ∷ []) [] (now (degrees .exit))) ⌝ }
 {
-    let stream = feature_wire::stream_in(*state);
+    let stream = stream_wire::stream_in(*state);
     let step = visit::accept(map, stream, node_counts, latitudes, longitudes);
     let answer = step.answer;
     let stream = step.stream;
-    let row = feature_wire::stream_words(stream);
+    let row = stream_wire::stream_words(stream);
     *state = row;
-    let row = feature_wire::accept_words(answer);
+    let row = stream_wire::accept_words(answer);
     *words = row;
-    let row = feature_wire::accept_degrees(answer);
+    let row = stream_wire::accept_degrees(answer);
     *degrees = row;
-    feature_wire::accept_number(answer)
+    stream_wire::accept_number(answer)
 }
 
 // Past the waiting way, by its stored size.
@@ -321,14 +321,14 @@ pub extern "C" fn mapsforge_stream_accept(
 pub extern "C" fn mapsforge_stream_decline(state: &mut [u64; 7], words: &mut [u64; 6]) -> u64
     ensures { λ r. ⌜ Crosses declineWire (DeclineOf (streamIn (now (state .entry)))) (wire r (now (words .exit) ∷ now (state .exit) ∷ []) [] []) ⌝ }
 {
-    let step = visit::decline(feature_wire::stream_in(*state));
+    let step = visit::decline(stream_wire::stream_in(*state));
     let answer = step.answer;
     let stream = step.stream;
-    let row = feature_wire::stream_words(stream);
+    let row = stream_wire::stream_words(stream);
     *state = row;
-    let row = feature_wire::decline_words(answer);
+    let row = stream_wire::decline_words(answer);
     *words = row;
-    feature_wire::decline_number(answer)
+    stream_wire::decline_number(answer)
 }
 
 // A collected tile, and its zoom table in two lists.
@@ -354,8 +354,8 @@ pub extern "C" fn mapsforge_collect(
         x_max,
         y_max,
     };
-    let tiles = wire::layout_in(*layout);
-    let found = wire::interval_in(*interval);
+    let tiles = header_wire::layout_in(*layout);
+    let found = index_wire::interval_in(*interval);
     let read = tile::read_tile(map, tiles, found, grid, tile);
     let answer = read.answer;
     let whole = read.tile;
@@ -401,8 +401,8 @@ pub extern "C" fn mapsforge_fetch(
         x_max,
         y_max,
     };
-    let tiles = wire::layout_in(*layout);
-    let found = wire::interval_in(*interval);
+    let tiles = header_wire::layout_in(*layout);
+    let found = index_wire::interval_in(*interval);
     let fetch = fetch::fetch_feature(
         map,
         tiles,
@@ -444,9 +444,9 @@ pub extern "C" fn mapsforge_measure_way_data(
     ensures { λ r. ⌜ Crosses wayDataWire (λ a. wayDataRes a ≡ mapRes waySizes (wayData «data_blocks» (now (map .entry)) at)) (wire r (now (words .exit) ∷ []) [] []) ⌝ }
 {
     let got = way_measure::measure_way_data(map, at, data_blocks);
-    let row = wire::way_data_words(got);
+    let row = index_wire::way_data_words(got);
     *words = row;
-    wire::way_data_number(got)
+    index_wire::way_data_number(got)
 }
 
 // The same, and the nodes to the fronts of three lists.
@@ -472,7 +472,7 @@ pub extern "C" fn mapsforge_read_way_data(
         latitudes,
         longitudes,
     );
-    let row = wire::way_data_words(got);
+    let row = index_wire::way_data_words(got);
     *words = row;
-    wire::way_data_number(got)
+    index_wire::way_data_number(got)
 }

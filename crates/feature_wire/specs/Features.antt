@@ -25,7 +25,7 @@ use Rattle.fetch.specs.declared.Fetch.{Fetch}
 use Rattle.wire.specs.Wire.{Wire}
 use Rattle.wire.specs.Verdicts.{valuesIn, noValues, behind, spanWords, placeWords, nowhere}
 use Rattle.feature_wire.specs.declared.TextWords.{TextWords}
-use Rattle.feature_wire.specs.Streams.{metreWords}
+use Rattle.elevation_wire.specs.Elevation.{metreWords}
 
 -- collecting
 abbrev pub tileNumber : TileAnswer → ℕ

@@ -1,13 +1,15 @@
 // way.rs and tag.rs: a way as a fetch gives it, its nodes and its blocks' initial positions in lent lists, its texts in a lent buffer.
 use error::Lengths;
 use fetched::FetchedWay;
+use measured_way::MeasuredWay;
+use measured_way::TextPlan;
 use types::End;
 use types::TagTable;
 ghost use mathlib.Core.Path.{_≡_};
 ghost use Prim.Native.Nat.{_≤_};
 ghost use lib.ListN.{length};
 ghost use Rattle.measured_way.specs.MeasuredWay.{wayStored};
-ghost use Rattle.fetch_way.specs.FetchWay.{lent, WayFetchIs, ListsWritten};
+ghost use Rattle.fetch_way.specs.FetchWay.{lent, WayFetchIs, answerOf, textsWritten};
 
 // Where the fetch is refused, the way is empty.
 pub struct WayFetch {
@@ -15,24 +17,24 @@ pub struct WayFetch {
     pub end: End,
 }
 
-// The nodes and the initial positions of a way whose body starts at `at` and has so many blocks.
-fn write_lists(
-    map: &[u8],
-    at: usize,
-    blocks: usize,
-    node_counts: &mut [u64],
-    latitudes: &mut [f64],
-    longitudes: &mut [f64],
-    initial_latitudes: &mut [f64],
-    initial_longitudes: &mut [f64],
-)
-    requires { ⌜ blocks ≤ length (now «node_counts») ⌝ }
-    ensures { λ r. ⌜ ListsWritten (now (map .entry)) at blocks (now («node_counts» .entry)) (now (latitudes .entry)) (now (longitudes .entry)) (now («initial_latitudes» .entry)) (now («initial_longitudes» .entry)) (now («node_counts» .exit)) (now (latitudes .exit)) (now (longitudes .exit)) (now («initial_latitudes» .exit)) (now («initial_longitudes» .exit)) ⌝ }
+fn answer_of(got: MeasuredWay) -> WayFetch
+    ensures { λ r. ⌜ r ≡ answerOf got ⌝ }
 {
-    way::read_way_body(map, at, node_counts, latitudes, longitudes);
-    let counts = &node_counts[..blocks];
-    initial_positions::write_initials(counts, latitudes, initial_latitudes);
-    initial_positions::write_initials(counts, longitudes, initial_longitudes);
+    let way = got.way;
+    let end = got.end;
+    WayFetch { way, end }
+}
+
+// The planned texts in the buffer.
+fn write_texts(map: &[u8], plan: TextPlan, buffer: &mut [u8])
+    requires { ⌜ plan .«tag_ids» .count ≤ length (plan .«tag_ids» .ids) ⌝ }
+    ensures { λ r. ⌜ now (buffer .exit) ≡ textsWritten (now (map .entry)) plan (now (buffer .entry)) ⌝ }
+{
+    let tag_ids = plan.tag_ids;
+    let ids = tag_ids.ids;
+    let count = tag_ids.count;
+    let parts = plan.parts;
+    feature_texts::write_texts(map, &ids[..count], parts, buffer);
 }
 
 // The way at a place. Refused as it is read; then 15 with every length needed if a list or the buffer is too short.
@@ -59,25 +61,17 @@ pub fn fetch_way(
         buffer: buffer.len() as u64,
     };
     let got = measured_way::measure_way(map, at, debug, table, room);
-    let end = got.end;
-    let way = got.way;
-    let End::At(_) = end else {
-        return WayFetch { way, end };
-    };
-    let parts = got.parts;
-    let tag_ids = way.tag_ids;
-    let ids = tag_ids.ids;
-    let count = tag_ids.count;
-    feature_texts::write_texts(map, &ids[..count], parts, buffer);
-    write_lists(
+    let lists = got.lists;
+    way_lists::write_lists(
         map,
-        got.start,
-        way.blocks as usize,
+        lists,
         node_counts,
         latitudes,
         longitudes,
         initial_latitudes,
         initial_longitudes,
     );
-    WayFetch { way, end }
+    let texts = got.texts;
+    write_texts(map, texts, buffer);
+    answer_of(got)
 }

@@ -42,7 +42,8 @@ use Rattle.feature_texts.specs.FeatureTexts.{textsIn}
 use Rattle.feature_texts.specs.declared.TextParts.{TextParts}
 use Rattle.feature_texts.proofs.ShortLaws.{Known, known-by, WayTexts, body-texts, head-few, texts-short, ids-within, ids-counted, ids-are}
 use Rattle.feature_tags.specs.FeatureTags.{textsOf}
-use Rattle.measured_way.specs.MeasuredWay.{wayParts, Told, toldOf, toldWay, fitsIn, measured, wayWith, emptyWay, emptyParts, noWay, Shown, shownOf, nothing, shown, MeasuredIs, roomy, tooShort, WayTold, BodyMeasured}
+use Rattle.measured_way.specs.MeasuredWay.{wayParts, Told, toldOf, toldWay, fitsIn, measured, wayWith, textsWith, listsWith, emptyWay, noTextPlan, noListPlan, noWay, Shown, shownOf, nothing, shown, MeasuredIs, roomy, tooShort, WayTold, BodyMeasured}
+use Rattle.measured_way.specs.declared.TextPlan.{TextPlan}
 use Rattle.measured_way.specs.declared.MeasuredWay.{MeasuredWay}
 
 -- where there is no way
@@ -50,8 +51,8 @@ pub no-texts-there : (t : FeatureTexts) → t ≡ noTexts
     → _≡_ {A = FetchedWay} (record { signature = emptyWay .signature; bitmap = 0; layer = emptyWay .layer; «tag_ids» = emptyWay .«tag_ids»; texts = t; «label_position» = emptyWay .«label_position»; «double_delta» = false; blocks = 0; nodes = 0 }) emptyWay
 no-texts-there t h = rw h
 
-pub none-made : (w : FetchedWay) (x : Refusal) → w ≡ emptyWay → _≡_ {A = MeasuredWay} (record { way = w; start = 0; parts = emptyParts; end = end.Refused x }) (noWay x)
-none-made w x h = rw h
+pub none-made : (w : FetchedWay) (p : TextPlan) (x : Refusal) → w ≡ emptyWay → p ≡ noTextPlan → _≡_ {A = MeasuredWay} (record { way = w; texts = p; lists = noListPlan; end = end.Refused x }) (noWay x)
+none-made w p x h k = rw (h, k)
 
 pub ruleset empties = (needs, no-texts-there, none-made)
 
@@ -161,12 +162,15 @@ module _ (t : TagTable) (h : WayHead) (b : WayBody) (ids : List ℕ) (start next
     refused-as : (x : Refusal) → x ≡ tooShort (b .blocks) (b .nodes) len → x ≡ tooShort (length (concat (d .dataBlocks))) (nodeCount (concat (d .dataBlocks))) (length (bytes t m s d start next few-ids rd))
     refused-as x q = q ∙ ap (λ (y : WayBody). tooShort (y .blocks) (y .nodes) len) bd ∙ ap (tooShort (length (concat (d .dataBlocks))) (nodeCount (concat (d .dataBlocks)))) measured-bytes
 
-    shown-as : (tx : FeatureTexts) (v : FetchedWay) → tx ≡ textsOf pr m ids → v ≡ wayWith h b tx → _≡_ {A = Shown} (record { way = v; start = start; parts = pr }) (shownOf (toldOf t m s start d))
+    shown-as : (tx : FeatureTexts) (v : FetchedWay) → tx ≡ textsOf pr m ids → v ≡ wayWith h b tx → _≡_ {A = Shown} (record { way = v; texts = textsWith h pr; lists = listsWith b start }) (shownOf (toldOf t m s start d))
     shown-as tx v q w =
         let x : tx ≡ featureTexts (walkedName (tableIn t) m) (s .tagged .ids) (d .fields .name) (d .fields .houseNumber) (d .fields .reference) =
         q ∙ ap (λ x. textsOf x m ids) k ∙ ap (λ x. textsOf (wayParts x t) m ids) bd ∙ ap (textsOf (wayParts (bodyOf d) t) m) is ∙ described t m s d start next few-ids rd in
         let y : v ≡ wayRecord (walkedName (tableIn t) m) s d = w ∙ ap (λ x. wayWith x b tx) hs ∙ ap (λ x. wayWith (headOf s) x tx) bd ∙ ap (wayWith (headOf s) (bodyOf d)) x in
-        ap (λ x. record { way = x; start = start; parts = pr }) y ∙ ap (λ x. record { way = wayRecord (walkedName (tableIn t) m) s d; start = start; parts = x }) (k ∙ ap (λ x. wayParts x t) bd)
+        ap (λ x. record { way = x; texts = textsWith h pr; lists = listsWith b start }) y
+        ∙ ap (λ x. record { way = wayRecord (walkedName (tableIn t) m) s d; texts = textsWith x pr; lists = listsWith b start }) hs
+        ∙ ap (λ x. record { way = wayRecord (walkedName (tableIn t) m) s d; texts = textsWith (headOf s) x; lists = listsWith b start }) k
+        ∙ ap (λ x. record { way = wayRecord (walkedName (tableIn t) m) s d; texts = textsWith (headOf s) (wayParts x t); lists = listsWith x start }) bd
 
   pub told-short : (x : Refusal) (r : MeasuredWay) → g ≡ true → x ≡ tooShort (b .blocks) (b .nodes) len → r ≡ noWay x → WayTold t h b ids start next room m r
   told-short x r q e v = record {
@@ -175,10 +179,10 @@ module _ (t : TagTable) (h : WayHead) (b : WayBody) (ids : List ℕ) (start next
         (ap refused (refused-as s d hs is few bd rd x e) ∙ measured-short t m s d start next (few-ids s d hs is few bd rd) rd room (tested s d hs is few bd rd false (not-true _ (sym j ∙ q))));
   }
 
-  pub told-done : (tx : FeatureTexts) (v : FetchedWay) → g ≡ false → tx ≡ textsOf pr m ids → v ≡ wayWith h b tx → WayTold t h b ids start next room m (record { way = v; start = start; parts = pr; end = end.At next })
+  pub told-done : (tx : FeatureTexts) (v : FetchedWay) → g ≡ false → tx ≡ textsOf pr m ids → v ≡ wayWith h b tx → WayTold t h b ids start next room m (record { way = v; texts = textsWith h pr; lists = listsWith b start; end = end.At next })
   told-done tx v q e w = record {
     each = λ s d hs is few bd rd.
-        beside-done shownOf nothing (measured room (ok (toldOf t m s start d) next)) (record { way = v; start = start; parts = pr }) next
+        beside-done shownOf nothing (measured room (ok (toldOf t m s start d) next)) (record { way = v; texts = textsWith h pr; lists = listsWith b start }) next
         (ap (λ x. ok x next) (shown-as s d hs is few bd rd tx v e w) ∙ ap (mapRes shownOf) (measured-done t m s d start next (few-ids s d hs is few bd rd) rd room (tested s d hs is few bd rd true (not-false _ (sym j ∙ q)))));
   }
 

@@ -1,6 +1,6 @@
 -- A way as a fetch tells of it from its place (crate fetched), for lists of given lengths.
 use Prim.Native.Nat.{ℕ, _≤_}
-use mathlib.Core.Bool.{Bool, false, _&&_, cond}
+use mathlib.Core.Bool.{Bool, true, false, _&&_, cond}
 use mathlib.Core.Path.{_≡_}
 use mathlib.Core.List.{List}
 use lib.Dec.{leb}
@@ -10,6 +10,7 @@ use Rattle.error.specs.declared.Lengths.{Lengths}
 use Rattle.error.specs.declared.Refusal.{Refusal}
 use Rattle.error.specs.declared.Refusal.the-variants.{TooShort}
 use Rattle.format.specs.Kinds.{tagKinds}
+use Rattle.format.specs.WayData.{concat}
 use Rattle.format.specs.Tile.{Head, head, Body, body}
 use Rattle.types.specs.Beside.{Beside}
 use Rattle.types.specs.declared.End.the-variants as end
@@ -17,14 +18,17 @@ use Rattle.types.specs.declared.OptionalPosition.the-variants as position
 use Rattle.types.specs.declared.OptionalSpan.the-variants as span
 use Rattle.types.specs.declared.TagTable.{TagTable}
 use Rattle.tag_table.specs.Tables.{tableIn}
+use Rattle.tagged.specs.TagIds.{tagIds}
 use Rattle.way.specs.Way.{bodyOf}
 use Rattle.way.specs.declared.WayBody.{WayBody}
 use Rattle.way_head.specs.WayHead.{headOf, emptyHead}
 use Rattle.way_head.specs.declared.WayHead.{WayHead}
+use Rattle.way_lists.specs.declared.ListPlan.{ListPlan}
 use Rattle.fetched.specs.Fetched.{walkedName, noTexts, FetchLists, Fetched, wayRecord, wayLists, fetchedWay, neededAll}
 use Rattle.fetched.specs.declared.FeatureTexts.{FeatureTexts}
 use Rattle.fetched.specs.declared.FetchedWay.{FetchedWay}
 use Rattle.feature_texts.specs.declared.TextParts.{TextParts}
+use Rattle.measured_way.specs.declared.TextPlan.{TextPlan}
 use Rattle.measured_way.specs.declared.MeasuredWay.{MeasuredWay}
 
 -- the way at a place
@@ -35,14 +39,18 @@ wayStored debug t m at = andThen (head debug (tagKinds (tableIn t) m) m at) (λ 
 abbrev pub wayParts : WayBody → TagTable → TextParts
 wayParts b t = record { table = t; name = b .name; «house_number» = b .«house_number»; reference = b .reference }
 
--- the same with where its body starts, and what its texts are made of
+-- the same with what is to be written, its body starting at `e`
 pub record Told : Type 0 where
   pub fetched : Fetched FetchedWay
-  pub start : ℕ
-  pub parts : TextParts
+  pub texts : TextPlan
+  pub lists : ListPlan
 
 abbrev pub toldOf : TagTable → List ℕ → Head → ℕ → Body → Told
-toldOf t m h e b = record { fetched = fetchedWay (walkedName (tableIn t) m) h b; start = e; parts = wayParts (bodyOf b) t }
+toldOf t m h e b = record {
+  fetched = fetchedWay (walkedName (tableIn t) m) h b;
+  texts = record { «tag_ids» = tagIds (h .tagged .ids); parts = wayParts (bodyOf b) t };
+  lists = record { present = true; start = e; blocks = length (concat (b .dataBlocks)) };
+}
 
 abbrev pub toldWay : Bool → TagTable → List ℕ → ℕ → Res Told
 toldWay debug t m at = andThen (head debug (tagKinds (tableIn t) m) m at) (λ h e. mapRes (toldOf t m h e) (body m e))
@@ -72,6 +80,13 @@ wayWith h b t = record {
   nodes = b .nodes;
 }
 
+-- what is to be written of it
+abbrev pub textsWith : WayHead → TextParts → TextPlan
+textsWith h p = record { «tag_ids» = h .«tag_ids»; parts = p }
+
+abbrev pub listsWith : WayBody → (start : ℕ) → ListPlan
+listsWith b start = record { present = true; start = start; blocks = b .blocks }
+
 -- where it is refused
 abbrev pub emptyWay : FetchedWay
 emptyWay = record {
@@ -89,23 +104,29 @@ emptyWay = record {
 abbrev pub emptyParts : TextParts
 emptyParts = record { table = record { start = 0; count = 0 }; name = span.Absent; «house_number» = span.Absent; reference = span.Absent }
 
+abbrev pub noTextPlan : TextPlan
+noTextPlan = record { «tag_ids» = emptyHead .«tag_ids»; parts = emptyParts }
+
+abbrev pub noListPlan : ListPlan
+noListPlan = record { present = false; start = 0; blocks = 0 }
+
 abbrev pub noWay : Refusal → MeasuredWay
-noWay r = record { way = emptyWay; start = 0; parts = emptyParts; end = end.Refused r }
+noWay r = record { way = emptyWay; texts = noTextPlan; lists = noListPlan; end = end.Refused r }
 
 -- what is handed out, but for the end
 pub record Shown : Type 0 where
   pub way : FetchedWay
-  pub start : ℕ
-  pub parts : TextParts
+  pub texts : TextPlan
+  pub lists : ListPlan
 
 abbrev pub shownOf : Told → Shown
-shownOf x = record { way = x .fetched .value; start = x .start; parts = x .parts }
+shownOf x = record { way = x .fetched .value; texts = x .texts; lists = x .lists }
 
 abbrev pub nothing : Shown
-nothing = record { way = emptyWay; start = 0; parts = emptyParts }
+nothing = record { way = emptyWay; texts = noTextPlan; lists = noListPlan }
 
 abbrev pub shown : MeasuredWay → Shown
-shown r = record { way = r .way; start = r .start; parts = r .parts }
+shown r = record { way = r .way; texts = r .texts; lists = r .lists }
 
 abbrev pub MeasuredIs : Bool → TagTable → Lengths → List ℕ → (at : ℕ) → MeasuredWay → Type 0
 MeasuredIs debug t room m at r = Beside shownOf nothing (measured room (toldWay debug t m at)) (shown r) (r .end)

@@ -12,15 +12,22 @@ use types::TagTable;
 use way::WayBody;
 use way::WayBodyRead;
 use way_head::WayHead;
+use way_lists::ListPlan;
 ghost use mathlib.Core.Path.{_≡_};
 ghost use mathlib.Core.Bool.{not};
-ghost use Rattle.measured_way.specs.MeasuredWay.{emptyWay, emptyParts, wayParts, wayWith, roomy, tooShort, noWay, MeasuredIs, BodyMeasured, WayTold};
+ghost use Rattle.measured_way.specs.MeasuredWay.{emptyWay, noTextPlan, wayParts, wayWith, roomy, tooShort, noWay, MeasuredIs, BodyMeasured, WayTold};
 
-// `start` is where the way's body starts; `parts` are what its texts are made of. Where it is refused, they are empty.
+// What a way's texts are made of.
+pub struct TextPlan {
+    pub tag_ids: TagIds,
+    pub parts: TextParts,
+}
+
+// A way, with what is to be written of it. Where it is refused, the way is empty and nothing is to be written.
 pub struct MeasuredWay {
     pub way: FetchedWay,
-    pub start: usize,
-    pub parts: TextParts,
+    pub texts: TextPlan,
+    pub lists: ListPlan,
     pub end: End,
 }
 
@@ -44,17 +51,33 @@ pub fn empty_way() -> FetchedWay
     }
 }
 
-fn refused_way(refusal: Refusal) -> MeasuredWay
-    ensures { λ r. ⌜ r ≡ noWay refusal ⌝ }
+fn no_text_plan() -> TextPlan
+    ensures { λ r. ⌜ r ≡ noTextPlan ⌝ }
 {
-    MeasuredWay {
-        way: empty_way(),
-        start: 0,
+    TextPlan {
+        tag_ids: TagIds {
+            ids: [0u64; 15],
+            count: 0,
+        },
         parts: TextParts {
             table: TagTable { start: 0, count: 0 },
             name: OptionalSpan::Absent,
             house_number: OptionalSpan::Absent,
             reference: OptionalSpan::Absent,
+        },
+    }
+}
+
+fn refused_way(refusal: Refusal) -> MeasuredWay
+    ensures { λ r. ⌜ r ≡ noWay refusal ⌝ }
+{
+    MeasuredWay {
+        way: empty_way(),
+        texts: no_text_plan(),
+        lists: ListPlan {
+            present: false,
+            start: 0,
+            blocks: 0,
         },
         end: End::Refused(refusal),
     }
@@ -150,10 +173,15 @@ fn tell_way(
         return refused_way(too_short(body.blocks, body.nodes, len as u64));
     }
     let texts = feature_tags::texts_of(map, ids, parts);
+    let tag_ids = head.tag_ids;
     MeasuredWay {
         way: way_with(head, body, texts),
-        start,
-        parts,
+        texts: TextPlan { tag_ids, parts },
+        lists: ListPlan {
+            present: true,
+            start,
+            blocks: body.blocks as usize,
+        },
         end: End::At(next),
     }
 }

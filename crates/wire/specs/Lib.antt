@@ -1,5 +1,3 @@
 pub mod Wire
 pub mod Verdicts
-pub mod Index
-pub mod Header
 pub mod Codecs

@@ -1,24 +1,18 @@
 -- Refusals, and what may be absent, as words: 1 stands in front of what is there; what is absent is all 0.
 use Prim.Native.Nat.{ℕ}
 use mathlib.Core.Bool.{false}
-use mathlib.Core.List.{List, [], _∷_}
+use mathlib.Core.List.{List, _∷_}
 use lib.IntN.{pos}
 use lib.Ieee.{Float, fin}
-use Rattle.error.specs.Refusals.{numberOf}
 use Rattle.error.specs.declared.Lengths.{Lengths}
 use Rattle.error.specs.declared.Refusal.{Refusal}
 use Rattle.error.specs.declared.Refusal.the-variants.{Source, InvalidMagic, UnsupportedVersion, InvalidBoundingBox, InvalidHeaderSize, InvalidIndexSignature, InvalidTagId, InvalidTileIndex, TextTooLong, TooManyNodes, NumberTooLong, CoordinateTooLarge, ReversedInterval, InvalidGrid, TooShort, OutOfTurn, InvalidFeature, ZoomTooLarge}
-use Rattle.types.specs.declared.End.{End}
-use Rattle.types.specs.declared.End.the-variants as end
 use Rattle.types.specs.declared.OptionalSpan.{OptionalSpan}
 use Rattle.types.specs.declared.OptionalSpan.the-variants as span
-use Rattle.types.specs.declared.OptionalByte.{OptionalByte}
-use Rattle.types.specs.declared.OptionalByte.the-variants as byte
 use Rattle.types.specs.declared.OptionalPosition.{OptionalPosition}
 use Rattle.types.specs.declared.OptionalPosition.the-variants as position
 use Rattle.wire.specs.declared.SpanWords.{SpanWords}
 use Rattle.wire.specs.declared.PlaceWords.{PlaceWords}
-use Rattle.wire.specs.declared.ByteWords.{ByteWords}
 
 -- the values of a refusal, zeros behind them
 abbrev pub oneValue : ℕ → Lengths
@@ -51,27 +45,10 @@ valuesIn ZoomTooLarge = noValues
 abbrev pub behind : Lengths → List ℕ → List ℕ
 behind v l = v .list1 ∷ v .list2 ∷ v .list3 ∷ v .list4 ∷ v .list5 ∷ v .buffer ∷ l
 
--- an end's
-abbrev pub endNumber : End → ℕ
-endNumber (end.At n) = 0
-endNumber (end.Refused r) = numberOf r
-
-abbrev pub endValues : End → Lengths
-endValues (end.At n) = noValues
-endValues (end.Refused r) = valuesIn r
-
-abbrev pub endPlace : End → ℕ
-endPlace (end.At n) = n
-endPlace (end.Refused r) = 0
-
 -- what may be absent
 abbrev pub spanWords : OptionalSpan → SpanWords
 spanWords span.Absent = record { present = 0; start = 0; size = 0 }
 spanWords (span.At s) = record { present = 1; start = s .start; size = s .size }
-
-abbrev pub byteWords : OptionalByte → ByteWords
-byteWords byte.Absent = record { present = 0; value = 0 }
-byteWords (byte.At b) = record { present = 1; value = b }
 
 -- where there is no position
 abbrev pub nowhere : Float

@@ -1,5 +1,5 @@
 use borrow.Author.Needs.{needs}
-use Rattle.wire.specs.Index.{columnNumber, columnWords, columnSigned}
+use Rattle.index_wire.specs.Index.{columnNumber, columnWords, columnSigned}
 use Rattle.exports.proofs.CallLaws.{crosses-signed}
 use Rattle.exports.proofs.mapsforge_column.Statement.{statement}
 use Rattle.exports.proofs.mapsforge_column.Tie as tie

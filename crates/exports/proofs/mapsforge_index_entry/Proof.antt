@@ -1,5 +1,5 @@
 use borrow.Author.Needs.{needs}
-use Rattle.wire.specs.Index.{entryNumber, entryWords}
+use Rattle.index_wire.specs.Index.{entryNumber, entryWords}
 use Rattle.exports.specs.Calls.{EntryOf}
 use Rattle.exports.proofs.CallLaws.{crosses-at}
 use Rattle.exports.proofs.mapsforge_index_entry.Statement.{statement}

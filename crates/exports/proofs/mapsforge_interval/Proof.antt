@@ -1,5 +1,5 @@
 use borrow.Author.Needs.{needs}
-use Rattle.wire.specs.Index.{intervalNumber, intervalWords, intervalRow}
+use Rattle.index_wire.specs.Index.{intervalNumber, intervalWords, intervalRow}
 use Rattle.exports.proofs.CallLaws.{crosses-two}
 use Rattle.exports.proofs.mapsforge_interval.Statement.{statement}
 use Rattle.exports.proofs.mapsforge_interval.Tie as tie

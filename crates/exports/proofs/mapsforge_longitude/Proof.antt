@@ -1,5 +1,5 @@
 use borrow.Author.Needs.{needs}
-use Rattle.wire.specs.Index.{longitudeNumber, longitudeWords, longitudeDegrees}
+use Rattle.index_wire.specs.Index.{longitudeNumber, longitudeWords, longitudeDegrees}
 use Rattle.exports.proofs.CallLaws.{crosses-degrees}
 use Rattle.exports.proofs.mapsforge_longitude.Statement.{statement}
 use Rattle.exports.proofs.mapsforge_longitude.Tie as tie

@@ -1,5 +1,5 @@
 use borrow.Author.Needs.{needs}
-use Rattle.wire.specs.Index.{subFileNumber, subFileWords}
+use Rattle.index_wire.specs.Index.{subFileNumber, subFileWords}
 use Rattle.exports.proofs.CallLaws.{crosses}
 use Rattle.exports.proofs.mapsforge_sub_file.Statement.{statement}
 use Rattle.exports.proofs.mapsforge_sub_file.Tie as tie

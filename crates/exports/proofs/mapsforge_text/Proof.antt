@@ -1,5 +1,5 @@
 use borrow.Author.Needs.{needs}
-use Rattle.wire.specs.Index.{textNumber, textWords}
+use Rattle.index_wire.specs.Index.{textNumber, textWords}
 use Rattle.exports.proofs.CallLaws.{crosses}
 use Rattle.exports.proofs.mapsforge_text.Statement.{statement}
 use Rattle.exports.proofs.mapsforge_text.Tie as tie

@@ -1,5 +1,5 @@
 use borrow.Author.Needs.{needs}
-use Rattle.wire.specs.Index.{countNumber, countWords}
+use Rattle.index_wire.specs.Index.{countNumber, countWords}
 use Rattle.exports.specs.Calls.{CountOf}
 use Rattle.exports.proofs.CallLaws.{crosses-at}
 use Rattle.exports.proofs.mapsforge_tile_count.Statement.{statement}

@@ -1,6 +1,6 @@
 use borrow.Author.Needs.{needs}
 use lib.IntN.{ℤ}
-use Rattle.wire.specs.Index.{indexNumber, indexWords}
+use Rattle.index_wire.specs.Index.{indexNumber, indexWords}
 use Rattle.exports.specs.Calls.{IndexOf}
 use Rattle.exports.proofs.CallLaws.{crosses-at, passed-pair}
 use Rattle.exports.proofs.mapsforge_tile_index.Statement.{statement}

@@ -1,7 +1,7 @@
 use lib.Ieee.{ofBits}
 use Rattle.wire.proofs.CaseLaws.{parts}
 use Rattle.feature_wire.specs.Features.{fetchDegrees}
-use Rattle.feature_wire.proofs.WireLaws.{by-case3}
+use Rattle.elevation_wire.proofs.ElevationLaws.{by-case3}
 use Rattle.feature_wire.proofs.fetch_degrees.Statement.{statement}
 use Rattle.feature_wire.proofs.fetch_degrees.Tie as tie
 
@@ -12,7 +12,7 @@ fetch-degrees-spec =
     (tie.spec
     (λ c. search (parts, by-case3 fetchDegrees))
     (λ c. search (parts, by-case3 fetchDegrees))
-    (λ c κs. search (parts, by-case3 fetchDegrees))
+    (λ c κs. tt)
     (λ c. search (parts, by-case3 fetchDegrees))
     (λ c. search (parts, by-case3 fetchDegrees))
     (λ c. search (parts, by-case3 fetchDegrees))

@@ -1,5 +1,6 @@
 use Rattle.feature_wire.specs.Features.{fetchIds}
-use Rattle.feature_wire.proofs.WireLaws.{made, by-case3}
+use Rattle.elevation_wire.proofs.ElevationLaws.{by-case3}
+use Rattle.feature_wire.proofs.WireLaws.{made}
 use Rattle.feature_wire.proofs.fetch_ids.Statement.{statement}
 use Rattle.feature_wire.proofs.fetch_ids.Tie as tie
 

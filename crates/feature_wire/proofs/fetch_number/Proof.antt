@@ -11,7 +11,7 @@ fetch-number-spec =
     (λ c. search (made, by-case fetchNumber))
     (λ c. search (made, by-case fetchNumber))
     (λ c. search (made, by-case fetchNumber))
-    (λ c κs. search (made, by-case fetchNumber))
+    (λ c κs. tt)
     (λ c. search (made, by-case fetchNumber))
     (λ c. search (made, by-case fetchNumber))
     (λ c. search (made, by-case fetchNumber))

@@ -1,5 +1,5 @@
 use Rattle.feature_wire.specs.Features.{fetchSigned}
-use Rattle.feature_wire.proofs.WireLaws.{signs, by-case3}
+use Rattle.elevation_wire.proofs.ElevationLaws.{signs, by-case3}
 use Rattle.feature_wire.proofs.fetch_signed.Statement.{statement}
 use Rattle.feature_wire.proofs.fetch_signed.Tie as tie
 
@@ -8,10 +8,10 @@ fetch-signed-spec =
     tie.close
     (tie.spec
     (λ c. search (signs, by-case3 fetchSigned))
-    (λ c κs. search (signs, by-case3 fetchSigned))
-    (λ c κs. search (signs, by-case3 fetchSigned))
+    (λ c κs. tt)
+    (λ c κs. tt)
     (λ c. search (signs, by-case3 fetchSigned))
-    (λ c κs. search (signs, by-case3 fetchSigned))
+    (λ c κs. tt)
     (λ c. search (signs, by-case3 fetchSigned))
     (λ c. search (signs, by-case3 fetchSigned))
     (λ c. search (signs, by-case3 fetchSigned))

@@ -1,5 +1,6 @@
 use Rattle.feature_wire.specs.Features.{fetchWords}
-use Rattle.feature_wire.proofs.WireLaws.{made, by-case3}
+use Rattle.elevation_wire.proofs.ElevationLaws.{by-case3}
+use Rattle.feature_wire.proofs.WireLaws.{made}
 use Rattle.feature_wire.proofs.fetch_words.Statement.{statement}
 use Rattle.feature_wire.proofs.fetch_words.Tie as tie
 
@@ -8,12 +9,12 @@ fetch-words-spec =
     tie.close
     (tie.spec
     (λ c. search (made, by-case3 fetchWords))
-    (λ c κs. search (made, by-case3 fetchWords))
+    (λ c κs. tt)
     (λ c. search (made, by-case3 fetchWords))
-    (λ c κs. search (made, by-case3 fetchWords))
+    (λ c κs. tt)
     (λ c. search (made, by-case3 fetchWords))
-    (λ c κs. search (made, by-case3 fetchWords))
-    (λ c κs. search (made, by-case3 fetchWords))
+    (λ c κs. tt)
+    (λ c κs. tt)
     (λ c. search (made, by-case3 fetchWords))
     (λ c. search (made, by-case3 fetchWords))
     (λ c. search (made, by-case3 fetchWords)))

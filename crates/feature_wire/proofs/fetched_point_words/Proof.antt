@@ -6,9 +6,9 @@ pub fetched-point-words-spec : {M : Type 1} → statement M
 fetched-point-words-spec =
     tie.close
     (tie.spec
-    (λ c κs. search made)
-    (λ c κs. search made)
-    (λ c κs. search made)
-    (λ c κs. search made)
-    (λ c κs. search made)
+    (λ c κs. tt)
+    (λ c κs. tt)
+    (λ c κs. tt)
+    (λ c κs. tt)
+    (λ c κs. tt)
     (λ c. search made))

@@ -6,11 +6,11 @@ pub fetched-way-words-spec : {M : Type 1} → statement M
 fetched-way-words-spec =
     tie.close
     (tie.spec
-    (λ c κs. search made)
-    (λ c κs. search made)
-    (λ c κs. search made)
-    (λ c κs. search made)
-    (λ c κs. search made)
+    (λ c κs. tt)
+    (λ c κs. tt)
+    (λ c κs. tt)
+    (λ c κs. tt)
+    (λ c κs. tt)
     (λ c. search made)
-    (λ c κs. search made)
+    (λ c κs. tt)
     (λ c. search made))

@@ -10,7 +10,7 @@ tile-number-spec =
     (tie.spec
     (λ c. search (made, by-case tileNumber))
     (λ c. search (made, by-case tileNumber))
-    (λ c κs. search (made, by-case tileNumber))
+    (λ c κs. tt)
     (λ c. search (made, by-case tileNumber))
     (λ c. search (made, by-case tileNumber))
     (λ c. search (made, by-case tileNumber)))

@@ -9,8 +9,8 @@ tile-values-spec =
     tie.close
     (tie.spec
     (λ c. search (made, by-case tileValues))
-    (λ c κs. search (made, by-case tileValues))
+    (λ c κs. tt)
     (λ c. search (made, by-case tileValues))
-    (λ c κs. search (made, by-case tileValues))
+    (λ c κs. tt)
     (λ c. search (made, by-case tileValues))
     (λ c. search (made, by-case tileValues)))

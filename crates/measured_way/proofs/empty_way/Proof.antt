@@ -6,5 +6,5 @@ pub empty-way-spec : {M : Type 1} → statement M
 empty-way-spec =
     tie.close
     (tie.spec
-    (λ c κs. search empties)
+    (λ c κs. tt)
     (λ c. search empties))

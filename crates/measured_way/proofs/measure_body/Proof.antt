@@ -6,11 +6,11 @@ pub measure-body-spec : {M : Type 1} → statement M
 measure-body-spec =
     tie.close
     (tie.spec
-    (λ c κs. search bodies)
+    (λ c κs. tt)
     (λ c. search bodies)
     (λ c. search bodies)
-    (λ c κs. search bodies)
-    (λ c κs. search bodies)
+    (λ c κs. tt)
+    (λ c κs. tt)
     (λ c. search bodies)
-    (λ c κs. search bodies)
+    (λ c κs. tt)
     (λ c. search bodies))

@@ -6,13 +6,13 @@ pub measure-way-spec : {M : Type 1} → statement M
 measure-way-spec =
     tie.close
     (tie.spec
-    (λ c κs. search heads)
+    (λ c κs. tt)
     (λ c. search heads)
     (λ c. search heads)
-    (λ c κs. search heads)
-    (λ c κs. search heads)
+    (λ c κs. tt)
+    (λ c κs. tt)
     (λ c. search heads)
     (λ c. search heads)
     (λ c. search heads)
-    (λ c κs. search heads)
+    (λ c κs. tt)
     (λ c. search heads))

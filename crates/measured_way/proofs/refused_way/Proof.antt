@@ -6,5 +6,6 @@ pub refused-way-spec : {M : Type 1} → statement M
 refused-way-spec =
     tie.close
     (tie.spec
-    (λ c κs. search empties)
+    (λ c κs. tt)
+    (λ c κs. tt)
     (λ c. search empties))

@@ -6,12 +6,12 @@ pub tell-way-spec : {M : Type 1} → statement M
 tell-way-spec =
     tie.close
     (tie.spec
-    (λ c κs. search tells)
-    (λ c κs. search tells)
-    (λ c κs. search tells)
-    (λ c κs. search tells)
-    (λ c κs. search tells)
+    (λ c κs. tt)
+    (λ c κs. tt)
+    (λ c κs. tt)
+    (λ c κs. tt)
+    (λ c κs. tt)
     (λ c. search tells)
-    (λ c κs. search tells)
-    (λ c κs. search tells)
+    (λ c κs. tt)
+    (λ c κs. tt)
     (λ c. search tells))

@@ -1,0 +1,10 @@
+use Rattle.wire.proofs.CaseLaws.{parts}
+use Rattle.header_wire.proofs.header_degrees.Statement.{statement}
+use Rattle.header_wire.proofs.header_degrees.Tie as tie
+
+pub header-degrees-spec : {M : Type 1} → statement M
+header-degrees-spec =
+    tie.close
+    (tie.spec
+    (λ c κs. search parts depth 12)
+    (λ c. search parts depth 12))

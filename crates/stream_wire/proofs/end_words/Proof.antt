@@ -1,0 +1,10 @@
+use Rattle.stream_wire.proofs.WireLaws.{made}
+use Rattle.stream_wire.proofs.end_words.Statement.{statement}
+use Rattle.stream_wire.proofs.end_words.Tie as tie
+
+pub end-words-spec : {M : Type 1} → statement M
+end-words-spec =
+    tie.close
+    (tie.spec
+    (λ c κs. tt)
+    (λ c. search made))

@@ -1,0 +1,18 @@
+use Rattle.stream_wire.proofs.WireLaws.{streams}
+use Rattle.stream_wire.proofs.turn_in.Statement.{statement}
+use Rattle.stream_wire.proofs.turn_in.Tie as tie
+
+pub turn-in-spec : {M : Type 1} → statement M
+turn-in-spec =
+    tie.close
+    (tie.spec
+    (λ c. search streams)
+    (λ c. search streams)
+    (λ c. search streams)
+    (λ c. search streams)
+    (λ c. search streams)
+    (λ c. search streams)
+    (λ c. search streams)
+    (λ c. search streams)
+    (λ c. search streams)
+    (λ c. search streams))
