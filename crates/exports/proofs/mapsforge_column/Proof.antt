@@ -8,8 +8,8 @@ pub mapsforge-column-spec : {M : Type 1} → statement M
 mapsforge-column-spec =
     tie.close
     (tie.spec
-    (λ c κs. search needs)
-    (λ c κs. search needs)
-    (λ c κs. search needs)
-    (λ c κs. search needs)
+    (λ c κs. tt)
+    (λ c κs. tt)
+    (λ c κs. tt)
+    (λ c κs. tt)
     (λ c. search (needs, crosses-signed columnNumber columnWords columnSigned, c .before .before .before .tile-column .ensures, c .before .before .column-words .ensures, c .before .column-signed .ensures, c .column-number .ensures)))

@@ -8,8 +8,8 @@ pub mapsforge-interval-spec : {M : Type 1} → statement M
 mapsforge-interval-spec =
     tie.close
     (tie.spec
-    (λ c κs. search needs)
-    (λ c κs. search needs)
-    (λ c κs. search needs)
-    (λ c κs. search needs)
+    (λ c κs. tt)
+    (λ c κs. tt)
+    (λ c κs. tt)
+    (λ c κs. tt)
     (λ c. search (needs, crosses-two intervalNumber intervalWords intervalRow, c .before .before .before .interval .ensures, c .before .before .interval-words .ensures, c .before .interval-row .ensures, c .interval-number .ensures)))

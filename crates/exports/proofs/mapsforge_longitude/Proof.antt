@@ -8,8 +8,8 @@ pub mapsforge-longitude-spec : {M : Type 1} → statement M
 mapsforge-longitude-spec =
     tie.close
     (tie.spec
-    (λ c κs. search needs)
-    (λ c κs. search needs)
-    (λ c κs. search needs)
-    (λ c κs. search needs)
+    (λ c κs. tt)
+    (λ c κs. tt)
+    (λ c κs. tt)
+    (λ c κs. tt)
     (λ c. search (needs, crosses-degrees longitudeNumber longitudeWords longitudeDegrees, c .before .before .before .tilex2long .ensures, c .before .before .longitude-words .ensures, c .before .longitude-degrees .ensures, c .longitude-number .ensures)))

@@ -8,7 +8,7 @@ pub mapsforge-measure-way-data-spec : {M : Type 1} → statement M
 mapsforge-measure-way-data-spec =
     tie.close
     (tie.spec
-    (λ c κs. search needs)
-    (λ c κs. search needs)
-    (λ c κs. search needs)
+    (λ c κs. tt)
+    (λ c κs. tt)
+    (λ c κs. tt)
     (λ c. search (needs, crosses wayDataNumber wayDataWords, c .before .before .measure-way-data .ensures, c .before .way-data-words .ensures, c .way-data-number .ensures)))

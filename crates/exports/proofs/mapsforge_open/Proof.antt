@@ -7,10 +7,10 @@ pub mapsforge-open-spec : {M : Type 1} → statement M
 mapsforge-open-spec =
     tie.close
     (tie.spec
-    (λ c κs. search needs)
-    (λ c κs. search needs)
-    (λ c κs. search needs)
-    (λ c κs. search needs)
-    (λ c κs. search needs)
-    (λ c κs. search needs)
+    (λ c κs. tt)
+    (λ c κs. tt)
+    (λ c κs. tt)
+    (λ c κs. tt)
+    (λ c κs. tt)
+    (λ c κs. tt)
     (λ c. search (needs, header-crosses, c .before .before .before .before .before .before .from-source .ensures, c .before .before .before .before .header-words .ensures, c .before .before .before .header-degrees .ensures, c .before .before .layout-of .ensures, c .before .layout-words .ensures, c .end-number .ensures)))

@@ -7,9 +7,9 @@ pub mapsforge-stream-decline-spec : {M : Type 1} → statement M
 mapsforge-stream-decline-spec =
     tie.close
     (tie.spec
-    (λ c κs. search needs)
-    (λ c κs. search needs)
-    (λ c κs. search needs)
-    (λ c κs. search needs)
-    (λ c κs. search needs)
+    (λ c κs. tt)
+    (λ c κs. tt)
+    (λ c κs. tt)
+    (λ c κs. tt)
+    (λ c κs. tt)
     (λ c. search (needs, decline-crosses, c .before .before .before .before .before .stream-in .ensures, c .before .before .before .before .decline .ensures, c .before .before .stream-words .ensures, c .before .decline-words .ensures, c .decline-number .ensures)))

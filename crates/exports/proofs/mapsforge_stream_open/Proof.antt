@@ -8,10 +8,10 @@ pub mapsforge-stream-open-spec : {M : Type 1} → statement M
 mapsforge-stream-open-spec =
     tie.close
     (tie.spec
-    (λ c κs. search needs)
-    (λ c κs. search needs)
-    (λ c κs. search needs)
-    (λ c κs. search needs)
-    (λ c κs. search needs)
-    (λ c κs. search needs)
+    (λ c κs. tt)
+    (λ c κs. tt)
+    (λ c κs. tt)
+    (λ c κs. tt)
+    (λ c κs. tt)
+    (λ c κs. tt)
     (λ c. opened-crosses _ _ _ _ (c .before .before .before .before .before .before .before .before .before .before .fits .x-min) (c .before .before .before .before .before .before .before .before .before .before .fits .y-min) (c .before .before .before .before .before .before .before .before .before .before .fits .x-max) (c .before .before .before .before .before .before .before .before .before .before .fits .y-max) _ _ _ _ (c .before .before .before .before .before .before .before .layout-in .ensures) (c .before .before .before .before .before .interval-in .ensures) (StreamOf _ _ _ _) (c .before .before .before .before .«open» .result) _ _ _ _ (c .before .before .before .before .«open» .ensures) (c .opened-number .ensures) (c .before .opened-words .ensures) (c .before .before .opened-state .ensures)))

@@ -8,7 +8,7 @@ pub mapsforge-sub-file-spec : {M : Type 1} → statement M
 mapsforge-sub-file-spec =
     tie.close
     (tie.spec
-    (λ c κs. search needs)
-    (λ c κs. search needs)
-    (λ c κs. search needs)
+    (λ c κs. tt)
+    (λ c κs. tt)
+    (λ c κs. tt)
     (λ c. search (needs, crosses subFileNumber subFileWords, c .before .before .sub-file-for-zoom .ensures, c .before .sub-file-words .ensures, c .sub-file-number .ensures)))

@@ -8,8 +8,8 @@ pub mapsforge-text-spec : {M : Type 1} → statement M
 mapsforge-text-spec =
     tie.close
     (tie.spec
-    (λ c κs. search needs)
-    (λ c κs. search needs)
-    (λ c κs. search needs)
+    (λ c κs. tt)
+    (λ c κs. tt)
+    (λ c κs. tt)
     (λ c. search needs)
     (λ c. search (needs, crosses textNumber textWords, c .before .before .before .before .write-replaced .ensures, c .before .text-words .ensures, c .text-number .ensures)))
