@@ -62,7 +62,7 @@ fn of_way(got: WayFetch) -> Fetch
     }
 }
 
-pub fn no_fetch(refusal: Refusal) -> Fetch
+fn no_fetch(refusal: Refusal) -> Fetch
     ensures { λ r. ⌜ r ≡ noFetch refusal ⌝ }
 {
     Fetch {

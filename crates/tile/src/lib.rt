@@ -44,7 +44,7 @@ pub struct TileRead {
     pub answer: TileAnswer,
 }
 
-pub fn refused_tile(refusal: Refusal) -> TileRead
+fn refused_tile(refusal: Refusal) -> TileRead
     ensures { λ r. ⌜ (r .tile ≡ emptyTile) × (r .answer ≡ TileAnswer.Refused refusal) ⌝ }
 {
     let empty = ZoomRow { points: 0, ways: 0 };
