@@ -25,7 +25,7 @@ ghost use Rattle.stream_wire.specs.Streams.{streamIn, openedWire, nextWire, acc
 ghost use Rattle.feature_wire.specs.Features.{tileWire, fetchWire};
 ghost use Rattle.exports.specs.Calls.{gridIn, tableOf, TagIs, CountOf, IndexOf, EntryOf, StreamOf, NextOf, AcceptOf, DeclineOf, TileOf, FeatureOf};
 
-// The header but for its intervals, in 34 words and six degrees, and what a stream needs of it, in five words.
+// The header but for its intervals, in 34 words and six degrees, and what tiles need of it, in five words.
 #[no_mangle]
 pub extern "C" fn mapsforge_open(
     map: &[u8],

@@ -24,7 +24,7 @@ pub byte-back : (b : OptionalByte) → byteIn (byteWords b .present) (byteWords 
 byte-back byte.Absent = refl
 byte-back (byte.At b) = refl
 
--- what a stream needs of the header
+-- what tiles need of the header
 pub layout-back : (l : TileLayout) → layoutIn (layoutWords l) ≡ l
 layout-back l = ap (λ (b : Bool). record { debug = b; «poi_tags» = l .«poi_tags»; «way_tags» = l .«way_tags» }) (truth-back (l .debug))
 

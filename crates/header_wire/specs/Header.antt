@@ -1,4 +1,4 @@
--- The header but for its zoom intervals, the place behind it, and what a stream needs of it, as words.
+-- The header but for its zoom intervals, the place behind it, and what tiles need of it, as words.
 use Prim.Native.Nat.{ℕ}
 use mathlib.Core.Bool.{cond}
 use mathlib.Core.List.{List, [], _∷_}

@@ -19,7 +19,8 @@ fn shorter(a: usize, b: usize) -> usize
     b
 }
 
-// What is planned of a way's body. Whoever plans it has seen that the lists have room; the initial positions are found in what they hold.
+// What is planned of a way's body. If one of the first three lists is too short, all three stay as they are, and the initial positions
+// are found in what they hold: a caller tests the room first. A list of initial positions that is too short stays as it is.
 pub fn write_lists(
     map: &[u8],
     plan: ListPlan,
