@@ -16,7 +16,7 @@ fn main() {
     println!("cargo::rerun-if-changed={}", archive.display());
     if !Path::new(&archive).is_file() {
         eprintln!(
-            "host/build.rs: there is no {}: run `rt staticlib exports` in the repository first, or name its folder by MAPSFORGE_LIB",
+            "host/build.rs: there is no {}: run host/library in the repository first, or name its folder by MAPSFORGE_LIB",
             archive.display()
         );
         process::exit(1);

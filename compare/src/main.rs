@@ -37,7 +37,7 @@ compare/run [--rust FOLDER] COMMAND ARGS...
   figures             checks document 01's worked figures; fails on a difference
   help                this text
 
-scale and book link target/staticlib/libexports.a, which `rt staticlib exports` builds first, or that of the folder
+scale and book link target/staticlib/libexports.a, which host/library builds first, or that of the folder
 MAPSFORGE_LIB names.
 
 FOLDER holds the Rust: error.rs, io.rs and so on. By default it is compare/mapsforge-rs.

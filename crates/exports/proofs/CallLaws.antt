@@ -28,7 +28,7 @@ use Rattle.visit.specs.declared.Accepted.{Accepted}
 use Rattle.visit.specs.declared.Declined.{Declined}
 use Rattle.visit.specs.declared.OpenRead.{OpenRead}
 use Rattle.tile.specs.declared.TileRead.{TileRead}
-use Rattle.fetch.specs.declared.Fetch.{Fetch}
+use Rattle.fetched.specs.declared.Fetch.{Fetch}
 use Rattle.wire.specs.Wire.{Wire, wire, Crosses}
 use Rattle.index_wire.specs.Index.{Named, tagWire, tagNumber, tagWords}
 use Rattle.header_wire.specs.Header.{headerWire, headerWords, headerDegrees, layoutWords}

@@ -31,7 +31,7 @@ use Rattle.tile.specs.Tile.{collectTile, TileIs}
 use Rattle.tile.specs.declared.TileRead.{TileRead}
 use Rattle.fetched.specs.Fetched.{FetchLists}
 use Rattle.fetch.specs.Fetch.{fetchTile, FeatureIs}
-use Rattle.fetch.specs.declared.Fetch.{Fetch}
+use Rattle.fetched.specs.declared.Fetch.{Fetch}
 use Rattle.index_wire.specs.Index.{Named}
 
 abbrev pub gridIn : (xMin yMin xMax yMax : ℤ) → Grid

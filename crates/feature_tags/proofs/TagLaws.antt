@@ -1,10 +1,10 @@
 -- The tags' strings filled into an array from the front, and the feature's own texts.
-use Prim.Native.Nat.{ℕ, suc, _+_, _≤_, _<_, min}
+use Prim.Native.Nat.{ℕ, _+_, _≤_, _<_, min}
 use native.Mathlib.Numerals.{add-one}
 use native.Mathlib.Omega.{arith}
 use mathlib.Core.Path.{_≡_, refl, sym, ap, _∙_}
 use mathlib.Core.Bool.{Bool, true, false}
-use mathlib.Core.List.{List, [], _∷_, _++_, map}
+use mathlib.Core.List.{List, [], _∷_, _++_}
 use lib.ListN.{length, getD, take, set, replicate}
 use lib.Dec.{leb}
 use lib.Seq.{take-suc, take-all, take-length, length-take-le}
@@ -63,8 +63,6 @@ module _ (t : Table) (m ids : List ℕ) where
   pub strings-done : (l : List TagText) (i : ℕ) → Filled t m ids l i → length ids ≤ i → l ≡ stringsOf t m ids
   strings-done l i h b = h .strings ∙ ap (stringsOf t m) (take-all i ids b)
 
-pub ruleset strings = (needs, strings-none, strings-more, strings-done)
-
 -- another text
 pub own-absent : (m : List ℕ) (key : TextKey) (o : OptionalSpan) → o ≡ span.Absent → Absent ≡ keyed key (maybePart m o)
 own-absent m key o h = rw h
@@ -73,8 +71,6 @@ pub own-at : (m b : List ℕ) (key : TextKey) (o : OptionalSpan) (s : Span) (n :
     → At (record { len = n; tag = t }) ≡ keyed key (maybePart m o)
 own-at m b key o s n t h e k q =
     rw (h, k, q, e)
-
-pub ruleset owns = (needs, own-absent, own-at)
 
 pub string-of : (s : List ℕ) (n : ℕ) (t : Tag) → n ≡ cut (length (replaced s)) → t ≡ tagOf s → _≡_ {A = TagText} (record { len = n; tag = t }) (tagString s)
 string-of s n t h k = rw (h, k)
@@ -110,5 +106,3 @@ pub texts-of : (p : TextParts) (m ids : List ℕ) (n : ℕ) (l : List TagText) (
 unfolding stringsOf
 texts-of p m ids n l a b c h e f g k =
     rw (e, f, g, k, take-15 ids n h)
-
-pub ruleset wholes = (needs, first-sized, first-few, texts-of)

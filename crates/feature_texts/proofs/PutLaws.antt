@@ -1,15 +1,14 @@
 -- The texts of a feature, written one behind the other to a buffer that has room for all.
-use Prim.Native.Nat.{ℕ, suc, _+_, _-_, _≤_, _<_, _^_}
-use native.Mathlib.Nat.{add-assoc, zero-add}
+use Prim.Native.Nat.{ℕ, _+_, _-_, _≤_, _<_, _^_}
+use native.Mathlib.Nat.{zero-add}
 use native.Mathlib.Numerals.{add-one}
 use native.Mathlib.Omega.{arith}
 use mathlib.Core.Path.{_≡_, refl, sym, ap, _∙_}
 use mathlib.Core.Bool.{Bool, true, false, cond}
-use mathlib.Core.List.{List, [], _∷_, _++_, append-assoc}
+use mathlib.Core.List.{List, [], _++_}
 use lib.Dec.{leb, ltb}
 use lib.ListN.{length, getD, drop, length-append, drop-of-length-le}
 use lib.Seq.{sets, length-sets, drop-cons}
-use borrow.Author.Needs.{needs}
 use borrow.Author.Tests.{ltb-true, ltb-false, lt-ltb, le-leb, lt-leb}
 use Rattle.parsing.proofs.Loops.{sets-append}
 use Rattle.error.specs.declared.Refusal.{Refusal}
@@ -45,8 +44,6 @@ module _ (s b b′ : List ℕ) (at : ℕ) (g : Written) (e : outcome g b′ ≡ 
 
   pub put-never-bytes : (r : Refusal) → g ≡ Refused r → at + length (replaced s) ≤ length b → b′ ≡ sets b at (replaced s)
   put-never-bytes r h f = let x = written-short s b b′ at g e r h .room in absurd (omega arith)
-
-pub ruleset putting = (needs, put-place, put-bytes, put-never, put-never-bytes)
 
 -- the tags' strings: what is left, written behind the last one, gives what is to be written
 pub record IdsLeft (f : ℕ → List ℕ) (ids b₀ b : List ℕ) (at i : ℕ) : Type 0 where
@@ -95,8 +92,6 @@ module _ (f : ℕ → List ℕ) (ids b₀ : List ℕ) where
 
     pub ids-bytes : length ids ≤ i → b ≡ sets b₀ 0 (idTexts f ids)
     ids-bytes h = sym (ap (λ c. sets b at c) (none-left h)) ∙ l .bytes
-
-pub ruleset ids-put = (needs, ids-start, ids-room, ids-more, ids-place, ids-bytes)
 
 -- the other texts behind the tags' strings
 module _ (p : TextParts) (m ids b : List ℕ) (room : length (textsIn p m ids) ≤ length b) where
@@ -179,8 +174,6 @@ module _ (p : TextParts) (m ids b : List ℕ) (room : length (textsIn p m ids) �
             ∙ ap (λ x. sets b 0 (strings ++ replaced name ++ replaced house ++ replaced x)) e₃
             ∙ ap (sets b 0) (sym all)
 
-pub ruleset all-put = (needs, strings-room, name-room, house-room, reference-room, texts-put)
-
 -- by the length that was measured
 module _ (texts b : List ℕ) (n : ℕ) (e : n ≡ cut (length texts)) where
   abbrev large : Bool → List ℕ
@@ -219,5 +212,3 @@ module _ (texts b : List ℕ) (n : ℕ) (e : n ≡ cut (length texts)) where
   write-done b′ h k w =
       let y = write-room h k in
       w ∙ sets-front texts b y ∙ rw (lt-ltb (length texts) (2 ^ 64 - 1) (small h), le-leb (length texts) (length b) y)
-
-pub ruleset writes = (needs, write-large, write-short, write-room, write-done)

@@ -4,15 +4,13 @@ use native.Mathlib.Nat.{add-assoc, add-comm, zero-add}
 use native.Mathlib.Numerals.{add-one}
 use native.Mathlib.Omega.{arith}
 use mathlib.Core.Path.{_≡_, refl, sym, ap, _∙_}
-use mathlib.Core.List.{List, [], _∷_, _++_, map, append-nil, append-assoc}
+use mathlib.Core.List.{List, [], _++_}
 use lib.ListN.{length, getD, drop, length-append, drop-of-length-le}
 use lib.Seq.{drop-cons}
-use borrow.Author.Needs.{needs}
-use Rattle.parsing.specs.Parse.{Res, ok, no, Part, Maybe, none, some}
-use Rattle.parsing.specs.Good.{no-ok}
+use Rattle.parsing.specs.Parse.{Part, Maybe, none, some}
 use Rattle.error.specs.declared.Refusal.{Refusal}
 use Rattle.arithmetic.specs.Cut.{cut}
-use Rattle.arithmetic.proofs.CutLaws.{cut-fits, cut-add, cut-small}
+use Rattle.arithmetic.proofs.CutLaws.{cut-fits, cut-add}
 use Rattle.byte_source.specs.Answers.{spanRes, spanBytes}
 use Rattle.byte_source.specs.declared.Span.{Span}
 use Rattle.byte_source.specs.declared.SpanRead.{SpanRead}
@@ -43,8 +41,6 @@ bytes-at m o s b h e = rw h e
 pub bytes-absent : (m : List ℕ) (o : OptionalSpan) → o ≡ Absent → [] ≡ bytesOf (maybePart m o)
 bytes-absent m o h = rw h
 
-pub ruleset names = (needs, name-missing, name-found, bytes-at, bytes-absent)
-
 -- lengths, summed
 module _ (f : ℕ → List ℕ) (ids : List ℕ) (len i : ℕ) where
   pub len-start : cut (0 + length (idTexts f (drop 0 ids))) ≡ cut (length (idTexts f ids))
@@ -70,8 +66,6 @@ module _ (f : ℕ → List ℕ) (ids : List ℕ) (len i : ℕ) where
     len-done b s =
         let w : cut (len + length (idTexts f (drop i ids))) ≡ cut len = rw (drop-of-length-le ids b) (let z : len + 0 ≡ len = omega arith in rw z) in
         sym (cut-fits len s) ∙ sym w ∙ e
-
-pub ruleset lengths = (needs, len-start, len-more, len-done, cut-small)
 
 -- a text that is there, or not
 replaced-nil : replaced [] ≡ []
@@ -107,5 +101,3 @@ lengths-sum p m ids a b c d x y z ha hb hc hd hx hy hz =
 -- bytes whose length is known
 pub length-of : (s t : List ℕ) (n : ℕ) → n ≡ cut (length (replaced s)) → s ≡ t → n ≡ cut (length (replaced t))
 length-of s t n h e = h ∙ ap (λ l. cut (length (replaced l))) e
-
-pub ruleset sums = (needs, lengths-sum, length-of)

@@ -8,7 +8,6 @@ use mathlib.Core.List.{map as mapped}
 use lib.ListN.{length, set, take, drop, getD, replicate, length-append, length-map, length-take, length-replicate, drop-of-length-le}
 use lib.Seq.{take-suc, take-all}
 use mathlib.Core.List.{append-nil}
-use borrow.Author.Needs.{needs}
 use Rattle.format.specs.Lent.{front}
 use Rattle.types.proofs.FillLaws.{map-append, front-more}
 use Rattle.fetched.specs.declared.TagText.{TagText}
@@ -76,5 +75,3 @@ module _ (tags : List TagText) (n : length tags ≡ 15) (out : List ℕ) (i : �
 
   pub tags-done : 15 ≤ i → out ≡ tagWords tags
   tags-done h = e ∙ ap (λ x. front (tagWords x) (replicate 75 0)) (take-all i tags (omega arith)) ∙ ap (λ x. tagWords tags ++ x) (drop-of-length-le (replicate 75 0) {i = length (tagWords tags)} (omega (arith, length-replicate {A = ℕ} 75 0, tags-length tags))) ∙ append-nil (tagWords tags)
-
-pub ruleset fills = (needs, tags-none, tags-more, tags-done)

@@ -1,7 +1,7 @@
 // What a collected tile and a fetched feature answer, as words for programs in other languages.
 use blocks::ZoomRow;
 use error::Lengths;
-use fetch::FetchAnswer;
+use fetched::FetchAnswer;
 use fetched::FetchedPoi;
 use fetched::FetchedWay;
 use fetched::OptionalText;

@@ -1,5 +1,5 @@
 -- A fetched feature, by where it stands and what was read there.
-use Prim.Native.Nat.{ℕ, zero, suc, _+_, _-_, _≤_, _<_, zero-le}
+use Prim.Native.Nat.{ℕ, zero, suc, _+_, _-_, _<_, zero-le}
 use native.Mathlib.Nat.{le-of-suc-le-suc, not-suc-le-zero}
 use native.Mathlib.Omega.{arith}
 use mathlib.Core.Path.{_≡_, refl, sym, ap, _∙_, subst}
@@ -8,12 +8,9 @@ use mathlib.Core.List.{List, [], _∷_}
 use lib.Dec.{leb, ltb}
 use lib.Ieee.{Float}
 use lib.ListN.{length}
-use borrow.Author.Needs.{needs}
 use borrow.Author.Tests.{ltb-true, ltb-false, le-leb}
-use Rattle.parsing.specs.Parse.{Res, ok, no, andThen, mapRes, Parser, many, Part, Maybe, none, some, nth}
-use Rattle.parsing.specs.Good.{ok-val, ok-at, no-ok}
+use Rattle.parsing.specs.Parse.{Res, ok, no, andThen, mapRes, Parser, many, Maybe, none, some, nth}
 use Rattle.parsing.proofs.Lists.{nth-past}
-use Rattle.error.specs.Refusals.{refused}
 use Rattle.error.specs.declared.Refusal.{Refusal}
 use Rattle.error.specs.declared.Refusal.the-variants.{Source}
 use Rattle.format.specs.Header.{Interval}
@@ -46,9 +43,9 @@ use Rattle.measured_way.specs.MeasuredWay.{emptyWay, wayStored}
 use Rattle.fetch_way.specs.FetchWay.{lent, WayFetchIs}
 use Rattle.fetch_way.specs.declared.WayFetch.{WayFetch}
 use Rattle.fetch.specs.Fetch.{Feature, aPoi, aWay, fetchedAs, given, fetchAt, fetchTile, featureRes, poiIn, wayIn, FeatureIs, answerAt, ofPoi, ofWay, noFetch, readAt, FetchedAt, wayEnd, OtherAt}
-use Rattle.fetch.specs.declared.FetchAnswer.{FetchAnswer}
-use Rattle.fetch.specs.declared.FetchAnswer.the-variants as fetch-answer
-use Rattle.fetch.specs.declared.Fetch.{Fetch}
+use Rattle.fetched.specs.declared.FetchAnswer.{FetchAnswer}
+use Rattle.fetched.specs.declared.FetchAnswer.the-variants as fetch-answer
+use Rattle.fetched.specs.declared.Fetch.{Fetch}
 
 -- what is made of an answer
 pub refused-there : (a : FetchAnswer) (e : End) (x : Refusal) → e ≡ end.Refused x → fetch-answer.Refused x ≡ answerAt a e
@@ -65,8 +62,6 @@ way-made g a p h k = rw (h, k)
 
 pub none-made : (x : Refusal) (p : FetchedPoi) (w : FetchedWay) → p ≡ emptyPoi → w ≡ emptyWay → _≡_ {A = Fetch} (record { answer = fetch-answer.Refused x; poi = p; way = w }) (noFetch x)
 none-made x p w h k = rw (h, k)
-
-pub ruleset makes = (needs, refused-there, kept-there, poi-made, way-made, none-made)
 
 -- delivering a point or a way is delivering a feature
 delivered-as : {A : Type 0} (f : A → Feature) (stored : Res (Fetched A)) (l : FetchLists)
@@ -165,8 +160,6 @@ no-way-there p i h = rw h
 pub nothing-there : (p : FeaturePlace) (x : Refusal) → p ≡ place.Refused x → end.Refused Source ≡ wayEnd p
 nothing-there p x h = rw h
 
-pub ruleset ways = (needs, a-way-there, no-way-there, nothing-there)
-
 -- at a place that is no way's
 module _ (l : TileLayout) (p : FeaturePlace) (m b : List ℕ) (r : Fetch) where
   pub at-point : (i : ℕ) (g : PoiFetch) (left : List ℕ) → p ≡ place.Point i → PoiFetchIs (poiStored (l .debug) (l .«poi_tags») m i) b g left → r ≡ ofPoi g → OtherAt l p m b r left
@@ -186,8 +179,6 @@ module _ (l : TileLayout) (p : FeaturePlace) (m b : List ℕ) (r : Fetch) where
 
       never : {x : Refusal} → end.At i ≡ end.Refused x → ⊥
       never e = let z = ap isAt e in omega arith
-
-pub ruleset others = (needs, at-point, at-none, at-way)
 
 -- value k of a run, and where it stands
 module _ {A : Type 0} (p : Parser A) (m : List ℕ) where
@@ -301,5 +292,3 @@ module _ (l : TileLayout) (i : Maybe Interval) (grid : Grid) (number k : ℕ) (m
         there (place.Point n) d = let z = ap isAt d in absurd (omega arith)
         there (place.Way n) d = ap (λ a. answer (wayAt a)) (ap placeAt d)
         there (place.Refused x) d = let z = ap isAt d in absurd (omega arith)
-
-pub ruleset fetches = (needs, other-fetched, way-fetched)

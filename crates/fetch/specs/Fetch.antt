@@ -33,9 +33,9 @@ use Rattle.fetch_poi.specs.declared.PoiFetch.{PoiFetch}
 use Rattle.measured_way.specs.MeasuredWay.{emptyWay, wayStored}
 use Rattle.fetch_way.specs.FetchWay.{lent}
 use Rattle.fetch_way.specs.declared.WayFetch.{WayFetch}
-use Rattle.fetch.specs.declared.FetchAnswer.{FetchAnswer}
-use Rattle.fetch.specs.declared.FetchAnswer.the-variants as fetch-answer
-use Rattle.fetch.specs.declared.Fetch.{Fetch}
+use Rattle.fetched.specs.declared.FetchAnswer.{FetchAnswer}
+use Rattle.fetched.specs.declared.FetchAnswer.the-variants as fetch-answer
+use Rattle.fetched.specs.declared.Fetch.{Fetch}
 
 pub data Feature : Type 0 where
   aPoi : FetchedPoi → Feature

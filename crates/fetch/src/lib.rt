@@ -3,6 +3,8 @@ use error::Refusal;
 use feature_place::FeaturePlace;
 use fetch_poi::PoiFetch;
 use fetch_way::WayFetch;
+use fetched::Fetch;
+use fetched::FetchAnswer;
 use fetched::FetchedPoi;
 use fetched::FetchedWay;
 use index::IntervalRead;
@@ -14,19 +16,6 @@ ghost use Rattle.types.specs.Types.{gridOf};
 ghost use Rattle.index.specs.Answers.{intervalFound};
 ghost use Rattle.fetch_way.specs.FetchWay.{lent};
 ghost use Rattle.fetch.specs.Fetch.{answerAt, ofPoi, ofWay, noFetch, fetchTile, wayEnd, OtherAt, FeatureIs};
-
-pub enum FetchAnswer {
-    Point,
-    Way,
-    Refused(Refusal),
-}
-
-// The point and the way stand beside the answer; each is empty where it is not the answer.
-pub struct Fetch {
-    pub answer: FetchAnswer,
-    pub poi: FetchedPoi,
-    pub way: FetchedWay,
-}
 
 // An answer that came from a place, or the refusal there.
 fn answer_at(answer: FetchAnswer, end: End) -> FetchAnswer

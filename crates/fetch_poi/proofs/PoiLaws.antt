@@ -1,13 +1,11 @@
 -- A point as it is fetched, by what the readers answered.
 use Prim.Native.Nat.{ℕ, _-_, _^_, _≤_, _<_}
 use native.Mathlib.Omega.{arith}
-use mathlib.Core.Path.{_≡_, refl, sym, ap, _∙_, subst}
-use mathlib.Core.Bool.{Bool, cond}
-use mathlib.Core.List.{List, [], _∷_, _++_}
-use lib.Dec.{leb}
+use mathlib.Core.Path.{_≡_, sym, ap, _∙_, subst}
+use mathlib.Core.Bool.{Bool}
+use mathlib.Core.List.{List}
 use lib.ListN.{length, take}
 use lib.Seq.{take-all}
-use borrow.Author.Needs.{needs}
 use borrow.Author.Tests.{lt-ltb, le-leb, lt-leb}
 use Rattle.parsing.specs.Parse.{Res, ok, no, mapRes, none}
 use Rattle.parsing.specs.Good.{no-ok}
@@ -19,7 +17,6 @@ use Rattle.format.specs.Kinds.{tagKinds}
 use Rattle.format.specs.Lent.{front}
 use Rattle.format.specs.Tile.{Point, point}
 use Rattle.types.specs.Types.{endRes, endRefusal, maybePart}
-use Rattle.types.specs.declared.End.{End}
 use Rattle.types.specs.declared.End.the-variants as end
 use Rattle.types.specs.declared.TagTable.{TagTable}
 use Rattle.tag_table.specs.Tables.{tableIn}
@@ -28,7 +25,7 @@ use Rattle.poi.specs.Poi as poi
 use Rattle.poi.specs.Poi.{poiOf, PoiIs}
 use Rattle.poi.specs.declared.Poi.{Poi}
 use Rattle.poi.specs.declared.PoiRead.{PoiRead}
-use Rattle.fetched.specs.Fetched.{walkedName, buffered, featureTexts, noTexts, Fetched, fetchedPoint, FetchReply, deliverAll}
+use Rattle.fetched.specs.Fetched.{walkedName, buffered, featureTexts, noTexts, fetchedPoint, FetchReply, deliverAll}
 use Rattle.fetched.specs.declared.FeatureTexts.{FeatureTexts}
 use Rattle.fetched.specs.declared.FetchedPoi.{FetchedPoi}
 use Rattle.fetched.proofs.FetchLaws.{is-refused, is-done}
@@ -42,8 +39,6 @@ use Rattle.fetch_poi.specs.declared.PoiFetch.{PoiFetch}
 -- where there is no point
 pub nothing : (t : FeatureTexts) → t ≡ noTexts → poiWith poi.emptyPoi t ≡ emptyPoi
 nothing t h = rw h
-
-pub ruleset empties = (needs, nothing)
 
 -- an answer
 abbrev Reply : Type 0
@@ -100,8 +95,6 @@ module _ (t : TagTable) (p : Poi) (ids : List ℕ) (next : ℕ) (m b : List ℕ)
       → PoiWritten t p ids next m b (record { poi = v; end = end.At next }) left
   poi-done left tx v h u d a = record { each = λ s e i w. is-done emptyPoi _ (bufferOnly b) v next (bufferOnly left) (done-reply s e i w left tx v h u d a) }
 
-pub ruleset texts = (needs, poi-short, poi-done)
-
 -- the point, read from its place
 module _ (debug : Bool) (t : TagTable) (m : List ℕ) (at : ℕ) (g : PoiRead) (q : PoiIs (point debug (tagKinds (tableIn t) m) m at) g) where
   abbrev stored : Res Point
@@ -133,5 +126,3 @@ module _ (debug : Bool) (t : TagTable) (m : List ℕ) (at : ℕ) (g : PoiRead) (
     pub fetch-on : (b left : List ℕ) (r : PoiFetch) → PoiWritten t (g .poi) (take (g .poi .«tag_ids» .count) (g .poi .«tag_ids» .ids)) n m b r left → PoiFetchIs (poiStored debug t m at) b r left
     fetch-on b left r w =
         subst (λ (s : Res Point). PoiFetchIs (mapRes (fetchedPoint (walkedName (tableIn t) m)) s) b r left) (sym (known .same)) (w .each (known .value) (known .shown) (ids-are (g .poi .«tag_ids») (known .value .tagged .ids) ids-told) facts)
-
-pub ruleset fetches = (needs, fetch-no, ids-in, ids-sized, fetch-on)

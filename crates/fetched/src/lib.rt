@@ -1,4 +1,5 @@
 // What is handed out of a fetched feature: records, and their definitions in specs/. No code.
+use error::Refusal;
 use poi::OptionalElevation;
 use tag::Tag;
 use tagged::TagIds;
@@ -47,4 +48,17 @@ pub struct FetchedWay {
     pub double_delta: bool,
     pub blocks: u64,
     pub nodes: u64,
+}
+
+pub enum FetchAnswer {
+    Point,
+    Way,
+    Refused(Refusal),
+}
+
+// The point and the way stand beside the answer; each is empty where it is not the answer.
+pub struct Fetch {
+    pub answer: FetchAnswer,
+    pub poi: FetchedPoi,
+    pub way: FetchedWay,
 }

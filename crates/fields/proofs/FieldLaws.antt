@@ -5,16 +5,24 @@ use mathlib.Core.Bool.{Bool, true, false}
 use mathlib.Core.List.{List}
 use borrow.Author.Needs.{needs}
 use borrow.Author.Tests.{not-true, not-false}
-use Rattle.parsing.specs.Parse.{Res, ok, no, Parser, Part, Maybe, none, some, andThen, mapRes, optional}
+use Rattle.parsing.specs.Parse.{Res, ok, no, Parser, Part, Maybe, none, some, andThen, mapRes, optional, part}
 use Rattle.parsing.proofs.Steps.{step, then-then}
 use Rattle.error.specs.Refusals.{refused}
 use Rattle.error.specs.declared.Refusal.{Refusal}
 use Rattle.byte_source.specs.declared.Span.{Span}
-use Rattle.byte_source.specs.Answers.{spanBytes}
+use Rattle.byte_source.specs.Answers.{spanBytes, spanRes, spanRefusal}
+use Rattle.byte_source.specs.declared.SpanRead.{SpanRead}
+use Rattle.byte_source.specs.declared.SpanRead.the-variants as bytes
 use Rattle.byte_source.proofs.ReadLaws.{Taken, ViewPasses, view-passes, ViewStops, view-stops, stop, taken, byte-ok, byte-no}
 use Rattle.text.specs.Utf8.{valid}
-use Rattle.format.specs.WayData.{Node}
-use Rattle.types.specs.Types.{optionalSpan, maybePart, nodePosition}
+use Rattle.utils.specs.Vbe.{text, coordinate}
+use Rattle.utils.specs.Answers.{microRes, microRefusal}
+use Rattle.utils.specs.declared.Microdegrees.{Microdegrees}
+use Rattle.utils.specs.declared.MicroRead.{MicroRead}
+use Rattle.utils.specs.declared.MicroRead.the-variants as micro
+use Rattle.format.specs.Tile.{debugSignature}
+use Rattle.format.specs.WayData.{Node, node}
+use Rattle.types.specs.Types.{optionalSpan, maybePart, nodePosition, positionOf}
 use Rattle.types.specs.declared.Position.{Position}
 use Rattle.types.specs.declared.OptionalSpan.{OptionalSpan}
 use Rattle.types.specs.declared.OptionalSpan.the-variants.{Absent, At}
@@ -92,6 +100,38 @@ pub ruleset reads = (types.reads, optional-span-ok, optional-span-no, position-o
 pub ruleset announced = (needs, then-then, byte-ok, byte-no, optional-span-ok, optional-span-no)
 
 pub ruleset flagged = (reads, not-true, not-false, optional-yes, optional-no, optional-on, optional-off)
+
+-- what this crate reads, by the answers: the searches are here, where little is known
+module _ (m : List ℕ) (at : ℕ) (f : Bool) (o : f ≡ true) (g : SpanRead) where
+  module _ (q : spanRes m g ≡ text m at) where
+    pub no-text : (x y : Refusal) → g ≡ bytes.Refused x → y ≡ spanRefusal g → refused y ≡ optional f text m at
+    no-text x y h w = search flagged
+
+    pub some-text : (s : Span) (n : ℕ) → g ≡ bytes.Value s n → ok (maybePart m (At s)) n ≡ optional f text m at
+    some-text s n h = search flagged
+
+  module _ (q : spanRes m g ≡ part 32 m at) where
+    pub no-signature : (x y : Refusal) → g ≡ bytes.Refused x → y ≡ spanRefusal g → refused y ≡ debugSignature f m at
+    unfolding debugSignature
+    no-signature x y h w = search flagged
+
+    pub some-signature : (s : Span) (n : ℕ) → g ≡ bytes.Value s n → ok (maybePart m (At s)) n ≡ debugSignature f m at
+    unfolding debugSignature
+    some-signature s n h = search flagged
+
+module _ (m : List ℕ) (at : ℕ) (g : MicroRead) (q : microRes g ≡ coordinate m at) where
+  pub no-latitude : (x y : Refusal) → g ≡ micro.Refused x → y ≡ microRefusal g → refused y ≡ mapRes nodePosition (node m at)
+  unfolding node
+  no-latitude x y h w = search flagged
+
+  module _ (a : Microdegrees) (i : ℕ) (h : g ≡ micro.Value a i) (b : MicroRead) (d : microRes b ≡ coordinate m i) where
+    pub no-longitude : (x y : Refusal) → b ≡ micro.Refused x → y ≡ microRefusal b → refused y ≡ mapRes nodePosition (node m at)
+    unfolding node
+    no-longitude x y k w = search flagged
+
+    pub whole-position : (o : Microdegrees) (n : ℕ) (p : Position) → b ≡ micro.Value o n → p ≡ positionOf (a .0) (o .0) → ok p n ≡ mapRes nodePosition (node m at)
+    unfolding node
+    whole-position o n p k w = search flagged
 
 -- a text as it is streamed
 module _ (m : List ℕ) (o : OptionalSpan) where

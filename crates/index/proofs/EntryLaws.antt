@@ -1,12 +1,13 @@
 -- Where an entry of the tile index stands, and what it says.
-use Prim.Native.Nat.{ℕ, _+_, _*_, _%_, _^_, _<_}
+use Prim.Native.Nat.{ℕ, _+_, _*_, _%_, _^_, _≤_, _<_}
 use native.Mathlib.Nat.{add-assoc}
 use native.Mathlib.Omega.{arith}
-use mathlib.Core.Path.{_≡_, refl, sym, ap, _∙_}
+use mathlib.Core.Path.{_≡_, sym, ap, _∙_}
 use mathlib.Core.Bool.{Bool, true, false, cond}
-use mathlib.Core.List.{List}
-use lib.Dec.{leb, lit≤}
+use mathlib.Core.List.{List, []}
+use lib.Dec.{leb, ltb, lit≤}
 use lib.ListN.{length}
+use borrow.Author.Tests.{lt-ltb, le-ltb}
 use Rattle.parsing.specs.Parse.{Res, ok, no, Parser, andThen}
 use Rattle.parsing.specs.Good.{ok-val, no-ok}
 use Rattle.parsing.proofs.Ends.{PastEnd, bind-end}
@@ -14,15 +15,22 @@ use Rattle.error.specs.Refusals.{refused}
 use Rattle.error.specs.declared.Refusal.{Refusal}
 use Rattle.arithmetic.specs.Cut.{cut}
 use Rattle.arithmetic.proofs.CutLaws.{at-cut}
+use Rattle.byte_source.specs.Answers.{numberRes, numberRefusal}
+use Rattle.byte_source.specs.BigEndian.{bigEndian}
+use Rattle.byte_source.specs.declared.NumberRead.{NumberRead}
+use Rattle.byte_source.specs.declared.NumberRead.the-variants as number
 use Rattle.byte_source.proofs.ByteLaws.{bigEndian-end}
-use Rattle.format.specs.Index.{Grid as TileGrid, gridTiles, Entry, entry, entryAt}
-use Rattle.index.specs.Answers.{gridRes, heldEntry, heldRes, entryRes, entryRefusal}
+use Rattle.format.specs.Index.{Grid as TileGrid, gridTiles, Entry, entry, entryAt, entryIn, tileIndexEntry}
+use Rattle.types.specs.declared.ZoomInterval.{ZoomInterval}
+use Rattle.index.specs.Answers.{intervalFound, gridRes, gridRefusal, heldEntry, heldRes, entryRes, entryRefusal}
 use Rattle.index.specs.declared.TileIndexEntry.{TileIndexEntry}
 use Rattle.index.specs.declared.EntryRead.{EntryRead}
 use Rattle.index.specs.declared.EntryRead.the-variants as read
 use Rattle.index.specs.declared.GridRead.{GridRead}
+use Rattle.index.specs.declared.IntervalRead.{IntervalRead}
+use Rattle.index.specs.declared.IntervalRead.the-variants as interval
 use Rattle.index.specs.declared.GridRead.the-variants as grid
-use Rattle.index.proofs.AnswerLaws.{reads, tiles-small, entry-refused}
+use Rattle.index.proofs.AnswerLaws.{tiles-small, entry-refused}
 
 -- the debug flag
 pub flag-set : (d : Bool) (x y : ℕ) → d ≡ true → x ≡ cond d x y
@@ -42,6 +50,18 @@ tile-small r n g tile e h k = omega (arith, tiles-small r n g e h)
 pub entry-held : (n start absolute : ℕ) → absolute ≡ cut (start + n % 549755813888) → ok (record { «is_water» = leb 549755813888 n; offset = n % 549755813888; «offset_abs» = absolute }) 0 ≡ ok (heldEntry (record { water = leb (2 ^ 39) n; offset = n % 2 ^ 39; absolute = start + n % 2 ^ 39 })) 0
 entry-held n start absolute h = rw h
 
+-- the entry that was read, or not
+module _ (m : List ℕ) (start at : ℕ) (g : NumberRead) (q : numberRes g ≡ bigEndian 5 m at) where
+  read-by : (g′ : NumberRead) → g ≡ g′ → heldRes (andThen (numberRes g′) (λ n e. ok (record { water = leb (2 ^ 39) n; offset = n % 2 ^ 39; absolute = start + n % 2 ^ 39 }) e)) ≡ heldRes (entry start m at)
+  unfolding entry
+  read-by g′ h = ap (λ r. heldRes (andThen r (λ n e. ok (record { water = leb (2 ^ 39) n; offset = n % 2 ^ 39; absolute = start + n % 2 ^ 39 }) e))) (ap numberRes (sym h) ∙ q)
+
+  pub read-refused : (e′ e : Refusal) → g ≡ number.Refused e → e′ ≡ numberRefusal g → refused e′ ≡ heldRes (entry start m at)
+  read-refused e′ e h p = ap refused (p ∙ ap numberRefusal h) ∙ read-by (number.Refused e) h
+
+  pub read-value : (n next absolute : ℕ) → g ≡ number.Value n next → absolute ≡ cut (start + n % 549755813888) → ok (record { «is_water» = leb 549755813888 n; offset = n % 549755813888; «offset_abs» = absolute }) 0 ≡ heldRes (entry start m at)
+  read-value n next absolute h k = entry-held n start absolute k ∙ read-by (number.Value n next) h
+
 -- a read at a place that the code holds cut is the read at the true place
 entry-end : (start : ℕ) → PastEnd (entry start)
 unfolding entry
@@ -50,7 +70,32 @@ entry-end start = bind-end _ (bigEndian-end 5 (lit≤ tt))
 pub entry-cut : {B : Type 0} (m : List ℕ) (start place at : ℕ) (f : Entry → ℕ → Res B) (x : Res B) → length m < 2 ^ 64 → at ≡ cut place → x ≡ andThen (entry start m at) f → x ≡ andThen (entry start m place) f
 entry-cut m start place at f x l h e = e ∙ ap (λ r. andThen r f) (ap (entry start m) h ∙ at-cut (entry-end start) m place l)
 
-pub ruleset entries = (reads, flag-set, flag-clear, place-is, tile-small, entry-held, entry-cut)
+-- the entry of a tile, by the answer of its grid
+module _ (d : Bool) (start : ℕ) (g : TileGrid) (tile : ℕ) (m : List ℕ) (r : GridRead) (q : gridRes r ≡ gridTiles g) where
+  tiles-by : (r′ : GridRead) → r ≡ r′ → heldRes (andThen (gridRes r′) (λ n _. cond (ltb tile n) (entry start m (entryAt d start tile)) (no 8 []))) ≡ heldRes (entryIn d start g tile m)
+  unfolding entryIn
+  tiles-by r′ h = ap (λ x. heldRes (andThen x (λ n _. cond (ltb tile n) (entry start m (entryAt d start tile)) (no 8 [])))) (ap gridRes (sym h) ∙ q)
+
+  pub in-refused : (e′ e : Refusal) → r ≡ grid.Refused e → e′ ≡ gridRefusal r → refused e′ ≡ heldRes (entryIn d start g tile m)
+  in-refused e′ e h p = ap refused (p ∙ ap gridRefusal h) ∙ tiles-by (grid.Refused e) h
+
+  pub in-past : (n : ℕ) → r ≡ grid.Tiles n → n ≤ tile → no 8 [] ≡ heldRes (entryIn d start g tile m)
+  in-past n h k = ap (λ c. heldRes (cond c (entry start m (entryAt d start tile)) (no 8 []))) (sym (le-ltb tile n k)) ∙ tiles-by (grid.Tiles n) h
+
+  pub in-read : (n at : ℕ) (x : Res TileIndexEntry) → r ≡ grid.Tiles n → tile < n → length m < 2 ^ 64 → at ≡ cut (entryAt d start tile) → x ≡ heldRes (entry start m at) → x ≡ heldRes (entryIn d start g tile m)
+  in-read n at x h k l p e =
+      entry-cut m start (entryAt d start tile) at (λ v _. ok (heldEntry v) 0) x l p e
+      ∙ ap (λ c. heldRes (cond c (entry start m (entryAt d start tile)) (no 8 []))) (sym (lt-ltb tile n k)) ∙ tiles-by (grid.Tiles n) h
+
+-- the same by its interval
+module _ (d : Bool) (g : TileGrid) (tile : ℕ) (m : List ℕ) (f : IntervalRead) where
+  pub entry-missing : f ≡ interval.Missing → no 8 [] ≡ heldRes (tileIndexEntry d (intervalFound f) g tile m)
+  unfolding tileIndexEntry
+  entry-missing h = ap (λ x. heldRes (tileIndexEntry d (intervalFound x) g tile m)) (sym h)
+
+  pub entry-found : (z : ZoomInterval) (x : Res TileIndexEntry) → f ≡ interval.At z → x ≡ heldRes (entryIn d (z .«sub_file_start») g tile m) → x ≡ heldRes (tileIndexEntry d (intervalFound f) g tile m)
+  unfolding tileIndexEntry
+  entry-found z x h p = p ∙ ap (λ y. heldRes (tileIndexEntry d (intervalFound y) g tile m)) (sym h)
 
 -- for callers: what a definition reads at the entry's tile, the code may read at the place that it holds
 pub entry-ok : {B : Type 0} (g : EntryRead) (v : TileIndexEntry) (m : List ℕ) (r : Res Entry) (body : Bool → Parser B) (x : Res B) → entryRes g ≡ heldRes r → g ≡ read.Entry v → length m < 2 ^ 64 → ((water : Bool) → PastEnd (body water)) → x ≡ body (v .«is_water») m (v .«offset_abs») → x ≡ andThen r (λ e _. body (e .water) m (e .absolute))

@@ -10,9 +10,8 @@ use lib.IntN.{ℤ, natAbs, _-ℤ_}
 use lib.Signed.{mag, leZ}
 use mir.Syntax.{w64}
 use mir.Val.{Fits}
-use borrow.Author.Needs.{needs}
 use borrow.Author.Tests.{leb-true, le-leb, lt-leb}
-use Rattle.parsing.specs.Parse.{Res, ok, no, Maybe, none, some}
+use Rattle.parsing.specs.Parse.{Res, no, Maybe, none, some}
 use Rattle.parsing.specs.Good.{ok-val, no-ok}
 use Rattle.format.specs.Header.{between}
 use Rattle.format.specs.Index.{Grid as TileGrid, width, tilesOf, goodGrid, gridTiles, inGrid, rowMajor, indexIn, gridIndex, answer}
@@ -104,8 +103,6 @@ module _ (g : Grid) (columns rows : ℕ) (e : columns ≡ width (back (g .«x_mi
       (good (gridOf g) (width-ordered (g .«x_min») (g .«x_max») (rw columns-is at b)) (width-ordered (g .«y_min») (g .«y_max») (rw rows-is at b′))
       (rw tiles-is at (under columns rows b h)))
 
-pub ruleset grids = (needs, product-fits, reversed-x, reversed-y, too-many, counted)
-
 -- a grid that was counted
 pub record Counted (g : TileGrid) (n : ℕ) : Type 0 where
   pub good : goodGrid g ≡ true
@@ -137,8 +134,6 @@ module _ (g : Grid) (x y : ℤ) (r : Bool) (e : r ≡ between (back (g .«x_min�
 
   pub column-in : (s : Bool) → not r ≡ false → s ≡ between (back (g .«y_min»)) (back (g .«y_max»)) (back y) → mag (g .«y_min») < 2 ^ 31 → mag (g .«y_max») < 2 ^ 31 → mag y < 2 ^ 31 → s ≡ inGrid (gridOf g) x y
   column-in s h d a b c = rw (passed r _ column-is h) (d ∙ rw (back-is (g .«y_min») a, back-is (g .«y_max») b, back-is y c))
-
-pub ruleset ranges = (needs, column-out, column-in)
 
 -- the number of a tile is below the number of tiles
 in-product : (r c R C : ℕ) → r ≤ R → c ≤ C → r * (C + 1) + c < (C + 1) * (R + 1)
@@ -182,8 +177,6 @@ module _ (g : Grid) (x y : ℤ) (t : Inside (gridOf g) x y) (i : mag (g .«x_min
 
     pub number-fits : Fits w64 (row * columns + column)
     number-fits = record { fits = omega (arith, number-is, number-small) }
-
-pub ruleset numbers = (needs, ordered-x, ordered-y, number-is, row-fits, number-fits)
 
 -- none outside the grid, and the tile's number in it
 module _ (g : TileGrid) (x y : ℤ) (r : Bool) (e : r ≡ inGrid g (back x) (back y)) (m : mag x < 2 ^ 31) (n : mag y < 2 ^ 31) where

@@ -1,7 +1,7 @@
 -- Signed numbers of 32 bits as the code's locals hold them, and how far one is above another.
 use Prim.Native.Nat.{ℕ, zero, suc, _+_, _-_, _^_, _≤_, _<_}
 use native.Mathlib.Omega.{arith}
-use mathlib.Core.Path.{_≡_, refl, sym, ap, _∙_}
+use mathlib.Core.Path.{_≡_, refl, sym, _∙_}
 use mathlib.Core.Bool.{Bool, true, false, not, false≢true}
 use lib.Dec.{T}
 use lib.IntN.{ℤ, pos, negsuc, natAbs, _-ℤ_}
@@ -9,7 +9,6 @@ use lib.Signed.{mag, leZ, nonNeg}
 use mir.Syntax.{w32, w64}
 use mir.Val.{Fits, SFits, toZ, ofZ}
 use mir.Facts.{toZ-ofZ, sfits-widen}
-use borrow.Author.Needs.{needs}
 use borrow.Author.Tests.{leb-true, le-ltb, not-true, not-false}
 use Rattle.format.specs.Header.{between}
 use Rattle.format.specs.Index.{width}
@@ -107,5 +106,3 @@ module _ (low high : ℤ) (f : mag low < 2 ^ 31) (g : mag high < 2 ^ 31) (t : Bo
 
   pub range-rest : (other : ℤ) (s : Bool) → mag other < 2 ^ 31 → not t ≡ false → s ≡ leZ (back high) (back other) → s ≡ between low other high
   range-rest other s k h d = rw (passed t _ order-is h, d, back-is high g, back-is other k)
-
-pub ruleset signs = (needs, ordered, width-none, width-some, range-below, range-rest)

@@ -2,8 +2,8 @@
 use Prim.Native.Nat.{ℕ, zero, suc, _+_, _≤_, _<_}
 use native.Mathlib.Numerals.{add-one}
 use native.Mathlib.Omega.{arith}
-use mathlib.Core.Path.{_≡_, refl, sym, ap, _∙_}
-use mathlib.Core.Bool.{Bool, true, false, cond, _&&_}
+use mathlib.Core.Path.{_≡_, refl, _∙_}
+use mathlib.Core.Bool.{Bool, true, false}
 use mathlib.Core.List.{List, [], _∷_}
 use mathlib.Core.List.{map as mapped}
 use lib.Dec.{leb}
@@ -12,7 +12,6 @@ use lib.Seq.{drop-cons, getD-take, length-take-le}
 use borrow.Author.Needs.{needs}
 use borrow.Author.Tests.{le-leb, lt-leb}
 use Rattle.parsing.specs.Parse.{Maybe, none, some, nth}
-use Rattle.format.specs.Header.{Interval}
 use Rattle.format.specs.Index.{holdsZoom, subFileFrom}
 use Rattle.types.specs.Types.{intervalOf}
 use Rattle.types.specs.declared.ZoomInterval.{ZoomInterval}

@@ -8,7 +8,6 @@ use lib.ListN.{getD}
 use mir.Syntax.{w32, w64}
 use mir.Val.{toZ, ofZ}
 use borrow.Author.Needs.{sfits-of}
-use borrow.Author.Needs.{needs}
 use borrow.Author.Tests.{lt-ltb, le-ltb}
 use Rattle.index.specs.declared.IntervalRead.the-variants as interval-read
 use Rattle.error.specs.declared.Lengths.{Lengths}
@@ -47,7 +46,3 @@ interval-there l h = rw (lt-ltb 0 (getD l 0 0) h)
 
 pub interval-absent : (l : List ℕ) → getD l 0 0 ≤ 0 → interval-read.Missing ≡ intervalIn l
 interval-absent l h = rw (le-ltb 0 (getD l 0 0) h)
-
-pub ruleset intervals = (needs, interval-there, interval-absent)
-
-pub ruleset tags = (needs, tag-value, tag-refused)

@@ -32,7 +32,7 @@ use Rattle.tile.specs.declared.TileAnswer.the-variants as tile-answer
 use Rattle.tile.specs.declared.TileRead.{TileRead}
 use Rattle.fetched.specs.Fetched.{FetchLists}
 use Rattle.fetch.specs.Fetch.{fetchTile, FeatureIs}
-use Rattle.fetch.specs.declared.Fetch.{Fetch}
+use Rattle.fetched.specs.declared.Fetch.{Fetch}
 use Rattle.map_agreement.specs.TileView.{tileCollection, fetchGives}
 use Rattle.map_agreement.specs.MapsforgeMap.{mapsforge}
 use Rattle.map_agreement.specs.Called.{Called}

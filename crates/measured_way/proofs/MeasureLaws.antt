@@ -2,12 +2,11 @@
 use Prim.Native.Nat.{ℕ, _-_, _^_, _≤_, _<_}
 use native.Mathlib.Omega.{arith}
 use mathlib.Core.Path.{_≡_, refl, sym, ap, _∙_, subst}
-use mathlib.Core.Bool.{Bool, true, false, not, _&&_, cond}
+use mathlib.Core.Bool.{Bool, true, false, not}
 use mathlib.Core.List.{List}
 use lib.Dec.{leb, ltb}
 use lib.ListN.{length, take, length-map}
 use lib.Seq.{take-all}
-use borrow.Author.Needs.{needs}
 use borrow.Author.Tests.{leb-true, leb-false, not-true, not-false, lt-ltb, le-ltb, le-leb, lt-leb}
 use Rattle.parsing.specs.Parse.{Res, ok, no, andThen, mapRes}
 use Rattle.parsing.specs.Good.{ok-val, ok-at, no-ok}
@@ -42,7 +41,7 @@ use Rattle.feature_texts.specs.FeatureTexts.{textsIn}
 use Rattle.feature_texts.specs.declared.TextParts.{TextParts}
 use Rattle.feature_texts.proofs.ShortLaws.{Known, known-by, WayTexts, body-texts, head-few, texts-short, ids-within, ids-counted, ids-are}
 use Rattle.feature_tags.specs.FeatureTags.{textsOf}
-use Rattle.measured_way.specs.MeasuredWay.{wayParts, Told, toldOf, toldWay, fitsIn, measured, wayWith, textsWith, listsWith, emptyWay, noTextPlan, noListPlan, noWay, Shown, shownOf, nothing, shown, MeasuredIs, roomy, tooShort, WayTold, BodyMeasured}
+use Rattle.measured_way.specs.MeasuredWay.{wayParts, toldOf, toldWay, fitsIn, measured, wayWith, textsWith, listsWith, emptyWay, noTextPlan, noListPlan, noWay, Shown, shownOf, nothing, shown, MeasuredIs, roomy, tooShort, WayTold, BodyMeasured}
 use Rattle.measured_way.specs.declared.TextPlan.{TextPlan}
 use Rattle.measured_way.specs.declared.MeasuredWay.{MeasuredWay}
 
@@ -53,8 +52,6 @@ no-texts-there t h = rw h
 
 pub none-made : (w : FetchedWay) (p : TextPlan) (x : Refusal) → w ≡ emptyWay → p ≡ noTextPlan → _≡_ {A = MeasuredWay} (record { way = w; texts = p; lists = noListPlan; end = end.Refused x }) (noWay x)
 none-made w p x h k = rw (h, k)
-
-pub ruleset empties = (needs, no-texts-there, none-made)
 
 -- the test of the lengths
 module _ (blocks nodes texts : ℕ) (l : Lengths) where
@@ -79,8 +76,6 @@ module _ (blocks nodes texts : ℕ) (l : Lengths) where
       other : (t : Bool) → leb texts (l .buffer) ≡ t → ltb (l .buffer) texts ≡ not t
       other true q = le-ltb (l .buffer) texts (leb-true texts (l .buffer) q)
       other false q = lt-ltb (l .buffer) texts (leb-false texts (l .buffer) q)
-
-pub ruleset tests = (needs, short-1, short-2, short-3, short-4, short-5, short-6)
 
 -- a way that was read
 module _ (t : TagTable) (m : List ℕ) (s : Head) (d : Body) (start next : ℕ) (few : length (s .tagged .ids) ≤ 15) (rd : body m start ≡ ok d next) where
@@ -186,8 +181,6 @@ module _ (t : TagTable) (h : WayHead) (b : WayBody) (ids : List ℕ) (start next
         (ap (λ x. ok x next) (shown-as s d hs is few bd rd tx v e w) ∙ ap (mapRes shownOf) (measured-done t m s d start next (few-ids s d hs is few bd rd) rd room (tested s d hs is few bd rd true (not-false _ (sym j ∙ q)))));
   }
 
-pub ruleset tells = (needs, told-short, told-done)
-
 -- the body, behind the head
 module _ (t : TagTable) (h : WayHead) (ids : List ℕ) (start : ℕ) (room : Lengths) (m : List ℕ) (g : WayBodyRead) (q : bodyRes g ≡ mapRes bodyOf (body m start)) where
   pub body-no : (x y : Refusal) (r : MeasuredWay) → g ≡ body-read.Refused x → y ≡ bodyRefusal g → r ≡ noWay y → BodyMeasured t h ids start room m r
@@ -209,8 +202,6 @@ module _ (t : TagTable) (h : WayHead) (ids : List ℕ) (start : ℕ) (room : Len
           subst (λ (y : ℕ). Beside shownOf nothing (measured room (ok (toldOf t m s start d) y)) (shown r) (r .end)) (ok-at i)
           (w .each s d hs is few (ok-val i) (f ∙ ap (ok d) (sym (ok-at i))))
       go s hs is few (no k v) f i = no-ok (sym i)
-
-pub ruleset bodies = (needs, body-no, body-on)
 
 -- the way, read from its place
 module _ (debug : Bool) (t : TagTable) (room : Lengths) (m : List ℕ) (at : ℕ) (g : WayHeadRead) (q : HeadIs (head debug (tagKinds (tableIn t) m) m at) g) where
@@ -246,5 +237,3 @@ module _ (debug : Bool) (t : TagTable) (room : Lengths) (m : List ℕ) (at : ℕ
         let j = ap length i in
         subst (λ (s : Res Head). Beside shownOf nothing (measured room (andThen s (λ h e. mapRes (toldOf t m h e) (body m e)))) (shown r) (r .end)) (sym (known .same))
         (w .each (known .value) (known .shown) i (omega arith))
-
-pub ruleset heads = (needs, head-no, ids-in, ids-sized, head-on)

@@ -18,10 +18,8 @@ use Rattle.wire.specs.Wire.{truth}
 use Rattle.wire.specs.Verdicts.{behind, noValues, spanWords, placeWords}
 use Rattle.wire.specs.declared.SpanWords.{SpanWords}
 use Rattle.wire.specs.declared.PlaceWords.{PlaceWords}
-use Rattle.wire.proofs.CaseLaws.{values-behind}
 use Rattle.elevation_wire.specs.Elevation.{metreWords}
 use Rattle.elevation_wire.specs.declared.MetreWords.{MetreWords}
-use Rattle.elevation_wire.proofs.ElevationLaws.{refused-behind}
 use Rattle.stream_wire.specs.Streams.{turnWords, streamWords, turnIn, streamIn, pointWords, endWords, bodyWords}
 
 -- the state
@@ -42,7 +40,7 @@ module _ (l : List ℕ) where
   pub stream-made : (t : Turn) (b : Bool) → t ≡ turnIn l → b ≡ truth (getD l 6 0) → _≡_ {A = Stream} (record { turn = t; end = record { «sub_file» = getD l 5 0; «is_water» = b } }) (streamIn l)
   stream-made t b p q = rw (p, q) refl
 
-pub ruleset streams = (needs, stream-idle, stream-waits, turn-waits, turn-idle, stream-made)
+pub ruleset turns = (needs, turn-waits, turn-idle)
 
 -- words made of parts
 pub point-made : (p : Poi) (s n h : SpanWords) (m : MetreWords) → s ≡ spanWords (p .signature) → n ≡ spanWords (p .name) → h ≡ spanWords (p .«house_number») → m ≡ metreWords (p .elevation) →
@@ -55,5 +53,3 @@ end-made z w q = rw q refl
 pub body-made : (b : StreamedBody) (n h r : SpanWords) (p : PlaceWords) → n ≡ spanWords (b .name) → h ≡ spanWords (b .«house_number») → r ≡ spanWords (b .reference) → p ≡ placeWords (b .«label_position») →
     behind noValues (b .blocks ∷ b .nodes ∷ n .present ∷ n .start ∷ n .size ∷ h .present ∷ h .start ∷ h .size ∷ r .present ∷ r .start ∷ r .size ∷ p .present ∷ []) ≡ bodyWords b
 body-made b n h r p q1 q2 q3 q4 = rw (q1, q2, q3, q4) refl
-
-pub ruleset made = (needs, values-behind, refused-behind, point-made, end-made, body-made)

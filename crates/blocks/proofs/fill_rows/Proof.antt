@@ -3,7 +3,9 @@ use mathlib.Core.Path.{_≡_}
 use Rattle.parsing.specs.Parse.{ok, many, mapRes}
 use Rattle.format.specs.Tile.{row}
 use Rattle.blocks.specs.Blocks.{filledRows}
-use Rattle.blocks.proofs.BlockLaws.{fills}
+use native.Mathlib.Omega.{arith}
+use Rattle.types.proofs.BesideLaws.{beside-done, beside-no}
+use Rattle.blocks.proofs.BlockLaws.{rows-more, row-no, rows-done, fills}
 use Rattle.blocks.proofs.fill_rows.Statement.{statement}
 use Rattle.blocks.proofs.fill_rows.Tie as tie
 
@@ -13,6 +15,14 @@ Inv-loop map at count rows₀ next₀ i₀ rows next i = (i ≤ count) × (mapRe
 abbrev μ-loop : tie.MeasureT-loop
 μ-loop map at count rows₀ next₀ i₀ rows next i = count - i
 
+returns : tie.Need-returns Inv-loop μ-loop
+returns c =
+    beside-no _ _ _ _ _ _ (c .refused-table .ensures .0) (c .refused-table .ensures .1)
+    (row-no _ _ _ _ _ _ _ _ _ _ (c .before .before .before .before .before .before .loop .inv .1) (c .before .before .before .before .read-row .ensures) (c .before .before .enum-told .given .1) (c .before .row-refusal .ensures) (c .before .before .before .before .before .loop-test .taken))
+
+loop-again : tie.Need-loop-again Inv-loop μ-loop
+loop-again c = (omega arith, rows-more _ _ _ _ _ _ _ _ _ (c .before .before .before .before .before .loop .inv .1) (c .before .before .before .read-row .ensures) (c .before .got .given .1) (c .before .before .before .before .loop-test .taken) (c .before .before .before .before .before .before .before .pre))
+
 pub fill-rows-spec : {M : Type 1} → statement M
 fill-rows-spec =
     tie.close
@@ -20,15 +30,15 @@ fill-rows-spec =
     Inv-loop
     μ-loop
     (λ c. search fills)
-    (λ c κs. search fills)
+    (λ c κs. tt)
+    (λ c. c .match .keys1)
+    (λ c. c .match .keys2)
+    (λ c κs. tt)
+    (λ c κs. tt)
+    returns
     (λ c. search fills)
     (λ c. search fills)
-    (λ c κs. search fills)
-    (λ c κs. search fills)
     (λ c. search fills)
     (λ c. search fills)
-    (λ c. search fills)
-    (λ c. search fills)
-    (λ c. search fills)
-    (λ c. search fills)
-    (λ c. search fills))
+    loop-again
+    (λ c. beside-done _ _ _ _ _ (rows-done _ _ _ _ _ _ (c .before .loop .inv .1) (c .before .loop .inv .0) (c .loop-test .left))))

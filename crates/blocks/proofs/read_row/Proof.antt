@@ -8,14 +8,14 @@ unfolding row
 read-row-spec =
     tie.close
     (tie.spec
-    (search rows)
-    (search rows)
-    (search rows)
-    (search rows)
+    (λ c κs. tt)
+    (λ c. c .match .keys1)
+    (λ c. c .match .keys2)
+    (λ c κs. tt)
     (λ c. search rows)
-    (search rows)
-    (search rows)
-    (search rows)
-    (search rows)
+    (λ c κs. tt)
+    (λ c. c .match2 .keys1)
+    (λ c. c .match2 .keys2)
+    (λ c κs. tt)
     (λ c. search rows)
     (λ c. search rows))

@@ -1,4 +1,5 @@
-use Rattle.blocks.proofs.BlockLaws.{tables}
+use Rattle.types.proofs.BesideLaws.{beside-no}
+use Rattle.blocks.proofs.BlockLaws.{table-reversed, table-known, tables}
 use Rattle.blocks.proofs.read_zoom_table.Statement.{statement}
 use Rattle.blocks.proofs.read_zoom_table.Tie as tie
 
@@ -6,9 +7,9 @@ pub read-zoom-table-spec : {M : Type 1} → statement M
 read-zoom-table-spec =
     tie.close
     (tie.spec
+    (λ c κs. tt)
+    (λ c. beside-no _ _ _ _ _ _ (c .refused-table .ensures .0) (c .refused-table .ensures .1) (table-reversed _ _ _ _ (c .before .if1 .taken)))
     (search tables)
-    (λ c. search tables)
     (search tables)
     (search tables)
-    (search tables)
-    (λ c. search tables))
+    (λ c. table-known _ _ _ _ _ (c .fill-rows .ensures) (c .before .if1 .left)))

@@ -7,10 +7,10 @@ be16-spec =
     tie.close
     (tie.spec
     (search parts)
+    (λ c κs. tt)
     (search parts)
     (search parts)
     (search parts)
-    (search parts)
-    (search parts)
+    (λ c κs. tt)
     (search parts)
     (λ c. search parts))

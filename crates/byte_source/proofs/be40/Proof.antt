@@ -7,7 +7,7 @@ be40-spec =
     tie.close
     (tie.spec
     (search parts)
-    (search parts)
+    (λ c κs. tt)
     (search parts)
     (search parts)
     (search parts)

@@ -8,10 +8,10 @@ unfolding int32
 read-i32-be-spec =
     tie.close
     (tie.spec
-    (search parts)
-    (search parts)
-    (search parts)
-    (search parts)
+    (λ c κs. tt)
+    (λ c. c .match .keys1)
+    (λ c. c .match .keys2)
+    (λ c κs. tt)
     (λ c. search parts)
-    (search parts)
+    (λ c κs. tt)
     (λ c. search parts))

@@ -1,4 +1,3 @@
-use borrow.Author.Needs.{needs}
 use Rattle.exports.proofs.CallLaws.{header-crosses}
 use Rattle.exports.proofs.mapsforge_open.Statement.{statement}
 use Rattle.exports.proofs.mapsforge_open.Tie as tie
@@ -13,4 +12,4 @@ mapsforge-open-spec =
     (λ c κs. tt)
     (λ c κs. tt)
     (λ c κs. tt)
-    (λ c. search (needs, header-crosses, c .before .before .before .before .before .before .from-source .ensures, c .before .before .before .before .header-words .ensures, c .before .before .before .header-degrees .ensures, c .before .before .layout-of .ensures, c .before .layout-words .ensures, c .end-number .ensures)))
+    (λ c. header-crosses _ _ _ _ _ _ _ (c .before .before .before .before .before .before .from-source .ensures) (c .end-number .ensures) (c .before .before .before .before .header-words .ensures) (c .before .before .layout-of .ensures) (c .before .layout-words .ensures) (c .before .before .before .header-degrees .ensures)))

@@ -1,4 +1,3 @@
-use borrow.Author.Needs.{needs}
 use Rattle.exports.proofs.CallLaws.{accept-crosses}
 use Rattle.exports.proofs.mapsforge_stream_accept.Statement.{statement}
 use Rattle.exports.proofs.mapsforge_stream_accept.Tie as tie
@@ -13,7 +12,7 @@ mapsforge-stream-accept-spec =
     (λ c κs. tt)
     (λ c κs. tt)
     (λ c κs. tt)
-    (λ c. search needs)
-    (λ c. search needs)
-    (λ c. search needs)
-    (λ c. search (needs, accept-crosses, c .before .before .before .before .before .before .before .before .before .before .before .before .before .before .before .stream-in .ensures, c .before .before .before .before .before .before .before .before .before .before .before .accept .ensures, c .before .before .before .stream-words .ensures, c .before .before .accept-words .ensures, c .before .accept-degrees .ensures, c .accept-number .ensures)))
+    (λ c. c .before .before .before .before .before .before .before .before .before .before .before .accept .kept .1 .1 .0)
+    (λ c. c .before .before .before .before .before .before .before .before .before .before .before .accept .kept .1 .1 .1 .0)
+    (λ c. c .before .before .before .before .before .before .before .before .before .before .before .accept .kept .1 .1 .1 .1 .0)
+    (λ c. accept-crosses _ _ _ (c .before .before .before .before .before .before .before .before .before .before .before .before .before .before .before .stream-in .ensures) _ _ (c .before .before .before .before .before .before .before .before .before .before .before .accept .result) _ _ _ _ (c .before .before .before .before .before .before .before .before .before .before .before .accept .ensures) (c .accept-number .ensures) (c .before .before .accept-words .ensures) (c .before .before .before .stream-words .ensures) (c .before .accept-degrees .ensures)))

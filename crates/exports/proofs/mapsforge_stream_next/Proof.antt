@@ -1,4 +1,3 @@
-use borrow.Author.Needs.{needs}
 use Rattle.exports.proofs.CallLaws.{next-crosses}
 use Rattle.exports.proofs.mapsforge_stream_next.Statement.{statement}
 use Rattle.exports.proofs.mapsforge_stream_next.Tie as tie
@@ -16,4 +15,4 @@ mapsforge-stream-next-spec =
     (λ c κs. tt)
     (λ c κs. tt)
     (λ c κs. tt)
-    (λ c. search (needs, next-crosses, c .before .before .before .before .before .before .before .before .before .before .before .before .layout-in .ensures, c .before .before .before .before .before .before .before .before .before .before .stream-in .ensures, c .before .before .before .before .before .before .before .before .before .next .ensures, c .before .before .before .before .before .stream-words .ensures, c .before .before .before .before .next-words .ensures, c .before .before .before .next-signed .ensures, c .before .before .next-degrees .ensures, c .before .next-ids .ensures, c .next-number .ensures)))
+    (λ c. next-crosses _ _ _ (c .before .before .before .before .before .before .before .before .before .before .stream-in .ensures) _ _ _ _ _ _ _ _ _ (c .before .before .before .before .before .before .before .before .before .next .ensures) (c .before .before .before .before .before .before .before .before .before .before .before .before .layout-in .ensures) (c .next-number .ensures) (c .before .before .before .before .next-words .ensures) (c .before .next-ids .ensures) (c .before .before .before .before .before .stream-words .ensures) (c .before .before .before .next-signed .ensures) (c .before .before .next-degrees .ensures)))

@@ -11,5 +11,5 @@ mapsforge-text-spec =
     (λ c κs. tt)
     (λ c κs. tt)
     (λ c κs. tt)
-    (λ c. search needs)
+    (λ c. c .before .before .before .before .write-replaced .kept .1 .0)
     (λ c. search (needs, crosses textNumber textWords, c .before .before .before .before .write-replaced .ensures, c .before .text-words .ensures, c .text-number .ensures)))

@@ -6,9 +6,9 @@ pub feature-refusal-spec : {M : Type 1} → statement M
 feature-refusal-spec =
     tie.close
     (tie.spec
-    (λ c. search refusals)
-    (λ c. search refusals)
-    (λ c. search refusals)
+    (λ c. c .match .keys1)
+    (λ c. c .match .keys2)
+    (λ c. c .match .keys3)
     (λ c. search refusals)
     (λ c. search refusals)
     (λ c. search refusals))

@@ -1,4 +1,4 @@
-use Rattle.feature_place.proofs.PlaceLaws.{walks}
+use Rattle.feature_place.proofs.PlaceLaws.{ways-stop, ways-end}
 use Rattle.feature_place.proofs.way_place.Statement.{statement}
 use Rattle.feature_place.proofs.way_place.Tie as tie
 
@@ -6,9 +6,9 @@ pub way-place-spec : {M : Type 1} → statement M
 way-place-spec =
     tie.close
     (tie.spec
-    (λ c κs. search walks)
-    (λ c. search walks)
-    (λ c. search walks)
-    (λ c κs. search walks)
-    (λ c. search walks)
-    (λ c. search walks))
+    (λ c κs. tt)
+    (λ c. c .match .keys1)
+    (λ c. c .match .keys2)
+    (λ c κs. tt)
+    (λ c. ways-stop _ _ _ _ _ (c .before .before .before .measure-ways .ensures) _ _ (c .before .enum-told .given .1) (c .ways-refusal .ensures))
+    (λ c. ways-end _ _ _ _ _ (c .before .before .before .measure-ways .ensures) _ _ (c .before .got .given .1)))

@@ -6,6 +6,6 @@ pub tag-string-spec : {M : Type 1} → statement M
 tag-string-spec =
     tie.close
     (tie.spec
-    (λ c κs. search records)
-    (λ c κs. search records)
+    (λ c κs. tt)
+    (λ c κs. tt)
     (λ c. search records))

@@ -1,7 +1,8 @@
+use native.Mathlib.Omega.{arith}
 use Prim.Native.Nat.{_-_}
 use lib.ListN.{length}
 use Rattle.tag_table.specs.Tables.{tableIn}
-use Rattle.feature_tags.proofs.TagLaws.{Filled, strings}
+use Rattle.feature_tags.proofs.TagLaws.{Filled, strings-none, strings-more, strings-done}
 use Rattle.feature_tags.proofs.tag_strings.Statement.{statement}
 use Rattle.feature_tags.proofs.tag_strings.Tie as tie
 
@@ -17,15 +18,15 @@ tag-strings-spec =
     (tie.spec
     Inv-loop
     μ-loop
-    (λ c κs. search strings)
-    (λ c. search strings)
-    (λ c. search strings)
-    (λ c. search strings)
-    (λ c κs. search strings)
-    (λ c κs. search strings)
-    (λ c. search strings)
-    (λ c. search strings)
-    (λ c. search strings)
-    (λ c. search strings)
-    (λ c. search strings)
-    (λ c. search strings))
+    (λ c κs. tt)
+    (λ c. strings-none _ _ _ _ (c .no-text .ensures) (c .before .before .before .pre))
+    (λ c. omega arith)
+    (λ c. c .before .loop-test .taken)
+    (λ c κs. tt)
+    (λ c κs. tt)
+    (λ c. omega arith)
+    (λ c. omega arith)
+    (λ c. omega arith)
+    (λ c. omega arith)
+    (λ c. strings-more _ _ _ _ _ _ _ _ (c .before .before .before .before .loop .inv) (c .before .before .before .loop-test .taken) (c .before .tag-name .ensures) (c .tag-string .ensures))
+    (λ c. strings-done _ _ _ _ _ (c .before .loop .inv) (c .loop-test .left)))

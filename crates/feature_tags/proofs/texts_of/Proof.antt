@@ -1,4 +1,4 @@
-use Rattle.feature_tags.proofs.TagLaws.{wholes}
+use Rattle.feature_tags.proofs.TagLaws.{first-sized, first-few, texts-of}
 use Rattle.feature_tags.proofs.texts_of.Statement.{statement}
 use Rattle.feature_tags.proofs.texts_of.Tie as tie
 
@@ -6,10 +6,10 @@ pub texts-of-spec : {M : Type 1} → statement M
 texts-of-spec =
     tie.close
     (tie.spec
-    (λ c κs. search wholes)
-    (λ c. search wholes)
-    (λ c κs. search wholes)
-    (λ c κs. search wholes)
-    (λ c κs. search wholes)
-    (λ c κs. search wholes)
-    (λ c. search wholes))
+    (λ c κs. tt)
+    (λ c. first-sized _ _ (c .before .before .at-most-15 .ensures))
+    (λ c κs. first-few _ _ (c .before .before .at-most-15 .ensures))
+    (λ c κs. tt)
+    (λ c κs. tt)
+    (λ c κs. tt)
+    (λ c. let a = c .before .before .before .before .before .before .before .before .before .args in texts-of (a .parts) (a .map .now) (a .ids .now) _ _ _ _ _ (c .before .before .before .before .before .before .at-most-15 .ensures) (c .before .before .before .tag-strings .ensures) (c .before .before .own-text .ensures) (c .before .own-text2 .ensures) (c .own-text3 .ensures)))

@@ -1,10 +1,11 @@
+use native.Mathlib.Omega.{arith}
 use Prim.Native.Nat.{_≤_, _<_, _+_, _-_, _^_}
 use mathlib.Core.Path.{_≡_}
 use lib.ListN.{length, drop}
 use Rattle.arithmetic.specs.Cut.{cut}
 use Rattle.tag_table.specs.Tables.{tableIn}
 use Rattle.fetched.specs.Fetched.{walkedName, idTexts}
-use Rattle.feature_texts.proofs.TextLaws.{lengths}
+use Rattle.feature_texts.proofs.TextLaws.{len-start, len-more, len-done}
 use Rattle.feature_texts.proofs.ids_len.Statement.{statement}
 use Rattle.feature_texts.proofs.ids_len.Tie as tie
 
@@ -21,13 +22,13 @@ ids-len-spec =
     (tie.spec
     Inv-loop
     μ-loop
-    (λ c. search lengths)
-    (λ c. search lengths)
-    (λ c. search lengths)
-    (λ c κs. search lengths)
-    (λ c κs. search lengths)
-    (λ c κs. search lengths)
-    (λ c. search lengths)
-    (λ c. search lengths)
-    (λ c. search lengths)
-    (λ c. search lengths))
+    (λ c. (omega arith, omega arith, len-start (walkedName (tableIn (c .before .before .args .table)) (c .before .before .args .map .now)) (c .before .before .args .ids .now) 0 0))
+    (λ c. omega arith)
+    (λ c. c .before .loop-test .taken)
+    (λ c κs. tt)
+    (λ c κs. tt)
+    (λ c κs. tt)
+    (λ c. omega arith)
+    (λ c. omega arith)
+    (λ c. (omega arith, omega arith, len-more _ _ _ _ (c .before .before .before .before .before .loop .inv .2) _ _ _ _ (c .before .before .before .before .loop-test .taken) (c .before .before .tag-name .ensures) (c .before .replaced-len .ensures) (c .saturating-add-usize .ensures)))
+    (λ c. len-done _ _ _ _ (c .before .loop .inv .2) (c .loop-test .left) (c .before .loop .inv .1)))

@@ -1,4 +1,4 @@
-use Rattle.feature_texts.proofs.PutLaws.{putting}
+use Rattle.feature_texts.proofs.PutLaws.{put-place, put-bytes, put-never, put-never-bytes}
 use Rattle.feature_texts.proofs.put.Statement.{statement}
 use Rattle.feature_texts.proofs.put.Tie as tie
 
@@ -6,10 +6,10 @@ pub put-spec : {M : Type 1} → statement M
 put-spec =
     tie.close
     (tie.spec
-    (λ c κs. search putting)
-    (λ c. search putting)
-    (λ c. search putting)
-    (λ c. search putting)
-    (λ c. search putting)
-    (λ c. search putting)
-    (λ c. search putting))
+    (λ c κs. tt)
+    (λ c. c .match .keys1)
+    (λ c. c .match .keys2)
+    (λ c. c .before .before .before .buffer .given)
+    (λ c. (put-never _ _ _ _ _ (c .before .before .before .before .write-replaced .ensures) _ (c .enum-told .given .1) (c .before .before .before .before .before .before .before .before .pre), put-never-bytes _ _ _ _ _ (c .before .before .before .before .write-replaced .ensures) _ (c .enum-told .given .1) (c .before .before .before .before .before .before .before .before .pre)))
+    (λ c. c .before .before .before .before .buffer .given)
+    (λ c. (put-place _ _ _ _ _ (c .before .before .before .before .before .write-replaced .ensures) _ (c .before .got .given .1), put-bytes _ _ _ _ _ (c .before .before .before .before .before .write-replaced .ensures) _ (c .before .got .given .1))))

@@ -1,8 +1,9 @@
+use native.Mathlib.Omega.{arith}
 use Prim.Native.Nat.{_-_}
 use lib.ListN.{length}
 use Rattle.tag_table.specs.Tables.{tableIn}
 use Rattle.fetched.specs.Fetched.{walkedName}
-use Rattle.feature_texts.proofs.PutLaws.{IdsLeft, ids-put}
+use Rattle.feature_texts.proofs.PutLaws.{IdsLeft, ids-start, ids-room, ids-more, ids-place, ids-bytes}
 use Rattle.feature_texts.proofs.put_ids.Statement.{statement}
 use Rattle.feature_texts.proofs.put_ids.Tie as tie
 
@@ -18,13 +19,13 @@ put-ids-spec =
     (tie.spec
     Inv-loop
     μ-loop
-    (λ c. search ids-put)
-    (λ c. search ids-put)
-    (λ c. search ids-put)
-    (λ c κs. search ids-put)
-    (λ c κs. search ids-put)
-    (λ c. search ids-put)
-    (λ c. search ids-put)
-    (λ c. search ids-put)
-    (λ c. search ids-put)
-    (λ c. search ids-put))
+    (λ c. ids-start _ _ _ (c .before .before .before .pre))
+    (λ c. omega arith)
+    (λ c. c .before .loop-test .taken)
+    (λ c κs. tt)
+    (λ c κs. ids-room _ _ _ _ _ _ (c .before .before .before .before .loop .inv) _ _ (c .before .before .before .loop-test .taken) (c .before .tag-name .ensures))
+    (λ c. omega arith)
+    (λ c. omega arith)
+    (λ c. ids-more _ _ _ _ _ _ (c .before .before .before .before .before .before .before .loop .inv) _ _ _ _ (c .before .before .before .before .before .before .loop-test .taken) (c .before .before .before .before .tag-name .ensures) (c .before .before .put .ensures .0) (c .before .before .put .ensures .1))
+    (λ c. omega arith)
+    (λ c. (ids-place _ _ _ _ _ _ (c .before .loop .inv) (c .loop-test .left), ids-bytes _ _ _ _ _ _ (c .before .loop .inv) (c .loop-test .left))))

@@ -1,4 +1,5 @@
-use Rattle.feature_texts.proofs.TextLaws.{names}
+use native.Mathlib.Omega.{arith}
+use Rattle.feature_texts.proofs.TextLaws.{name-missing, name-found}
 use Rattle.feature_texts.proofs.tag_name.Statement.{statement}
 use Rattle.feature_texts.proofs.tag_name.Tie as tie
 
@@ -6,10 +7,10 @@ pub tag-name-spec : {M : Type 1} → statement M
 tag-name-spec =
     tie.close
     (tie.spec
-    (search names)
-    (search names)
-    (search names)
-    (search names)
-    (λ c. search names)
-    (search names)
-    (λ c. search names))
+    (λ c κs. tt)
+    (λ c. c .match .keys1)
+    (λ c. c .match .keys2)
+    (λ c. omega arith)
+    (λ c. name-missing _ _ _ _ (c .before .before .before .tag-text .ensures) _ (c .before .enum-told .given .1))
+    (λ c κs. tt)
+    (λ c. name-found _ _ _ _ (c .before .before .before .before .tag-text .ensures) _ _ _ (c .before .before .got .given .1) (c .span-bytes .ensures)))

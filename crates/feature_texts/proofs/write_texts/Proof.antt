@@ -1,4 +1,5 @@
-use Rattle.feature_texts.proofs.PutLaws.{writes}
+use Rattle.feature_texts.specs.FeatureTexts.{textsIn}
+use Rattle.feature_texts.proofs.PutLaws.{write-large, write-short, write-done, write-room}
 use Rattle.feature_texts.proofs.write_texts.Statement.{statement}
 use Rattle.feature_texts.proofs.write_texts.Tie as tie
 
@@ -6,9 +7,9 @@ pub write-texts-spec : {M : Type 1} → statement M
 write-texts-spec =
     tie.close
     (tie.spec
-    (λ c κs. search writes)
-    (λ c. search writes)
-    (λ c. search writes)
-    (λ c κs. search writes)
-    (λ c. search writes)
-    (λ c. search writes))
+    (λ c κs. tt)
+    (λ c. let a = c .before .before .before .before .before .args in write-large (textsIn (a .parts) (a .map .now) (a .ids .now)) _ _ (c .before .texts-len .ensures) (c .if1 .taken))
+    (λ c. let a = c .before .before .before .before .before .before .args in write-short (textsIn (a .parts) (a .map .now) (a .ids .now)) _ _ (c .before .before .texts-len .ensures) (c .before .if1 .left) (c .if2 .taken))
+    (λ c κs. let a = c .before .before .before .before .before .before .before .args in write-room (textsIn (a .parts) (a .map .now) (a .ids .now)) (a .buffer .now) _ (c .before .before .before .texts-len .ensures) (c .before .before .if1 .left) (c .before .if2 .left))
+    (λ c. c .before .buffer .given)
+    (λ c. let a = c .before .before .before .before .before .before .before .before .before .before .args in write-done (textsIn (a .parts) (a .map .now) (a .ids .now)) _ _ (c .before .before .before .before .before .before .texts-len .ensures) _ (c .before .before .before .before .before .if1 .left) (c .before .before .before .before .if2 .left) (c .before .before .put-texts .ensures)))

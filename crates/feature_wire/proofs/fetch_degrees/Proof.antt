@@ -1,5 +1,7 @@
+use Rattle.wire.specs.declared.PlaceWords.{PlaceWords}
+use mathlib.Core.List.{[], _∷_}
+use mathlib.Core.Path.{refl, ap}
 use lib.Ieee.{ofBits}
-use Rattle.wire.proofs.CaseLaws.{parts}
 use Rattle.feature_wire.specs.Features.{fetchDegrees}
 use Rattle.elevation_wire.proofs.ElevationLaws.{by-case3}
 use Rattle.feature_wire.proofs.fetch_degrees.Statement.{statement}
@@ -10,10 +12,10 @@ unfolding ofBits
 fetch-degrees-spec =
     tie.close
     (tie.spec
-    (λ c. search (parts, by-case3 fetchDegrees))
-    (λ c. search (parts, by-case3 fetchDegrees))
+    (λ c. c .match .keys1)
+    (λ c. c .match .keys2)
     (λ c κs. tt)
-    (λ c. search (parts, by-case3 fetchDegrees))
-    (λ c. search (parts, by-case3 fetchDegrees))
-    (λ c. search (parts, by-case3 fetchDegrees))
-    (λ c. search (parts, by-case3 fetchDegrees)))
+    (λ c. c .match .keys3)
+    (λ c. by-case3 fetchDegrees _ _ _ _ _ (c .before .enum-told .given .1) refl)
+    (λ c. by-case3 fetchDegrees _ _ _ _ _ (c .before .enum-told2 .given .1) (ap (λ (x : PlaceWords). x .latitude ∷ x .longitude ∷ []) (c .place-words .ensures)))
+    (λ c. by-case3 fetchDegrees _ _ _ _ _ (c .enum-told3 .given .1) refl))

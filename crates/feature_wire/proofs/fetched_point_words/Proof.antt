@@ -1,4 +1,4 @@
-use Rattle.feature_wire.proofs.WireLaws.{made}
+use Rattle.feature_wire.proofs.WireLaws.{fetched-point-made}
 use Rattle.feature_wire.proofs.fetched_point_words.Statement.{statement}
 use Rattle.feature_wire.proofs.fetched_point_words.Tie as tie
 
@@ -11,4 +11,4 @@ fetched-point-words-spec =
     (λ c κs. tt)
     (λ c κs. tt)
     (λ c κs. tt)
-    (λ c. search made))
+    (λ c. fetched-point-made (c .before .before .before .before .before .before .before .args .poi) _ _ _ _ _ (c .before .before .before .before .before .before .span-words .ensures) (c .before .before .before .text-words .ensures) (c .before .before .text-words2 .ensures) (c .before .text-words3 .ensures) (c .metre-words .ensures)))

@@ -1,4 +1,5 @@
-use Rattle.feature_wire.proofs.WireLaws.{made}
+use native.Mathlib.Omega.{arith}
+use Rattle.feature_wire.proofs.WireLaws.{fetched-way-made}
 use Rattle.feature_wire.proofs.fetched_way_words.Statement.{statement}
 use Rattle.feature_wire.proofs.fetched_way_words.Tie as tie
 
@@ -11,6 +12,6 @@ fetched-way-words-spec =
     (λ c κs. tt)
     (λ c κs. tt)
     (λ c κs. tt)
-    (λ c. search made)
+    (λ c. omega arith)
     (λ c κs. tt)
-    (λ c. search made))
+    (λ c. fetched-way-made (c .before .before .before .before .before .before .before .before .before .args .way) _ _ _ _ _ _ (c .before .before .before .before .before .before .before .before .span-words .ensures) (c .before .before .before .before .before .text-words .ensures) (c .before .before .before .before .text-words2 .ensures) (c .before .before .before .text-words3 .ensures) (c .before .before .place-words .ensures) (c .bit .ensures)))

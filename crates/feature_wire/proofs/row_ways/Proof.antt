@@ -1,8 +1,8 @@
+use native.Mathlib.Omega.{arith}
 use Prim.Native.Nat.{_≤_, _-_}
-use mathlib.Core.Path.{_≡_}
+use mathlib.Core.Path.{_≡_, refl}
 use mathlib.Core.List.{map as mapped}
 use lib.ListN.{length, take, replicate}
-use borrow.Author.Needs.{needs}
 use Rattle.format.specs.Lent.{front}
 use Rattle.blocks.specs.declared.ZoomRow.{ZoomRow}
 use Rattle.feature_wire.proofs.FillLaws.{rows-more, rows-done}
@@ -21,12 +21,12 @@ row-ways-spec =
     (tie.spec
     Inv-loop
     μ-loop
-    (λ c. search (needs, rows-more (λ (r : ZoomRow). r .ways), rows-done (λ (r : ZoomRow). r .ways)))
-    (λ c. search (needs, rows-more (λ (r : ZoomRow). r .ways), rows-done (λ (r : ZoomRow). r .ways)))
-    (λ c. search (needs, rows-more (λ (r : ZoomRow). r .ways), rows-done (λ (r : ZoomRow). r .ways)))
-    (λ c. search (needs, rows-more (λ (r : ZoomRow). r .ways), rows-done (λ (r : ZoomRow). r .ways)))
-    (λ c. search (needs, rows-more (λ (r : ZoomRow). r .ways), rows-done (λ (r : ZoomRow). r .ways)))
-    (λ c. search (needs, rows-more (λ (r : ZoomRow). r .ways), rows-done (λ (r : ZoomRow). r .ways)))
-    (λ c. search (needs, rows-more (λ (r : ZoomRow). r .ways), rows-done (λ (r : ZoomRow). r .ways)))
-    (λ c. search (needs, rows-more (λ (r : ZoomRow). r .ways), rows-done (λ (r : ZoomRow). r .ways)))
-    (λ c. search (needs, rows-more (λ (r : ZoomRow). r .ways), rows-done (λ (r : ZoomRow). r .ways))))
+    (λ c. (omega arith, c .good .0 .1 .0 .1, refl))
+    (λ c. omega arith)
+    (λ c. c .loop-test .taken)
+    (λ c. omega arith)
+    (λ c. c .before .loop-test .taken)
+    (λ c. omega arith)
+    (λ c. omega arith)
+    (λ c. (omega arith, c .before .before .loop .inv .1, rows-more (λ (r : ZoomRow). r .ways) 256 _ (c .before .before .loop .inv .1) _ _ (c .before .before .loop .inv .2) _ (c .before .loop-test .taken)))
+    (λ c. rows-done (λ (r : ZoomRow). r .ways) 256 _ (c .before .loop .inv .1) _ _ (c .before .loop .inv .2) (c .loop-test .left)))

@@ -1,6 +1,6 @@
+use mathlib.Core.Path.{refl}
 use Rattle.feature_wire.specs.Features.{textWords}
 use Rattle.wire.proofs.CaseLaws.{by-case}
-use Rattle.feature_wire.proofs.WireLaws.{made}
 use Rattle.feature_wire.proofs.text_words.Statement.{statement}
 use Rattle.feature_wire.proofs.text_words.Tie as tie
 
@@ -8,7 +8,7 @@ pub text-words-spec : {M : Type 1} → statement M
 text-words-spec =
     tie.close
     (tie.spec
-    (λ c. search (made, by-case textWords))
-    (λ c. search (made, by-case textWords))
-    (λ c. search (made, by-case textWords))
-    (λ c. search (made, by-case textWords)))
+    (λ c. c .match .keys1)
+    (λ c. c .match .keys2)
+    (λ c. by-case textWords _ _ _ (c .enum-told .given .1) refl)
+    (λ c. by-case textWords _ _ _ (c .before .before .text .given .1) refl))

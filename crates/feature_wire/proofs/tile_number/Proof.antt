@@ -1,6 +1,7 @@
+use native.Mathlib.Omega.{arith}
+use mathlib.Core.Path.{refl}
 use Rattle.feature_wire.specs.Features.{tileNumber}
 use Rattle.wire.proofs.CaseLaws.{by-case}
-use Rattle.feature_wire.proofs.WireLaws.{made}
 use Rattle.feature_wire.proofs.tile_number.Statement.{statement}
 use Rattle.feature_wire.proofs.tile_number.Tie as tie
 
@@ -8,9 +9,9 @@ pub tile-number-spec : {M : Type 1} → statement M
 tile-number-spec =
     tie.close
     (tie.spec
-    (λ c. search (made, by-case tileNumber))
-    (λ c. search (made, by-case tileNumber))
+    (λ c. c .match .keys1)
+    (λ c. c .match .keys2)
     (λ c κs. tt)
-    (λ c. search (made, by-case tileNumber))
-    (λ c. search (made, by-case tileNumber))
-    (λ c. search (made, by-case tileNumber)))
+    (λ c. omega arith)
+    (λ c. by-case tileNumber _ _ _ (c .enum-told .given .1) refl)
+    (λ c. by-case tileNumber _ _ _ (c .before .before .answer .given .1) (c .number-of .ensures)))

@@ -1,4 +1,4 @@
-use Rattle.feature_wire.proofs.WireLaws.{made}
+use Rattle.feature_wire.proofs.WireLaws.{tile-made}
 use Rattle.feature_wire.proofs.tile_words.Statement.{statement}
 use Rattle.feature_wire.proofs.tile_words.Tie as tie
 
@@ -9,4 +9,4 @@ tile-words-spec =
     (λ c κs. tt)
     (λ c κs. tt)
     (λ c κs. tt)
-    (λ c. search made))
+    (λ c. tile-made (c .before .before .before .args .answer) (c .before .before .before .args .tile) _ _ _ (c .before .before .tile-values .ensures) (c .before .span-words .ensures) (c .bit .ensures)))

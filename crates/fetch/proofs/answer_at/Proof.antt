@@ -1,4 +1,4 @@
-use Rattle.fetch.proofs.FetchLaws.{makes}
+use Rattle.fetch.proofs.FetchLaws.{refused-there, kept-there}
 use Rattle.fetch.proofs.answer_at.Statement.{statement}
 use Rattle.fetch.proofs.answer_at.Tie as tie
 
@@ -6,7 +6,7 @@ pub answer-at-spec : {M : Type 1} → statement M
 answer-at-spec =
     tie.close
     (tie.spec
-    (λ c. search makes)
-    (λ c. search makes)
-    (λ c. search makes)
-    (λ c. search makes))
+    (λ c. c .match .keys1)
+    (λ c. c .match .keys2)
+    (λ c. kept-there _ _ _ (c .enum-told .given .1))
+    (λ c. refused-there _ _ _ (c .before .end .given .1)))

@@ -1,7 +1,6 @@
 use Rattle.types.specs.Types.{gridOf}
 use Rattle.index.specs.Answers.{intervalFound}
 use Rattle.fetch_way.specs.FetchWay.{lent}
-use borrow.Author.Needs.{needs}
 use Rattle.fetch.proofs.FetchLaws.{other-fetched, way-fetched}
 use Rattle.fetch.proofs.fetch_feature.Statement.{statement}
 use Rattle.fetch.proofs.fetch_feature.Tie as tie
@@ -62,8 +61,8 @@ fetch-feature-spec =
     (tie.spec
     (λ c κs. tt)
     (λ c κs. tt)
-    (λ c. search needs)
-    (λ c. search needs)
+    (λ c. c .match .keys1)
+    (λ c. c .match .keys2)
     (λ c κs. tt)
     same-length
     returns

@@ -1,4 +1,4 @@
-use Rattle.fetch.proofs.FetchLaws.{others}
+use Rattle.fetch.proofs.FetchLaws.{at-point, at-none, at-way}
 use Rattle.fetch.proofs.of_place.Statement.{statement}
 use Rattle.fetch.proofs.of_place.Tie as tie
 
@@ -6,14 +6,14 @@ pub of-place-spec : {M : Type 1} → statement M
 of-place-spec =
     tie.close
     (tie.spec
-    (λ c. search others)
-    (λ c κs. search others)
-    (λ c κs. search others)
-    (λ c. search others)
-    (λ c κs. search others)
-    (λ c. search others)
-    (λ c κs. search others)
-    (λ c. search others)
-    (λ c. search others)
-    (λ c. search others)
-    (λ c. search others))
+    (λ c. c .match .keys1)
+    (λ c κs. tt)
+    (λ c κs. tt)
+    (λ c. c .match .keys2)
+    (λ c κs. tt)
+    (λ c. c .match .keys3)
+    (λ c κs. tt)
+    (λ c. c .before .before .buffer .given)
+    (λ c. let a = c .before .before .before .before .before .before .before .before .before .before .before .args in at-point (a .layout) (a .place) (a .map .now) (a .buffer .now) _ _ _ _ (c .before .before .before .before .before .before .before .place .given .1) (c .before .before .before .fetch-poi .ensures) (c .of-poi .ensures))
+    (λ c. let a = c .before .before .before .before .before .before .args in at-none (a .layout) (a .place) (a .map .now) (a .buffer .now) _ _ (c .before .before .place2 .given .1) (c .no-fetch .ensures))
+    (λ c. let a = c .before .before .before .before .before .args in at-way (a .layout) (a .place) (a .map .now) (a .buffer .now) _ _ (c .before .enum-told .given .1)))

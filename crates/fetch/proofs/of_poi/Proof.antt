@@ -1,4 +1,4 @@
-use Rattle.fetch.proofs.FetchLaws.{makes}
+use Rattle.fetch.proofs.FetchLaws.{poi-made}
 use Rattle.fetch.proofs.of_poi.Statement.{statement}
 use Rattle.fetch.proofs.of_poi.Tie as tie
 
@@ -6,6 +6,6 @@ pub of-poi-spec : {M : Type 1} → statement M
 of-poi-spec =
     tie.close
     (tie.spec
-    (λ c κs. search makes)
-    (λ c κs. search makes)
-    (λ c. search makes))
+    (λ c κs. tt)
+    (λ c κs. tt)
+    (λ c. poi-made (c .before .before .before .args .got) _ _ (c .before .answer-at .ensures) (c .empty-way .ensures)))

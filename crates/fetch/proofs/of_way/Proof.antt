@@ -1,4 +1,4 @@
-use Rattle.fetch.proofs.FetchLaws.{makes}
+use Rattle.fetch.proofs.FetchLaws.{way-made}
 use Rattle.fetch.proofs.of_way.Statement.{statement}
 use Rattle.fetch.proofs.of_way.Tie as tie
 
@@ -6,6 +6,6 @@ pub of-way-spec : {M : Type 1} → statement M
 of-way-spec =
     tie.close
     (tie.spec
-    (λ c κs. search makes)
-    (λ c κs. search makes)
-    (λ c. search makes))
+    (λ c κs. tt)
+    (λ c κs. tt)
+    (λ c. way-made (c .before .before .before .args .got) _ _ (c .before .answer-at .ensures) (c .empty-poi .ensures)))

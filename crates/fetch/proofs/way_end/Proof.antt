@@ -1,4 +1,4 @@
-use Rattle.fetch.proofs.FetchLaws.{ways}
+use Rattle.fetch.proofs.FetchLaws.{a-way-there, no-way-there, nothing-there}
 use Rattle.fetch.proofs.way_end.Statement.{statement}
 use Rattle.fetch.proofs.way_end.Tie as tie
 
@@ -6,9 +6,9 @@ pub way-end-spec : {M : Type 1} → statement M
 way-end-spec =
     tie.close
     (tie.spec
-    (λ c. search ways)
-    (λ c. search ways)
-    (λ c. search ways)
-    (λ c. search ways)
-    (λ c. search ways)
-    (λ c. search ways))
+    (λ c. c .match .keys1)
+    (λ c. c .match .keys2)
+    (λ c. c .match .keys3)
+    (λ c. a-way-there _ _ (c .before .place .given .1))
+    (λ c. no-way-there _ _ (c .enum-told .given .1))
+    (λ c. nothing-there _ _ (c .enum-told2 .given .1)))

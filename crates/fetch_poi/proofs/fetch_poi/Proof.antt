@@ -1,4 +1,4 @@
-use Rattle.fetch_poi.proofs.PoiLaws.{fetches}
+use Rattle.fetch_poi.proofs.PoiLaws.{fetch-no, ids-in, ids-sized, fetch-on}
 use Rattle.fetch_poi.proofs.fetch_poi.Statement.{statement}
 use Rattle.fetch_poi.proofs.fetch_poi.Tie as tie
 
@@ -6,14 +6,14 @@ pub fetch-poi-spec : {M : Type 1} → statement M
 fetch-poi-spec =
     tie.close
     (tie.spec
-    (λ c κs. search fetches)
-    (λ c. search fetches)
-    (λ c. search fetches)
-    (λ c κs. search fetches)
-    (λ c κs. search fetches)
-    (λ c. search fetches)
-    (λ c. search fetches)
-    (λ c. search fetches)
-    (λ c κs. search fetches)
-    (λ c. search fetches)
-    (λ c. search fetches))
+    (λ c κs. tt)
+    (λ c. c .match .keys1)
+    (λ c. c .match .keys2)
+    (λ c κs. tt)
+    (λ c κs. tt)
+    (λ c. let a = c .before .before .before .before .before .before .before .args in fetch-no (a .debug) (a .table) (a .map .now) (a .at) _ (c .before .before .before .before .read-poi .ensures) _ _ _ _ (c .before .before .enum-told .given .1) (c .before .end-refusal .ensures) (c .refused-poi .ensures .0) (c .refused-poi .ensures .1))
+    (λ c. let a = c .before .before .before .before .before .before .before .before .before .args in ids-in (a .debug) (a .table) (a .map .now) (a .at) _ (c .before .before .before .before .before .before .read-poi .ensures) _ (c .before .before .before .before .end .given .1))
+    (λ c. let a = c .before .before .before .before .before .before .before .before .before .before .args in ids-sized (a .debug) (a .table) (a .map .now) (a .at) _ (c .before .before .before .before .before .before .before .read-poi .ensures) _ (c .before .before .before .before .before .end .given .1))
+    (λ c κs. tt)
+    (λ c. c .before .buffer .given)
+    (λ c. let a = c .before .before .before .before .before .before .before .before .before .before .before .before .before .before .args in fetch-on (a .debug) (a .table) (a .map .now) (a .at) _ (c .before .before .before .before .before .before .before .before .before .before .before .read-poi .ensures) _ (c .before .before .before .before .before .before .before .before .before .end .given .1) _ _ _ (c .before .before .write-poi .ensures)))

@@ -1,22 +1,20 @@
-use Rattle.format.specs.WayData.{node}
-use Rattle.fields.proofs.FieldLaws.{flagged}
+use Rattle.fields.proofs.FieldLaws.{no-latitude, no-longitude, whole-position}
 use Rattle.fields.proofs.read_position.Statement.{statement}
 use Rattle.fields.proofs.read_position.Tie as tie
 
 pub read-position-spec : {M : Type 1} → statement M
-unfolding node
 read-position-spec =
     tie.close
     (tie.spec
-    (search flagged)
-    (search flagged)
-    (search flagged)
-    (search flagged)
-    (λ c. search flagged)
-    (search flagged)
-    (search flagged)
-    (search flagged)
-    (search flagged)
-    (λ c. search flagged)
-    (search flagged)
-    (λ c. search flagged))
+    (λ c κs. tt)
+    (λ c. c .match .keys1)
+    (λ c. c .match .keys2)
+    (λ c κs. tt)
+    (λ c. let a = c .before .before .before .before .before .args in let e = c .before .enum-told in no-latitude (a .map .now) (a .at) _ (c .before .before .before .read-microdegrees .ensures) (e .given .0 .0) _ (e .given .1) (c .micro-refusal .ensures))
+    (λ c κs. tt)
+    (λ c. c .match2 .keys1)
+    (λ c. c .match2 .keys2)
+    (λ c κs. tt)
+    (λ c. let a = c .before .before .before .before .before .before .before .before .before .args in let g = c .before .before .before .before .before .got in let e = c .before .enum-told2 in no-longitude (a .map .now) (a .at) _ (c .before .before .before .before .before .before .before .read-microdegrees .ensures) (g .given .0 .0) (g .given .0 .1 .0) (g .given .1) _ (c .before .before .before .read-microdegrees2 .ensures) (e .given .0 .0) _ (e .given .1) (c .micro-refusal2 .ensures))
+    (λ c κs. tt)
+    (λ c. let a = c .before .before .before .before .before .before .before .before .before .before .args in let g = c .before .before .before .before .before .before .got in let g' = c .before .before .got2 in whole-position (a .map .now) (a .at) _ (c .before .before .before .before .before .before .before .before .read-microdegrees .ensures) (g .given .0 .0) (g .given .0 .1 .0) (g .given .1) _ (c .before .before .before .before .read-microdegrees2 .ensures) (g' .given .0 .0) (g' .given .0 .1 .0) _ (g' .given .1) (c .position-of .ensures)))

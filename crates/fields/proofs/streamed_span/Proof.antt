@@ -1,4 +1,4 @@
-use Rattle.fields.proofs.FieldLaws.{streams}
+use Rattle.fields.proofs.FieldLaws.{streamed-absent, streamed-valid, streamed-empty}
 use Rattle.fields.proofs.streamed_span.Statement.{statement}
 use Rattle.fields.proofs.streamed_span.Tie as tie
 
@@ -6,10 +6,10 @@ pub streamed-span-spec : {M : Type 1} → statement M
 streamed-span-spec =
     tie.close
     (tie.spec
-    (search streams)
-    (search streams)
-    (λ c. search streams)
-    (search streams)
-    (search streams)
-    (λ c. search streams)
-    (λ c. search streams))
+    (λ c. c .match .keys1)
+    (λ c. c .match .keys2)
+    (λ c. streamed-absent _ _ (c .enum-told .given .1))
+    (λ c κs. tt)
+    (λ c κs. tt)
+    (λ c. let s = c .before .before .before .before .span in streamed-valid _ _ (s .given .0 .0) _ _ (s .given .1) (c .before .before .span-bytes .ensures) (c .before .utf8-valid .ensures) (c .if1 .taken))
+    (λ c. let s = c .before .before .before .before .span in streamed-empty _ _ (s .given .0 .0) _ _ (s .given .1) (c .before .before .span-bytes .ensures) (c .before .utf8-valid .ensures) (c .if1 .left)))

@@ -1,4 +1,4 @@
-use Rattle.header.proofs.HeaderLaws.{checks}
+use Rattle.header.proofs.HeaderLaws.{checked-zero, checked-ok, checks}
 use Rattle.header.proofs.checked_header.Statement.{statement}
 use Rattle.header.proofs.checked_header.Tie as tie
 
@@ -12,6 +12,6 @@ checked-header-spec =
     (λ c. search checks)
     (λ c. search checks)
     (λ c. search checks)
+    (λ c. checked-zero _ _ _ _ _ _ _ (c .before .before .before .before .end .given .1) (c .before .if1 .taken) (c .refused-header2 .ensures .0) (c .refused-header2 .ensures .1))
     (λ c. search checks)
-    (λ c. search checks)
-    (λ c. search checks))
+    (λ c. checked-ok _ _ _ _ _ _ _ (c .before .before .before .before .before .end .given .1) (c .before .before .if1 .left) (c .header-of .ensures)))

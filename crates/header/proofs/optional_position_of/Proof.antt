@@ -6,8 +6,8 @@ pub optional-position-of-spec : {M : Type 1} → statement M
 optional-position-of-spec =
     tie.close
     (tie.spec
-    (search positions)
-    (search positions)
-    (search positions)
+    (λ c. c .match .keys1)
+    (λ c κs. tt)
+    (λ c. c .match .keys2)
     (λ c. search positions)
     (λ c. search positions))

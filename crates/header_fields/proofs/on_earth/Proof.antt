@@ -6,7 +6,7 @@ pub on-earth-spec : {M : Type 1} → statement M
 on-earth-spec =
     tie.close
     (tie.spec
-    (search reads)
-    (search reads)
+    (λ c κs. tt)
+    (λ c κs. tt)
     (λ c. search reads)
     (λ c. search reads))

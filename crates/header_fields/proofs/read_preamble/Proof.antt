@@ -8,14 +8,14 @@ unfolding preamble
 read-preamble-spec =
     tie.close
     (tie.spec
-    (search reads)
-    (search reads)
-    (search reads)
-    (search reads)
+    (λ c κs. tt)
+    (λ c. c .match .keys1)
+    (λ c. c .match .keys2)
+    (λ c κs. tt)
     (λ c. search reads)
+    (λ c κs. tt)
     (search reads)
-    (search reads)
-    (search reads)
-    (search reads)
+    (λ c κs. tt)
+    (λ c κs. tt)
     (λ c. search reads)
     (λ c. search reads))

@@ -6,9 +6,9 @@ pub valid-box-spec : {M : Type 1} → statement M
 valid-box-spec =
     tie.close
     (tie.spec
-    (search reads)
-    (search reads)
-    (search reads)
+    (λ c κs. tt)
+    (λ c κs. tt)
+    (λ c κs. tt)
     (λ c. search reads)
     (λ c. search reads)
     (λ c. search reads))

@@ -6,5 +6,5 @@ pub header-degrees-spec : {M : Type 1} → statement M
 header-degrees-spec =
     tie.close
     (tie.spec
-    (λ c κs. search parts depth 12)
+    (λ c κs. tt)
     (λ c. search parts depth 12))

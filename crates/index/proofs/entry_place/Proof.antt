@@ -1,4 +1,5 @@
-use Rattle.index.proofs.EntryLaws.{entries}
+use native.Mathlib.Omega.{arith}
+use Rattle.index.proofs.EntryLaws.{place-is}
 use Rattle.index.proofs.entry_place.Statement.{statement}
 use Rattle.index.proofs.entry_place.Tie as tie
 
@@ -6,8 +7,8 @@ pub entry-place-spec : {M : Type 1} → statement M
 entry-place-spec =
     tie.close
     (tie.spec
-    (search entries)
-    (search entries)
-    (λ c. search entries)
-    (search entries)
-    (λ c. search entries))
+    (λ c κs. tt)
+    (λ c. omega arith)
+    (λ c. omega arith)
+    (λ c κs. tt)
+    (λ c. place-is (c .before .before .args .debug) _ (c .before .before .args .tile) (c .before .before .args .start) _ (c .before .signature-size .ensures .0) (c .saturating-add-usize .ensures)))

@@ -1,4 +1,6 @@
-use Rattle.index.proofs.AnswerLaws.{refusals}
+use Rattle.index.specs.Answers.{entryRefusal}
+use Rattle.byte_source.proofs.ReadLaws.{taken}
+use mathlib.Core.Path.{refl}
 use Rattle.index.proofs.entry_refusal.Statement.{statement}
 use Rattle.index.proofs.entry_refusal.Tie as tie
 
@@ -6,7 +8,7 @@ pub entry-refusal-spec : {M : Type 1} → statement M
 entry-refusal-spec =
     tie.close
     (tie.spec
-    (search refusals)
-    (search refusals)
-    (λ c. search refusals)
-    (λ c. search refusals))
+    (λ c. c .match .keys1)
+    (λ c. c .match .keys2)
+    (λ c. taken entryRefusal (c .before .got .given .1) refl)
+    (λ c. taken entryRefusal (c .enum-told .given .1) refl))

@@ -1,4 +1,6 @@
-use Rattle.index.proofs.AnswerLaws.{refusals}
+use Rattle.index.specs.Answers.{gridRefusal}
+use Rattle.byte_source.proofs.ReadLaws.{taken}
+use mathlib.Core.Path.{refl}
 use Rattle.index.proofs.grid_refusal.Statement.{statement}
 use Rattle.index.proofs.grid_refusal.Tie as tie
 
@@ -6,7 +8,7 @@ pub grid-refusal-spec : {M : Type 1} → statement M
 grid-refusal-spec =
     tie.close
     (tie.spec
-    (search refusals)
-    (search refusals)
-    (λ c. search refusals)
-    (λ c. search refusals))
+    (λ c. c .match .keys1)
+    (λ c. c .match .keys2)
+    (λ c. taken gridRefusal (c .before .got .given .1) refl)
+    (λ c. taken gridRefusal (c .enum-told .given .1) refl))

@@ -1,4 +1,4 @@
-use Rattle.index.proofs.SubFileLaws.{files}
+use Rattle.index.proofs.SubFileLaws.{zoom-below, zoom-above}
 use Rattle.index.proofs.holds_zoom.Statement.{statement}
 use Rattle.index.proofs.holds_zoom.Tie as tie
 
@@ -6,5 +6,5 @@ pub holds-zoom-spec : {M : Type 1} → statement M
 holds-zoom-spec =
     tie.close
     (tie.spec
-    (λ c. search files)
-    (λ c. search files))
+    (λ c. zoom-below (c .before .before .args .interval) _ (c .if1 .taken))
+    (λ c. zoom-above (c .before .before .before .args .interval) _ (c .before .if1 .left)))

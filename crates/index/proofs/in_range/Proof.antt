@@ -1,4 +1,4 @@
-use Rattle.index.proofs.SignLaws.{signs}
+use Rattle.index.proofs.SignLaws.{range-below, range-rest}
 use Rattle.index.proofs.in_range.Statement.{statement}
 use Rattle.index.proofs.in_range.Tie as tie
 
@@ -6,7 +6,7 @@ pub in-range-spec : {M : Type 1} → statement M
 in-range-spec =
     tie.close
     (tie.spec
-    (search signs)
-    (λ c. search signs)
-    (search signs)
-    (λ c. search signs))
+    (λ c κs. tt)
+    (λ c. range-below (c .before .before .args .low) (c .before .before .args .v) (c .before .before .fits .low .sfits) (c .before .before .fits .v .sfits) _ (c .before .at-most .ensures) _ (c .if1 .taken))
+    (λ c κs. tt)
+    (λ c. range-rest (c .before .before .before .args .low) (c .before .before .before .args .v) (c .before .before .before .fits .low .sfits) (c .before .before .before .fits .v .sfits) _ (c .before .before .at-most .ensures) _ _ (c .before .before .before .fits .high .sfits) (c .before .if1 .left) (c .at-most2 .ensures)))

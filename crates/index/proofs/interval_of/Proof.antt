@@ -1,4 +1,5 @@
-use Rattle.index.proofs.SubFileLaws.{files}
+use native.Mathlib.Omega.{arith}
+use Rattle.index.proofs.SubFileLaws.{files, file-missing}
 use Rattle.index.proofs.interval_of.Statement.{statement}
 use Rattle.index.proofs.interval_of.Tie as tie
 
@@ -10,4 +11,10 @@ returns-2 c =
 
 pub interval-of-spec : {M : Type 1} → statement M
 interval-of-spec =
-    tie.close (tie.spec (search files) (λ c. search files) (search files) (search files) returns-2)
+    tie.close
+    (tie.spec
+    (λ c. omega arith)
+    (λ c. file-missing _ _ _ (c .if1 .taken))
+    (λ c. omega arith)
+    (λ c. omega arith)
+    returns-2)

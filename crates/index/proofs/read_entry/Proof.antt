@@ -1,17 +1,15 @@
-use Rattle.format.specs.Index.{entry}
-use Rattle.index.proofs.EntryLaws.{entries}
+use Rattle.index.proofs.EntryLaws.{read-refused, read-value}
 use Rattle.index.proofs.read_entry.Statement.{statement}
 use Rattle.index.proofs.read_entry.Tie as tie
 
 pub read-entry-spec : {M : Type 1} → statement M
-unfolding entry
 read-entry-spec =
     tie.close
     (tie.spec
-    (search entries)
-    (search entries)
-    (search entries)
-    (search entries)
-    (λ c. search entries)
-    (search entries)
-    (λ c. search entries))
+    (λ c κs. tt)
+    (λ c. c .match .keys1)
+    (λ c. c .match .keys2)
+    (λ c κs. tt)
+    (λ c. read-refused _ _ _ _ (c .before .before .before .read-u40-be .ensures) _ _ (c .before .enum-told .given .1) (c .number-refusal .ensures))
+    (λ c κs. tt)
+    (λ c. read-value _ _ _ _ (c .before .before .before .before .read-u40-be .ensures) _ _ _ (c .before .before .got .given .1) (c .saturating-add-usize .ensures)))

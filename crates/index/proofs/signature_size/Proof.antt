@@ -1,4 +1,5 @@
-use Rattle.index.proofs.EntryLaws.{entries}
+use native.Mathlib.Omega.{arith}
+use Rattle.index.proofs.EntryLaws.{flag-set, flag-clear}
 use Rattle.index.proofs.signature_size.Statement.{statement}
 use Rattle.index.proofs.signature_size.Tie as tie
 
@@ -6,5 +7,5 @@ pub signature-size-spec : {M : Type 1} → statement M
 signature-size-spec =
     tie.close
     (tie.spec
-    (λ c. search entries)
-    (λ c. search entries))
+    (λ c. (flag-set _ _ _ (c .if1 .taken), omega arith))
+    (λ c. (flag-clear _ _ _ (c .if1 .left), omega arith)))

@@ -1,9 +1,10 @@
+use native.Mathlib.Omega.{arith}
 use Prim.Native.Nat.{_≤_, _<_, _-_}
 use mathlib.Core.Path.{_≡_}
 use lib.ListN.{length}
 use Rattle.format.specs.Index.{subFileForZoom}
 use Rattle.types.specs.Types.{intervalsOf}
-use Rattle.index.proofs.SubFileLaws.{from, files}
+use Rattle.index.proofs.SubFileLaws.{from, files, zoom-here, zoom-next, zoom-none}
 use Rattle.index.proofs.sub_file_for_zoom.Statement.{statement}
 use Rattle.index.proofs.sub_file_for_zoom.Tie as tie
 
@@ -26,13 +27,13 @@ sub-file-for-zoom-spec =
     (tie.spec
     Inv-loop
     μ-loop
-    (λ c. search files)
+    (λ c. omega arith)
     loop-holds
-    (λ c. search files)
-    (λ c. search files)
-    (λ c κs. search files)
-    (λ c. search files)
-    (λ c. search files)
-    (λ c. search files)
-    (λ c. search files)
-    (λ c. search files))
+    (λ c. omega arith)
+    (λ c. omega arith)
+    (λ c κs. tt)
+    (λ c. zoom-here _ _ _ _ _ (c .before .before .before .before .loop .inv .2) _ _ (c .before .before .before .before .loop .inv .1) (c .before .before .before .loop-test .taken) (c .before .holds-zoom .ensures) (c .if1 .taken))
+    (λ c. omega arith)
+    (λ c. omega arith)
+    (λ c. (c .before .before .before .before .loop .inv .0, c .before .before .before .before .loop .inv .1, zoom-next _ _ _ _ _ (c .before .before .before .before .loop .inv .2) _ _ (c .before .before .before .before .loop .inv .1) (c .before .before .before .loop-test .taken) (c .before .holds-zoom .ensures) (c .if1 .left)))
+    (λ c. zoom-none _ _ _ _ _ (c .before .loop .inv .2) (c .loop-test .left)))

@@ -1,15 +1,14 @@
-use Rattle.format.specs.Index.{tileIndexEntry}
-use Rattle.index.proofs.EntryLaws.{entries}
+use Rattle.types.specs.Types.{gridOf}
+use Rattle.index.proofs.EntryLaws.{entry-missing, entry-found}
 use Rattle.index.proofs.tile_index_entry.Statement.{statement}
 use Rattle.index.proofs.tile_index_entry.Tie as tie
 
 pub tile-index-entry-spec : {M : Type 1} → statement M
-unfolding tileIndexEntry
 tile-index-entry-spec =
     tie.close
     (tie.spec
-    (search entries)
-    (search entries)
-    (λ c. search entries)
-    (search entries)
-    (λ c. search entries))
+    (λ c. c .match .keys1)
+    (λ c. c .match .keys2)
+    (λ c. let a = c .before .before .before .args in entry-missing (a .debug) (gridOf (a .grid)) (a .tile) (a .map .now) _ (c .enum-told .given .1))
+    (λ c κs. tt)
+    (λ c. let a = c .before .before .before .before .before .args in entry-found (a .debug) (gridOf (a .grid)) (a .tile) (a .map .now) _ _ _ (c .before .before .found .given .1) (c .entry-in .ensures)))

@@ -1,3 +1,4 @@
+use mathlib.Core.Path.{refl}
 use borrow.Author.Needs.{needs}
 use Rattle.index_wire.specs.Index.{columnSigned}
 use Rattle.wire.proofs.CaseLaws.{by-case}
@@ -9,8 +10,8 @@ pub column-signed-spec : {M : Type 1} → statement M
 column-signed-spec =
     tie.close
     (tie.spec
-    (λ c. search needs)
-    (λ c κs. search needs)
-    (λ c. search needs)
+    (λ c. c .match .keys1)
+    (λ c κs. tt)
+    (λ c. c .match .keys2)
     (λ c. search (needs, column-value))
-    (λ c. search (needs, by-case columnSigned)))
+    (λ c. by-case columnSigned _ _ _ (c .enum-told .given .1) refl))

@@ -1,4 +1,4 @@
-use borrow.Author.Needs.{needs}
+use mathlib.Core.Path.{refl}
 use Rattle.index_wire.specs.Index.{columnWords}
 use Rattle.wire.proofs.CaseLaws.{values-behind, by-case}
 use Rattle.index_wire.proofs.column_words.Statement.{statement}
@@ -8,8 +8,8 @@ pub column-words-spec : {M : Type 1} → statement M
 column-words-spec =
     tie.close
     (tie.spec
-    (λ c. search (needs, values-behind, by-case columnWords))
-    (λ c. search (needs, values-behind, by-case columnWords))
-    (λ c κs. search (needs, values-behind, by-case columnWords))
-    (λ c. search (needs, values-behind, by-case columnWords))
-    (λ c. search (needs, values-behind, by-case columnWords)))
+    (λ c. c .match .keys1)
+    (λ c. c .match .keys2)
+    (λ c κs. tt)
+    (λ c. by-case columnWords _ _ _ (c .enum-told .given .1) refl)
+    (λ c. by-case columnWords _ _ _ (c .before .before .got .given .1) (values-behind _ _ _ _ (c .values-of .ensures) refl)))

@@ -1,4 +1,4 @@
-use borrow.Author.Needs.{needs}
+use native.Mathlib.Omega.{arith}
 use Rattle.index_wire.specs.Index.{countWords}
 use Rattle.wire.proofs.CaseLaws.{by-case}
 use Rattle.index_wire.proofs.WordLaws.{found-by}
@@ -9,16 +9,16 @@ pub count-words-spec : {M : Type 1} → statement M
 count-words-spec =
     tie.close
     (tie.spec
-    (λ c. search (needs, found-by, by-case countWords))
-    (λ c κs. search (needs, found-by, by-case countWords))
-    (λ c κs. search (needs, found-by, by-case countWords))
-    (λ c. search (needs, found-by, by-case countWords))
-    (λ c κs. search (needs, found-by, by-case countWords))
-    (λ c. search (needs, found-by, by-case countWords))
-    (λ c κs. search (needs, found-by, by-case countWords))
-    (λ c. search (needs, found-by, by-case countWords))
-    (λ c κs. search (needs, found-by, by-case countWords))
-    (λ c κs. search (needs, found-by, by-case countWords))
-    (λ c. search (needs, found-by, by-case countWords))
-    (λ c. search (needs, found-by, by-case countWords))
-    (λ c. search (needs, found-by, by-case countWords)))
+    (λ c. c .match .keys1)
+    (λ c κs. tt)
+    (λ c κs. tt)
+    (λ c. c .match .keys2)
+    (λ c κs. tt)
+    (λ c. omega arith)
+    (λ c κs. tt)
+    (λ c. c .match .keys3)
+    (λ c κs. tt)
+    (λ c κs. tt)
+    (λ c. by-case countWords _ _ _ (c .before .before .enum-told .given .1) (found-by _ _ _ _ _ (c .found-words .ensures) (c .before .no-values .ensures)))
+    (λ c. by-case countWords _ _ _ (c .before .before .before .got .given .1) (found-by _ _ _ _ _ (c .found-words2 .ensures) (c .before .no-values2 .ensures)))
+    (λ c. by-case countWords _ _ _ (c .before .before .before .got2 .given .1) (found-by _ _ _ _ _ (c .found-words3 .ensures) (c .before .values-of .ensures))))

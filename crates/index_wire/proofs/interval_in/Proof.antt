@@ -1,4 +1,5 @@
-use Rattle.index_wire.proofs.WordLaws.{intervals}
+use native.Mathlib.Omega.{arith}
+use Rattle.index_wire.proofs.WordLaws.{interval-there, interval-absent}
 use Rattle.index_wire.proofs.interval_in.Statement.{statement}
 use Rattle.index_wire.proofs.interval_in.Tie as tie
 
@@ -6,14 +7,14 @@ pub interval-in-spec : {M : Type 1} → statement M
 interval-in-spec =
     tie.close
     (tie.spec
-    (search intervals)
-    (search intervals)
-    (search intervals)
-    (search intervals)
-    (search intervals)
-    (search intervals)
-    (search intervals)
-    (search intervals)
-    (search intervals)
-    (λ c. search intervals)
-    (λ c. search intervals))
+    (λ c. omega arith)
+    (λ c. omega arith)
+    (λ c. omega arith)
+    (λ c. omega arith)
+    (λ c. omega arith)
+    (λ c. omega arith)
+    (λ c. omega arith)
+    (λ c. omega arith)
+    (λ c. omega arith)
+    (λ c. interval-there (c .before .args .t1) (c .if1 .taken))
+    (λ c. interval-absent (c .before .args .t1) (c .if1 .left)))

@@ -1,7 +1,7 @@
+use mathlib.Core.Path.{refl}
 use lib.Ieee.{ofBits}
-use borrow.Author.Needs.{needs}
 use Rattle.index_wire.specs.Index.{longitudeDegrees}
-use Rattle.wire.proofs.CaseLaws.{values-behind, by-case}
+use Rattle.wire.proofs.CaseLaws.{by-case}
 use Rattle.index_wire.proofs.longitude_degrees.Statement.{statement}
 use Rattle.index_wire.proofs.longitude_degrees.Tie as tie
 
@@ -10,7 +10,7 @@ unfolding ofBits
 longitude-degrees-spec =
     tie.close
     (tie.spec
-    (λ c. search (needs, values-behind, by-case longitudeDegrees))
-    (λ c. search (needs, values-behind, by-case longitudeDegrees))
-    (λ c. search (needs, values-behind, by-case longitudeDegrees))
-    (λ c. search (needs, values-behind, by-case longitudeDegrees)))
+    (λ c. c .match .keys1)
+    (λ c. c .match .keys2)
+    (λ c. by-case longitudeDegrees _ _ _ (c .before .got .given .1) refl)
+    (λ c. by-case longitudeDegrees _ _ _ (c .enum-told .given .1) refl))

@@ -1,4 +1,4 @@
-use Rattle.measured_way.proofs.MeasureLaws.{empties}
+use Rattle.measured_way.proofs.MeasureLaws.{no-texts-there}
 use Rattle.measured_way.proofs.empty_way.Statement.{statement}
 use Rattle.measured_way.proofs.empty_way.Tie as tie
 
@@ -7,4 +7,4 @@ empty-way-spec =
     tie.close
     (tie.spec
     (λ c κs. tt)
-    (λ c. search empties))
+    (λ c. no-texts-there _ (c .no-texts .ensures)))

@@ -1,4 +1,4 @@
-use Rattle.measured_way.proofs.MeasureLaws.{tests}
+use Rattle.measured_way.proofs.MeasureLaws.{short-1, short-2, short-3, short-4, short-5, short-6}
 use Rattle.measured_way.proofs.is_short.Statement.{statement}
 use Rattle.measured_way.proofs.is_short.Tie as tie
 
@@ -6,9 +6,9 @@ pub is-short-spec : {M : Type 1} → statement M
 is-short-spec =
     tie.close
     (tie.spec
-    (λ c. search tests)
-    (λ c. search tests)
-    (λ c. search tests)
-    (λ c. search tests)
-    (λ c. search tests)
-    (λ c. search tests))
+    (λ c. let a = c .before .before .args in short-1 (a .blocks) (a .nodes) (a .texts) (a .room) (c .if1 .taken))
+    (λ c. let a = c .before .before .before .before .args in short-2 (a .blocks) (a .nodes) (a .texts) (a .room) (c .before .before .if1 .left) (c .if2 .taken))
+    (λ c. let a = c .before .before .before .before .before .before .args in short-3 (a .blocks) (a .nodes) (a .texts) (a .room) (c .before .before .before .before .if1 .left) (c .before .before .if2 .left) (c .if3 .taken))
+    (λ c. let a = c .before .before .before .before .before .before .before .before .args in short-4 (a .blocks) (a .nodes) (a .texts) (a .room) (c .before .before .before .before .before .before .if1 .left) (c .before .before .before .before .if2 .left) (c .before .before .if3 .left) (c .if4 .taken))
+    (λ c. let a = c .before .before .before .before .before .before .before .before .before .before .args in short-5 (a .blocks) (a .nodes) (a .texts) (a .room) (c .before .before .before .before .before .before .before .before .if1 .left) (c .before .before .before .before .before .before .if2 .left) (c .before .before .before .before .if3 .left) (c .before .before .if4 .left) (c .if5 .taken))
+    (λ c. let a = c .before .before .before .before .before .before .before .before .before .before .before .args in short-6 (a .blocks) (a .nodes) (a .texts) (a .room) (c .before .before .before .before .before .before .before .before .before .if1 .left) (c .before .before .before .before .before .before .before .if2 .left) (c .before .before .before .before .before .if3 .left) (c .before .before .before .if4 .left) (c .before .if5 .left)))

@@ -1,4 +1,4 @@
-use Rattle.measured_way.proofs.MeasureLaws.{bodies}
+use Rattle.measured_way.proofs.MeasureLaws.{body-no, body-on}
 use Rattle.measured_way.proofs.measure_body.Statement.{statement}
 use Rattle.measured_way.proofs.measure_body.Tie as tie
 
@@ -7,10 +7,10 @@ measure-body-spec =
     tie.close
     (tie.spec
     (λ c κs. tt)
-    (λ c. search bodies)
-    (λ c. search bodies)
+    (λ c. c .match .keys1)
+    (λ c. c .match .keys2)
     (λ c κs. tt)
     (λ c κs. tt)
-    (λ c. search bodies)
+    (λ c. body-no _ _ _ _ _ _ _ (c .before .before .before .before .measure-way-body .ensures) _ _ _ (c .before .before .enum-told .given .1) (c .before .way-body-refusal .ensures) (c .refused-way .ensures))
     (λ c κs. tt)
-    (λ c. search bodies))
+    (λ c. body-on _ _ _ _ _ _ _ (c .before .before .before .before .measure-way-body .ensures) _ _ _ (c .before .before .got .given .1) (c .tell-way .ensures)))

@@ -1,4 +1,4 @@
-use Rattle.measured_way.proofs.MeasureLaws.{heads}
+use Rattle.measured_way.proofs.MeasureLaws.{head-no, ids-in, ids-sized, head-on}
 use Rattle.measured_way.proofs.measure_way.Statement.{statement}
 use Rattle.measured_way.proofs.measure_way.Tie as tie
 
@@ -7,12 +7,12 @@ measure-way-spec =
     tie.close
     (tie.spec
     (λ c κs. tt)
-    (λ c. search heads)
-    (λ c. search heads)
+    (λ c. c .match .keys1)
+    (λ c. c .match .keys2)
     (λ c κs. tt)
     (λ c κs. tt)
-    (λ c. search heads)
-    (λ c. search heads)
-    (λ c. search heads)
+    (λ c. let a = c .before .before .before .before .before .before .args in head-no (a .debug) (a .table) (a .room) (a .map .now) (a .at) _ (c .before .before .before .before .read-way-head .ensures) _ _ _ (c .before .before .enum-told .given .1) (c .before .end-refusal .ensures) (c .refused-way .ensures))
+    (λ c. let a = c .before .before .before .before .before .before .before .before .args in ids-in (a .debug) (a .table) (a .room) (a .map .now) (a .at) _ (c .before .before .before .before .before .before .read-way-head .ensures) _ (c .before .before .before .before .end .given .1))
+    (λ c. let a = c .before .before .before .before .before .before .before .before .before .args in ids-sized (a .debug) (a .table) (a .room) (a .map .now) (a .at) _ (c .before .before .before .before .before .before .before .read-way-head .ensures) _ (c .before .before .before .before .before .end .given .1))
     (λ c κs. tt)
-    (λ c. search heads))
+    (λ c. let a = c .before .before .before .before .before .before .before .before .before .before .args in head-on (a .debug) (a .table) (a .room) (a .map .now) (a .at) _ (c .before .before .before .before .before .before .before .before .read-way-head .ensures) _ (c .before .before .before .before .before .before .end .given .1) _ (c .measure-body .ensures)))

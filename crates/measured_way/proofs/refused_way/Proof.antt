@@ -1,4 +1,4 @@
-use Rattle.measured_way.proofs.MeasureLaws.{empties}
+use Rattle.measured_way.proofs.MeasureLaws.{none-made}
 use Rattle.measured_way.proofs.refused_way.Statement.{statement}
 use Rattle.measured_way.proofs.refused_way.Tie as tie
 
@@ -8,4 +8,4 @@ refused-way-spec =
     (tie.spec
     (λ c κs. tt)
     (λ c κs. tt)
-    (λ c. search empties))
+    (λ c. none-made _ _ _ (c .before .empty-way .ensures) (c .no-text-plan .ensures)))

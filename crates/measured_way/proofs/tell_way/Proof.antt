@@ -1,4 +1,4 @@
-use Rattle.measured_way.proofs.MeasureLaws.{tells}
+use Rattle.measured_way.proofs.MeasureLaws.{told-short, told-done}
 use Rattle.measured_way.proofs.tell_way.Statement.{statement}
 use Rattle.measured_way.proofs.tell_way.Tie as tie
 
@@ -11,7 +11,7 @@ tell-way-spec =
     (λ c κs. tt)
     (λ c κs. tt)
     (λ c κs. tt)
-    (λ c. search tells)
+    (λ c. told-short _ _ _ _ _ _ _ _ _ (c .before .before .before .before .before .way-parts .ensures) _ (c .before .before .before .before .texts-len .ensures) _ (c .before .before .before .is-short .ensures) _ _ (c .before .before .if1 .taken) (c .before .too-short .ensures) (c .refused-way .ensures))
     (λ c κs. tt)
     (λ c κs. tt)
-    (λ c. search tells))
+    (λ c. told-done _ _ _ _ _ _ _ _ _ (c .before .before .before .before .before .before .way-parts .ensures) _ (c .before .before .before .before .before .texts-len .ensures) _ (c .before .before .before .before .is-short .ensures) _ _ (c .before .before .before .if1 .left) (c .before .before .texts-of .ensures) (c .way-with .ensures)))

@@ -2,7 +2,7 @@ use Prim.Native.Nat.{_≤_, _-_}
 use mathlib.Core.Path.{_≡_}
 use lib.ListN.{length, drop}
 use Rattle.format.specs.Header.{signatures}
-use Rattle.opening.proofs.OpeningLaws.{firsts, signs}
+use Rattle.opening.proofs.OpeningLaws.{firsts, sign-no, sign-done, signs}
 use Rattle.opening.proofs.check_signatures.Statement.{statement}
 use Rattle.opening.proofs.check_signatures.Tie as tie
 
@@ -13,6 +13,14 @@ Inv-loop map count intervals n i₀ i =
 abbrev μ-loop : tie.MeasureT-loop
 μ-loop map count intervals n i₀ i = count - i
 
+returns : tie.Need-returns Inv-loop μ-loop
+returns c =
+    sign-no _ _ _ _ _ _ _ _
+    (c .before .before .before .before .before .loop-test .taken) (c .before .before .before .before .before .before .loop .inv .1) (c .before .before .before .check-signature .ensures) (c .before .enum-told2 .given .1) (c .end-refusal .ensures) (c .before .before .before .before .before .before .loop .inv .2)
+
+returns-2 : tie.Need-returns-2 Inv-loop μ-loop
+returns-2 c = sign-done _ _ _ _ (c .loop-test .left) (c .before .loop .inv .2)
+
 pub check-signatures-spec : {M : Type 1} → statement M
 check-signatures-spec =
     tie.close
@@ -22,12 +30,12 @@ check-signatures-spec =
     (λ c. search signs)
     (λ c. search signs)
     (λ c. search signs)
-    (λ c κs. search signs)
+    (λ c κs. tt)
+    (λ c. c .match .keys1)
+    (λ c. c .match .keys2)
+    (λ c κs. tt)
+    returns
     (λ c. search signs)
     (λ c. search signs)
-    (λ c κs. search signs)
     (λ c. search signs)
-    (λ c. search signs)
-    (λ c. search signs)
-    (λ c. search signs)
-    (λ c. search signs))
+    returns-2)

@@ -6,6 +6,6 @@ pub streamed-poi-spec : {M : Type 1} → statement M
 streamed-poi-spec =
     tie.close
     (tie.spec
-    (search streams)
-    (search streams)
+    (λ c κs. tt)
+    (λ c κs. tt)
     (λ c. search streams))

@@ -1,5 +1,8 @@
+use mathlib.Core.Path.{refl, ap}
+use mathlib.Core.List.{[], _∷_}
+use Rattle.wire.specs.declared.PlaceWords.{PlaceWords}
+use Rattle.wire.proofs.CaseLaws.{by-case}
 use lib.Ieee.{ofBits}
-use Rattle.wire.proofs.CaseLaws.{parts, by-case}
 use Rattle.stream_wire.specs.Streams.{acceptDegrees}
 use Rattle.stream_wire.proofs.accept_degrees.Statement.{statement}
 use Rattle.stream_wire.proofs.accept_degrees.Tie as tie
@@ -9,8 +12,8 @@ unfolding ofBits
 accept-degrees-spec =
     tie.close
     (tie.spec
-    (λ c. search (parts, by-case acceptDegrees))
+    (λ c. c .match .keys1)
     (λ c κs. tt)
-    (λ c. search (parts, by-case acceptDegrees))
-    (λ c. search (parts, by-case acceptDegrees))
-    (λ c. search (parts, by-case acceptDegrees)))
+    (λ c. c .match .keys2)
+    (λ c. by-case acceptDegrees _ _ _ (c .before .before .answer .given .1) (ap (λ (x : PlaceWords). x .latitude ∷ x .longitude ∷ []) (c .place-words .ensures)))
+    (λ c. by-case acceptDegrees _ _ _ (c .enum-told .given .1) refl))

@@ -1,4 +1,4 @@
-use Rattle.stream_wire.proofs.WireLaws.{made}
+use Rattle.stream_wire.proofs.WireLaws.{body-made}
 use Rattle.stream_wire.proofs.body_words.Statement.{statement}
 use Rattle.stream_wire.proofs.body_words.Tie as tie
 
@@ -10,4 +10,4 @@ body-words-spec =
     (λ c κs. tt)
     (λ c κs. tt)
     (λ c κs. tt)
-    (λ c. search made))
+    (λ c. body-made (c .before .before .before .before .args .body) _ _ _ _ (c .before .before .before .span-words .ensures) (c .before .before .span-words2 .ensures) (c .before .span-words3 .ensures) (c .place-words .ensures)))

@@ -1,4 +1,4 @@
-use Rattle.stream_wire.proofs.WireLaws.{made}
+use Rattle.stream_wire.proofs.WireLaws.{end-made}
 use Rattle.stream_wire.proofs.end_words.Statement.{statement}
 use Rattle.stream_wire.proofs.end_words.Tie as tie
 
@@ -7,4 +7,4 @@ end-words-spec =
     tie.close
     (tie.spec
     (λ c κs. tt)
-    (λ c. search made))
+    (λ c. end-made (c .before .args .end) _ (c .bit .ensures)))

@@ -1,6 +1,7 @@
-use Rattle.stream_wire.specs.Streams.{nextNumber}
+use mathlib.Core.Path.{refl}
+use borrow.Author.Needs.{needs}
 use Rattle.wire.proofs.CaseLaws.{by-case}
-use Rattle.stream_wire.proofs.WireLaws.{made}
+use Rattle.stream_wire.specs.Streams.{nextNumber}
 use Rattle.stream_wire.proofs.next_number.Statement.{statement}
 use Rattle.stream_wire.proofs.next_number.Tie as tie
 
@@ -8,13 +9,13 @@ pub next-number-spec : {M : Type 1} → statement M
 next-number-spec =
     tie.close
     (tie.spec
-    (λ c. search (made, by-case nextNumber))
-    (λ c. search (made, by-case nextNumber))
-    (λ c. search (made, by-case nextNumber))
-    (λ c. search (made, by-case nextNumber))
+    (λ c. c .match .keys1)
+    (λ c. c .match .keys2)
+    (λ c. c .match .keys3)
+    (λ c. c .match .keys4)
     (λ c κs. tt)
-    (λ c. search (made, by-case nextNumber))
-    (λ c. search (made, by-case nextNumber))
-    (λ c. search (made, by-case nextNumber))
-    (λ c. search (made, by-case nextNumber))
-    (λ c. search (made, by-case nextNumber)))
+    (λ c. search needs)
+    (λ c. by-case nextNumber _ _ _ (c .enum-told .given .1) refl)
+    (λ c. by-case nextNumber _ _ _ (c .enum-told2 .given .1) refl)
+    (λ c. by-case nextNumber _ _ _ (c .enum-told3 .given .1) refl)
+    (λ c. by-case nextNumber _ _ _ (c .before .before .answer .given .1) (c .number-of .ensures)))

@@ -1,4 +1,5 @@
-use Rattle.stream_wire.proofs.WireLaws.{streams}
+use native.Mathlib.Omega.{arith}
+use Rattle.stream_wire.proofs.WireLaws.{stream-made}
 use Rattle.stream_wire.proofs.stream_in.Statement.{statement}
 use Rattle.stream_wire.proofs.stream_in.Tie as tie
 
@@ -7,7 +8,7 @@ stream-in-spec =
     tie.close
     (tie.spec
     (λ c κs. tt)
-    (λ c. search streams)
-    (λ c. search streams)
+    (λ c. omega arith)
+    (λ c. omega arith)
     (λ c κs. tt)
-    (λ c. search streams))
+    (λ c. stream-made (c .before .before .args .t1) _ _ (c .before .turn-in .ensures) (c .truth-of .ensures)))

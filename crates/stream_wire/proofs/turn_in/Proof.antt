@@ -1,4 +1,4 @@
-use Rattle.stream_wire.proofs.WireLaws.{streams}
+use Rattle.stream_wire.proofs.WireLaws.{turns}
 use Rattle.stream_wire.proofs.turn_in.Statement.{statement}
 use Rattle.stream_wire.proofs.turn_in.Tie as tie
 
@@ -6,13 +6,13 @@ pub turn-in-spec : {M : Type 1} → statement M
 turn-in-spec =
     tie.close
     (tie.spec
-    (λ c. search streams)
-    (λ c. search streams)
-    (λ c. search streams)
-    (λ c. search streams)
-    (λ c. search streams)
-    (λ c. search streams)
-    (λ c. search streams)
-    (λ c. search streams)
-    (λ c. search streams)
-    (λ c. search streams))
+    (λ c. search turns)
+    (λ c. search turns)
+    (λ c. search turns)
+    (λ c. search turns)
+    (λ c. search turns)
+    (λ c. search turns)
+    (λ c. search turns)
+    (λ c. search turns)
+    (λ c. search turns)
+    (λ c. search turns))

@@ -10,9 +10,9 @@ unfolding follow sequenceBy sequencesFrom codesOf hashFrom
 key-code-spec =
     tie.close
     (tie.spec
-    (search needs)
-    (search needs)
-    (search needs)
+    (λ c. c .match .keys1)
+    (λ c. c .match .keys2)
+    (λ c. c .match .keys3)
     (λ c. search tags)
     (λ c. search tags)
     (λ c. search tags))

@@ -24,7 +24,7 @@ letter-after-spec =
     (λ c. search tags)
     (λ c. search tags)
     (λ c. search tags)
-    (λ c κs. search tags)
+    (λ c κs. tt)
     (λ c. search tags)
     (λ c. search tags)
     (λ c. search tags)

@@ -7,17 +7,17 @@ pub parse-tag-spec : {M : Type 1} → statement M
 parse-tag-spec =
     tie.close
     (tie.spec
-    (search needs)
+    (λ c κs. tt)
     (λ c. search tags)
     (search needs)
     (search needs)
     (search needs)
-    (search needs)
+    (λ c κs. tt)
     (λ c. search tags)
     (λ c. search tags)
     (λ c. search tags)
     (λ c. search tags)
     (λ c. search tags)
     (search needs)
-    (search needs)
+    (λ c κs. tt)
     (λ c. search tags))

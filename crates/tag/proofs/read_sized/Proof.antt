@@ -8,10 +8,10 @@ unfolding sized
 read-sized-spec =
     tie.close
     (tie.spec
-    (search values)
-    (search values)
-    (search values)
-    (search values)
+    (λ c κs. tt)
+    (λ c. c .match .keys1)
+    (λ c. c .match .keys2)
+    (λ c κs. tt)
     (λ c. search values)
-    (search values)
+    (λ c κs. tt)
     (λ c. search values))

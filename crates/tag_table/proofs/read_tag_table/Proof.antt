@@ -8,15 +8,15 @@ unfolding tags
 read-tag-table-spec =
     tie.close
     (tie.spec
-    (search walks)
-    (search walks)
-    (search walks)
-    (search walks)
+    (λ c κs. tt)
+    (λ c. c .match .keys1)
+    (λ c. c .match .keys2)
+    (λ c κs. tt)
     (λ c. search walks)
     (search walks)
-    (search walks)
-    (search walks)
-    (search walks)
-    (search walks)
+    (λ c κs. tt)
+    (λ c. c .match2 .keys1)
+    (λ c. c .match2 .keys2)
+    (λ c κs. tt)
     (λ c. search walks)
     (λ c. search walks depth 8))

@@ -20,10 +20,10 @@ skip-texts-spec =
     Inv-loop
     μ-loop
     (λ c. search walks)
-    (search walks)
-    (search walks)
-    (search walks)
-    (search walks)
+    (λ c κs. tt)
+    (λ c. c .match .keys1)
+    (λ c. c .match .keys2)
+    (λ c κs. tt)
     (λ c. search walks)
     (λ c. search walks)
     (λ c. search walks)

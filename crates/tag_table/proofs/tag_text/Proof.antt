@@ -9,10 +9,10 @@ tag-text-spec =
     tie.close
     (tie.spec
     (λ c. search walks)
-    (search walks)
-    (search walks)
-    (search walks)
-    (search walks)
+    (λ c κs. tt)
+    (λ c. c .match .keys1)
+    (λ c. c .match .keys2)
+    (λ c κs. tt)
     (λ c. search walks)
-    (search walks)
+    (λ c κs. tt)
     (λ c. search walks))

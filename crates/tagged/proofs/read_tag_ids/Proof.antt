@@ -20,10 +20,10 @@ read-tag-ids-spec =
     Inv-loop
     μ-loop
     (λ c. search ids)
-    (λ c κs. search ids)
-    (λ c. search ids)
-    (λ c. search ids)
-    (λ c κs. search ids)
+    (λ c κs. tt)
+    (λ c. c .match .keys1)
+    (λ c. c .match .keys2)
+    (λ c κs. tt)
     (λ c. search ids)
     (λ c. search ids)
     (λ c. search ids)

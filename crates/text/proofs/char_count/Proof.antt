@@ -22,7 +22,7 @@ char-count-spec =
     (λ c. search writes)
     (λ c κs. search writes)
     (λ c. search writes)
-    (λ c κs. search writes)
+    (λ c κs. tt)
     (λ c. search writes)
     (λ c. search writes)
     (λ c. search writes)

@@ -21,7 +21,7 @@ put-replaced-spec =
     (tie.spec
     Inv-loop
     μ-loop
-    (λ c κs. search writes)
+    (λ c κs. tt)
     (λ c κs. search writes)
     (λ c. search writes)
     (λ c. search writes)
@@ -29,7 +29,7 @@ put-replaced-spec =
     (λ c. search writes)
     (λ c κs. search writes)
     (λ c κs. search writes)
-    (λ c κs. search writes)
+    (λ c κs. tt)
     (λ c. search writes)
     (λ c. search writes)
     (λ c. search writes)

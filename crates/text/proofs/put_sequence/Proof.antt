@@ -7,10 +7,10 @@ pub put-sequence-spec : {M : Type 1} → statement M
 put-sequence-spec =
     tie.close
     (tie.spec
-    (search needs)
+    (λ c. c .match .keys1)
     (λ c κs. search writes)
     (λ c. search writes)
-    (search needs)
+    (λ c. c .match .keys2)
     (λ c. search writes)
     (search needs)
     (λ c. search writes)

@@ -20,13 +20,13 @@ replaced-len-spec =
     (tie.spec
     Inv-loop
     μ-loop
-    (λ c κs. search writes)
+    (λ c κs. tt)
     (λ c. search writes)
     (λ c. search writes)
     (λ c κs. search writes)
-    (λ c κs. search writes)
-    (λ c κs. search writes)
-    (λ c κs. search writes)
+    (λ c κs. tt)
+    (λ c κs. tt)
+    (λ c κs. tt)
     (λ c. search writes)
     (λ c. search writes)
     (λ c. search writes)

@@ -11,7 +11,7 @@ sequence-at-spec =
     tie.close
     (tie.spec
     (search needs)
-    (search needs)
+    (λ c κs. tt)
     (λ c. sequence-ascii _ _ _ (search needs) (omega arith))
     (λ c. sequence-out 1 _ _ (omega arith) (omega arith))
     (search needs)

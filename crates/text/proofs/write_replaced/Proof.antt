@@ -7,11 +7,11 @@ pub write-replaced-spec : {M : Type 1} → statement M
 write-replaced-spec =
     tie.close
     (tie.spec
-    (search needs)
+    (λ c κs. tt)
     (λ c κs. search writes)
     (search needs)
     (λ c. search writes)
-    (search needs)
-    (search needs)
-    (search needs)
+    (λ c κs. tt)
+    (λ c κs. tt)
+    (λ c κs. tt)
     (λ c. search writes))

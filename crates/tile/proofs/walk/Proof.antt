@@ -6,11 +6,11 @@ pub walk-spec : {M : Type 1} → statement M
 walk-spec =
     tie.close
     (tie.spec
-    (search walks)
-    (search walks)
-    (search walks)
-    (search walks)
+    (λ c κs. tt)
+    (λ c. c .match .keys1)
+    (λ c. c .match .keys2)
+    (λ c κs. tt)
     (λ c. search walks)
-    (search walks)
-    (search walks)
+    (λ c κs. tt)
+    (λ c κs. tt)
     (λ c. search walks))

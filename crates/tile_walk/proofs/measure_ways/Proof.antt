@@ -1,7 +1,8 @@
 use Prim.Native.Nat.{_≤_, _-_}
 use Rattle.parsing.specs.Parse.{ok}
 use Rattle.tile_walk.specs.TileWalk.{exactWays, ForAllRows}
-use Rattle.tile_walk.proofs.WalkLaws.{way-loops}
+use native.Mathlib.Omega.{arith}
+use Rattle.tile_walk.proofs.WalkLaws.{ways-start, ways-more, ways-no, ways-done, way-loops}
 use Rattle.tile_walk.proofs.measure_ways.Statement.{statement}
 use Rattle.tile_walk.proofs.measure_ways.Tie as tie
 
@@ -12,6 +13,14 @@ Inv-loop map at n layout all₀ next₀ i₀ all next i =
 abbrev μ-loop : tie.MeasureT-loop
 μ-loop map at n layout all₀ next₀ i₀ all next i = n - i
 
+returns : tie.Need-returns Inv-loop μ-loop
+returns c =
+    ways-no _ (c .before .before .before .before .before .before .before .args .layout) _ _ _ _ (c .before .before .before .before .before .loop .inv .1) _ (c .before .before .before .measure-way .ensures) _ _ _
+    (c .before .enum-told .given .1) (c .ways-refusal .ensures) (c .before .before .before .before .loop-test .taken)
+
+loop-again : tie.Need-loop-again Inv-loop μ-loop
+loop-again c = (omega arith, ways-more _ (c .before .before .before .before .before .before .before .before .args .layout) (c .before .before .before .before .before .before .loop .i) (c .before .before .before .before .before .before .before .before .args .at) _ _ (c .before .before .before .before .before .before .loop .inv .1) _ (c .before .before .before .before .measure-way .ensures) _ _ _ (c .before .before .got .given .1) (c .both .ensures))
+
 pub measure-ways-spec : {M : Type 1} → statement M
 measure-ways-spec =
     tie.close
@@ -19,13 +28,13 @@ measure-ways-spec =
     Inv-loop
     μ-loop
     (λ c. search way-loops)
-    (λ c κs. search way-loops)
+    (λ c κs. tt)
+    (λ c. c .match .keys1)
+    (λ c. c .match .keys2)
+    (λ c κs. tt)
+    returns
+    (λ c κs. tt)
     (λ c. search way-loops)
     (λ c. search way-loops)
-    (λ c κs. search way-loops)
-    (λ c. search way-loops)
-    (λ c κs. search way-loops)
-    (λ c. search way-loops)
-    (λ c. search way-loops)
-    (λ c. search way-loops)
-    (λ c. search way-loops))
+    loop-again
+    (λ c. ways-done _ (c .before .before .before .args .layout) _ _ _ _ (c .before .loop .inv .1) _ (c .before .loop .inv .0) (c .loop-test .left)))

@@ -5,7 +5,8 @@ use Rattle.parsing.specs.Parse.{ok, mapRes, many}
 use Rattle.format.specs.Kinds.{tagKinds}
 use Rattle.format.specs.Tile.{point}
 use Rattle.tag_table.specs.Tables.{tableIn}
-use Rattle.tile_walk.proofs.WalkLaws.{points}
+use native.Mathlib.Omega.{arith}
+use Rattle.tile_walk.proofs.WalkLaws.{points-more, points-no, points-done, points}
 use Rattle.tile_walk.proofs.pass_points.Statement.{statement}
 use Rattle.tile_walk.proofs.pass_points.Tie as tie
 
@@ -16,6 +17,14 @@ Inv-loop map at n layout next₀ i₀ next i =
 abbrev μ-loop : tie.MeasureT-loop
 μ-loop map at n layout next₀ i₀ next i = n - i
 
+returns : tie.Need-returns Inv-loop μ-loop
+returns c =
+    points-no _ _ _ _ _ _ (c .before .before .before .before .before .loop .inv .1) _ (c .before .before .before .read-poi .ensures) _ _ _
+    (c .before .enum-told .given .1) (c .end-refusal .ensures) (c .before .before .before .before .loop-test .taken)
+
+loop-again : tie.Need-loop-again Inv-loop μ-loop
+loop-again c = (omega arith, points-more _ _ _ _ _ _ (c .before .before .before .before .before .loop .inv .1) _ (c .before .before .before .read-poi .ensures) _ (c .before .end .given .1))
+
 pub pass-points-spec : {M : Type 1} → statement M
 pass-points-spec =
     tie.close
@@ -23,12 +32,12 @@ pass-points-spec =
     Inv-loop
     μ-loop
     (λ c. search points)
-    (λ c κs. search points)
+    (λ c κs. tt)
+    (λ c. c .match .keys1)
+    (λ c. c .match .keys2)
+    (λ c κs. tt)
+    returns
     (λ c. search points)
     (λ c. search points)
-    (λ c κs. search points)
-    (λ c. search points)
-    (λ c. search points)
-    (λ c. search points)
-    (λ c. search points)
-    (λ c. search points))
+    loop-again
+    (λ c. points-done _ _ _ _ _ _ (c .before .loop .inv .1) _ (c .before .loop .inv .0) (c .loop-test .left)))

@@ -25,8 +25,8 @@ long-signed-spec =
     tie.close
     (tie.spec
     (search needs)
-    (search needs)
+    (λ c. c .match .keys1)
     signed-of-requires
-    (search needs)
+    (λ c. c .match .keys2)
     returns
     returns-2)

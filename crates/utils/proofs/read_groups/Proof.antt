@@ -21,7 +21,7 @@ read-groups-spec =
     (λ c. search vbes)
     (λ c. search vbes)
     (λ c. search vbes)
-    (λ c κs. search vbes)
+    (λ c κs. tt)
     (λ c. search vbes)
     (λ c. search vbes)
     (λ c. search vbes)

@@ -26,10 +26,10 @@ pub read-microdegrees-spec : {M : Type 1} → statement M
 read-microdegrees-spec =
     tie.close
     (tie.spec
-    (search needs)
-    (search needs)
-    (search needs)
-    (search needs)
+    (λ c κs. tt)
+    (λ c. c .match .keys1)
+    (λ c. c .match .keys2)
+    (λ c κs. tt)
     returns
     returns-2
     returns-3

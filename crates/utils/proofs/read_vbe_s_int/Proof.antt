@@ -8,9 +8,9 @@ read-vbe-s-int-spec =
     (tie.spec
     (λ c. search ones)
     (search ones)
-    (search ones)
+    (λ c κs. tt)
     (search ones)
     (search ones)
     (λ c. search ones)
-    (search ones)
+    (λ c κs. tt)
     (λ c. search ones))

@@ -8,11 +8,11 @@ unfolding text
 read-vbe-u-spec =
     tie.close
     (tie.spec
-    (search reads)
-    (search reads)
-    (search reads)
-    (search reads)
+    (λ c κs. tt)
+    (λ c. c .match .keys1)
+    (λ c. c .match .keys2)
+    (λ c κs. tt)
     (λ c. search reads)
     (λ c. search reads)
-    (search reads)
+    (λ c κs. tt)
     (λ c. search reads))

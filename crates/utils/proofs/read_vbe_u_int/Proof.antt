@@ -8,8 +8,8 @@ read-vbe-u-int-spec =
     (tie.spec
     (λ c. search ones)
     (search ones)
-    (search ones)
+    (λ c κs. tt)
     (search ones)
     (λ c. search ones)
-    (search ones)
+    (λ c κs. tt)
     (λ c. search ones))

@@ -1,4 +1,4 @@
-use Rattle.visit.proofs.AcceptLaws.{declines}
+use Rattle.visit.proofs.AcceptLaws.{decline-idle, decline-waits}
 use Rattle.visit.proofs.decline.Statement.{statement}
 use Rattle.visit.proofs.decline.Tie as tie
 
@@ -6,7 +6,7 @@ pub decline-spec : {M : Type 1} → statement M
 decline-spec =
     tie.close
     (tie.spec
-    (search declines)
-    (search declines)
-    (λ c. search declines)
-    (λ c. search declines))
+    (λ c. c .match .keys1)
+    (λ c. c .match .keys2)
+    (λ c l rows m. decline-idle l rows m _ (c .enum-told .given .0 .0) (c .enum-told .given .1))
+    (λ c l rows m. let t = c .before .before .turn in decline-waits l rows m _ (t .given .0 .0) (t .given .1)))

@@ -1,4 +1,5 @@
-use Rattle.visit.proofs.NextLaws.{steps}
+use mathlib.Core.Path.{refl}
+use Rattle.visit.proofs.NextLaws.{next-waits, next-idle}
 use Rattle.visit.proofs.next.Statement.{statement}
 use Rattle.visit.proofs.next.Tie as tie
 
@@ -6,9 +7,9 @@ pub next-spec : {M : Type 1} → statement M
 next-spec =
     tie.close
     (tie.spec
-    (search steps)
-    (search steps)
-    (search steps)
-    (λ c. search steps)
-    (search steps)
-    (λ c. search steps))
+    (λ c. c .match .keys1)
+    (λ c. c .match .keys2)
+    (λ c κs. tt)
+    (λ c rows. let r = c .refused-next in let e = c .before .enum-told in next-waits _ _ _ (r .ensures .0) (r .ensures .1) (r .ensures .2) (r .ensures .3) _ _ rows (e .given .0 .0) (e .given .1) refl)
+    (λ c κs. tt)
+    (λ c rows. let t = c .before .before .before .turn in next-idle _ _ rows _ (t .given .0 .0) _ (t .given .1) (c .next-idle .ensures)))

@@ -1,4 +1,5 @@
-use Rattle.visit.proofs.NextLaws.{steps}
+use mathlib.Core.Path.{refl}
+use Rattle.visit.proofs.NextLaws.{no-point, a-point}
 use Rattle.visit.proofs.next_point.Statement.{statement}
 use Rattle.visit.proofs.next_point.Tie as tie
 
@@ -6,13 +7,13 @@ pub next-point-spec : {M : Type 1} → statement M
 next-point-spec =
     tie.close
     (tie.spec
-    (search steps)
-    (search steps)
-    (search steps)
-    (search steps)
-    (search steps)
-    (λ c. search steps)
-    (search steps)
-    (search steps)
-    (search steps)
-    (λ c. search steps))
+    (λ c κs. tt)
+    (λ c. c .match .keys1)
+    (λ c. c .match .keys2)
+    (λ c κs. tt)
+    (λ c κs. tt)
+    (λ c rows. let r = c .refused-next in let a = c .before .before .before .before .before .before .before .args in let e = c .before .before .enum-told in no-point _ _ _ (r .ensures .0) (r .ensures .1) (r .ensures .2) (r .ensures .3) _ _ rows (a .rest) (a .end) refl _ (e .given .0 .0) (c .before .before .before .before .read-poi .ensures) (e .given .1) (c .before .end-refusal .ensures) (c .before .before .before .before .before .before .before .pre))
+    (λ c. c .before .before .before .before .before .before .before .before .pre)
+    (λ c κs. tt)
+    (λ c κs. tt)
+    (λ c rows. let e = c .before .before .before .before .before .ending in a-point _ _ rows _ _ _ (e .given .0 .0) _ _ (c .before .before .before .before .before .before .before .read-poi .ensures) (e .given .1) (c .before .streamed-poi .ensures) (c .no-head .ensures) (c .before .before .before .before .before .before .before .before .before .before .pre)))

@@ -6,10 +6,10 @@ pub open-at-spec : {M : Type 1} → statement M
 open-at-spec =
     tie.close
     (tie.spec
-    (search heads)
-    (search heads)
-    (search heads)
-    (search heads)
+    (λ c κs. tt)
+    (λ c. c .match .keys1)
+    (λ c. c .match .keys2)
+    (λ c κs. tt)
     (λ c. search heads)
-    (search heads)
+    (λ c κs. tt)
     (λ c. search heads))

@@ -1,4 +1,4 @@
-use Rattle.visit.proofs.AcceptLaws.{bodies}
+use Rattle.visit.proofs.AcceptLaws.{body-made}
 use Rattle.visit.proofs.streamed_body.Statement.{statement}
 use Rattle.visit.proofs.streamed_body.Tie as tie
 
@@ -6,7 +6,7 @@ pub streamed-body-spec : {M : Type 1} → statement M
 streamed-body-spec =
     tie.close
     (tie.spec
-    (search bodies)
-    (search bodies)
-    (search bodies)
-    (λ c. search bodies))
+    (λ c κs. tt)
+    (λ c κs. tt)
+    (λ c κs. tt)
+    (λ c. let a = c .before .before .before .before .args in body-made (a .map .now) (a .body) _ _ _ (c .before .before .streamed-span .ensures) (c .before .streamed-span2 .ensures) (c .streamed-span3 .ensures)))

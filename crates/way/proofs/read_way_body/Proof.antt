@@ -1,4 +1,4 @@
-use Rattle.way.proofs.WayLaws.{deliveries}
+use Rattle.way.proofs.WayLaws.{read-no-fields, read-no-data, read-ok}
 use Rattle.way.proofs.read_way_body.Statement.{statement}
 use Rattle.way.proofs.read_way_body.Tie as tie
 
@@ -6,21 +6,21 @@ pub read-way-body-spec : {M : Type 1} → statement M
 read-way-body-spec =
     tie.close
     (tie.spec
-    (search deliveries)
-    (search deliveries)
-    (search deliveries)
-    (search deliveries)
-    (λ c. search deliveries)
-    (search deliveries)
-    (search deliveries)
-    (search deliveries)
-    (search deliveries)
-    (search deliveries)
-    (search deliveries)
-    (search deliveries)
-    (λ c. search deliveries)
-    (search deliveries)
-    (search deliveries)
-    (search deliveries)
-    (search deliveries)
-    (λ c. search deliveries))
+    (λ c κs. tt)
+    (λ c. c .match .keys1)
+    (λ c. c .match .keys2)
+    (λ c κs. tt)
+    (λ c. let e = c .before .enum-told in read-no-fields _ _ _ (c .before .before .before .read-way-fields .ensures) (e .given .0 .0) _ _ _ _ (e .given .1) (c .way-fields-refusal .ensures))
+    (λ c κs. tt)
+    (λ c. c .match2 .keys1)
+    (λ c. c .match2 .keys2)
+    (λ c κs. tt)
+    (λ c. c .before .before .before .before .before .before .before .before .before .read-way-data .kept .1 .1 .1 .1 .0)
+    (λ c. c .before .before .before .before .before .before .before .before .before .read-way-data .kept .1 .1 .1 .1 .1 .0)
+    (λ c. c .before .before .before .before .before .before .before .before .before .read-way-data .kept .1 .1 .1 .1 .1 .1 .0)
+    (λ c. let g = c .before .before .before .before .before .before .before .before .before .before .before .before .before .before .got in let e = c .before .enum-told2 in read-no-data _ _ _ (c .before .before .before .before .before .before .before .before .before .before .before .before .before .before .before .before .read-way-fields .ensures) (g .given .0 .0) (g .given .0 .1 .0) (g .given .1) _ _ _ _ _ _ _ (e .given .0 .0) _ (c .before .before .before .before .before .before .before .before .before .read-way-data .ensures) (e .given .1) (c .way-data-refusal .ensures))
+    (λ c κs. tt)
+    (λ c. c .before .before .before .before .before .before .before .before .before .before .read-way-data .kept .1 .1 .1 .1 .0)
+    (λ c. c .before .before .before .before .before .before .before .before .before .before .read-way-data .kept .1 .1 .1 .1 .1 .0)
+    (λ c. c .before .before .before .before .before .before .before .before .before .before .read-way-data .kept .1 .1 .1 .1 .1 .1 .0)
+    (λ c. let g = c .before .before .before .before .before .before .before .before .before .before .before .before .before .before .before .got in let g' = c .before .before .got2 in read-ok _ _ _ (c .before .before .before .before .before .before .before .before .before .before .before .before .before .before .before .before .before .read-way-fields .ensures) (g .given .0 .0) (g .given .0 .1 .0) (g .given .1) _ _ _ _ _ _ _ (g' .given .0 .0) (g' .given .0 .1 .0) _ (c .before .before .before .before .before .before .before .before .before .before .read-way-data .ensures) (g' .given .1) (c .body-with .ensures)))

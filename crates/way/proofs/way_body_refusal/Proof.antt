@@ -1,4 +1,4 @@
-use Rattle.way.proofs.WayLaws.{refusals}
+use Rattle.way.proofs.WayLaws.{refusals, body-refused}
 use Rattle.way.proofs.way_body_refusal.Statement.{statement}
 use Rattle.way.proofs.way_body_refusal.Tie as tie
 
@@ -6,7 +6,7 @@ pub way-body-refusal-spec : {M : Type 1} → statement M
 way-body-refusal-spec =
     tie.close
     (tie.spec
-    (search refusals)
-    (search refusals)
-    (λ c. search refusals)
+    (λ c. c .match .keys1)
+    (λ c. c .match .keys2)
+    (λ c. body-refused _ _ (c .before .got .given .1))
     (λ c. search refusals))

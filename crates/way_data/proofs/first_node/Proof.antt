@@ -1,4 +1,4 @@
-use Rattle.way_data.proofs.NodeLaws.{nodes}
+use Rattle.way_data.proofs.NodeLaws.{start-is}
 use Rattle.way_data.proofs.first_node.Statement.{statement}
 use Rattle.way_data.proofs.first_node.Tie as tie
 
@@ -6,6 +6,6 @@ pub first-node-spec : {M : Type 1} → statement M
 first-node-spec =
     tie.close
     (tie.spec
-    (search nodes)
-    (search nodes)
-    (λ c. search nodes))
+    (λ c κs. tt)
+    (λ c κs. tt)
+    (λ c. start-is _ _ _ (c .before .microdegrees-to-degrees .ensures) (c .microdegrees-to-degrees2 .ensures)))

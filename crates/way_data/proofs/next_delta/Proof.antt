@@ -1,4 +1,4 @@
-use Rattle.way_data.proofs.NodeLaws.{nodes}
+use Rattle.way_data.proofs.NodeLaws.{double-yes, double-no}
 use Rattle.way_data.proofs.next_delta.Statement.{statement}
 use Rattle.way_data.proofs.next_delta.Tie as tie
 
@@ -6,5 +6,5 @@ pub next-delta-spec : {M : Type 1} → statement M
 next-delta-spec =
     tie.close
     (tie.spec
-    (λ c. search nodes)
-    (λ c. search nodes))
+    (λ c. double-yes _ _ _ (c .if1 .taken))
+    (λ c. double-no _ (c .before .args .delta) _ (c .if1 .left)))

@@ -1,4 +1,4 @@
-use Rattle.way_data.proofs.NodeLaws.{nodes}
+use Rattle.way_data.proofs.NodeLaws.{moved-is}
 use Rattle.way_data.proofs.next_node.Statement.{statement}
 use Rattle.way_data.proofs.next_node.Tie as tie
 
@@ -6,7 +6,7 @@ pub next-node-spec : {M : Type 1} → statement M
 next-node-spec =
     tie.close
     (tie.spec
-    (search nodes)
-    (search nodes)
-    (search nodes)
-    (λ c. search nodes))
+    (λ c κs. tt)
+    (λ c κs. tt)
+    (λ c κs. tt)
+    (λ c. let a = c .before .before .before .before .before .args in moved-is (a .double) (a .last) _ _ _ _ (c .before .before .before .before .first-node .ensures) (c .before .before .before .next-delta .ensures) (c .before .before .next-delta2 .ensures)))

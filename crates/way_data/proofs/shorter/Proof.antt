@@ -1,4 +1,4 @@
-use Rattle.way_data.proofs.ReplyLaws.{replies}
+use Rattle.way_data.proofs.ReplyLaws.{shorter-counts, shorter-lats, shorter-lons}
 use Rattle.way_data.proofs.shorter.Statement.{statement}
 use Rattle.way_data.proofs.shorter.Tie as tie
 
@@ -6,6 +6,6 @@ pub shorter-spec : {M : Type 1} → statement M
 shorter-spec =
     tie.close
     (tie.spec
-    (λ c. search replies)
-    (λ c. search replies)
-    (λ c. search replies))
+    (λ c. shorter-counts (c .before .before .args .s) _ _ _ (c .if1 .taken))
+    (λ c. shorter-lats (c .before .before .before .before .args .s) _ _ _ (c .before .before .if1 .left) (c .if2 .taken))
+    (λ c. shorter-lons (c .before .before .before .before .before .args .s) _ _ _ (c .before .before .before .if1 .left) (c .before .if2 .left)))

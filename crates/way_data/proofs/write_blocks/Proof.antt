@@ -1,9 +1,9 @@
-use mathlib.Core.Path.{_≡_}
+use mathlib.Core.Path.{_≡_, refl}
 use lib.ListN.{length}
 use Rattle.parsing.specs.Parse.{mapRes, many}
 use Rattle.format.specs.WayData.{concat}
 use Rattle.way_data.specs.Writes.{oneBlock}
-use Rattle.way_data.proofs.BlockLaws.{BlocksLeft, left-fit, left-more, left-done, turns}
+use Rattle.way_data.proofs.BlockLaws.{BlocksLeft, left-fit, left-more, left-done, turns, left-start}
 use Rattle.way_data.proofs.write_blocks.Statement.{statement}
 use Rattle.way_data.proofs.write_blocks.Tie as tie
 
@@ -21,12 +21,12 @@ write-blocks-spec =
     (tie.spec
     Inv-loop
     μ-loop
-    (λ c. search turns)
-    (λ c κs. search (turns, left-fit oneBlock))
+    (λ c. (refl, refl, refl, left-start _ _ _ _ _ _ (c .before .before .before .before .pre)))
+    (λ c κs. left-fit oneBlock _ _ _ _ _ _ _ _ _ _ _ _ (c .before .before .before .before .loop .inv .3) (c .before .before .before .loop-test .taken))
     (λ c. search turns)
     (λ c. search turns)
     (λ c. search (turns, left-more oneBlock))
-    (λ c. search turns)
-    (λ c. search turns)
-    (λ c. search turns)
-    (λ c. search (turns, left-done oneBlock)))
+    (λ c. c .before .loop .inv .0)
+    (λ c. c .before .loop .inv .1)
+    (λ c. c .before .loop .inv .2)
+    (λ c. left-done oneBlock _ _ _ _ _ _ _ _ _ _ _ _ (c .before .loop .inv .3) (c .loop-test .left)))

@@ -1,4 +1,4 @@
-use Rattle.way_data.proofs.BlockLaws.{blocks}
+use Rattle.way_data.proofs.BlockLaws.{data-no, data-fit, data-done}
 use Rattle.way_data.proofs.write_data_block.Statement.{statement}
 use Rattle.way_data.proofs.write_data_block.Tie as tie
 
@@ -6,12 +6,12 @@ pub write-data-block-spec : {M : Type 1} → statement M
 write-data-block-spec =
     tie.close
     (tie.spec
-    (λ c κs. search blocks)
-    (λ c. search blocks)
-    (λ c. search blocks)
-    (λ c. search blocks)
-    (λ c κs. search blocks)
-    (λ c. search blocks)
-    (λ c. search blocks)
-    (λ c. search blocks)
-    (λ c. search blocks))
+    (λ c κs. tt)
+    (λ c. c .match .keys1)
+    (λ c. c .match .keys2)
+    (λ c. data-no _ _ _ _ _ _ (c .before .before .before .before .before .before .before .pre) (c .before .before .read-vbe-u-int .ensures) (c .enum-told .given .0 .0) _ _ _ _ _ (c .enum-told .given .1))
+    (λ c κs. let g = c .before .before .before .before .got in data-fit _ _ _ _ _ _ (c .before .before .before .before .before .before .before .before .before .before .before .pre) (c .before .before .before .before .before .before .read-vbe-u-int .ensures) (g .given .0 .0) (g .given .0 .1 .0) (g .given .1))
+    (λ c. c .before .before .before .before .before .before .write-blocks .kept .1 .1 .1 .1 .0)
+    (λ c. c .before .before .before .before .before .before .write-blocks .kept .1 .1 .1 .1 .1 .0)
+    (λ c. c .before .before .before .before .before .before .write-blocks .kept .1 .1 .1 .1 .1 .1 .0)
+    (λ c. let g = c .before .before .before .before .before .before .before .before .before .before .before .got in data-done _ _ _ _ _ _ (c .before .before .before .before .before .before .before .before .before .before .before .before .before .before .before .before .before .before .pre) (c .before .before .before .before .before .before .before .before .before .before .before .before .before .read-vbe-u-int .ensures) (g .given .0 .0) (g .given .0 .1 .0) (g .given .1) _ _ _ _ _ (c .before .before .before .before .before .before .write-blocks .ensures)))

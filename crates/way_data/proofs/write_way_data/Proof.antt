@@ -1,8 +1,8 @@
-use mathlib.Core.Path.{_≡_}
+use mathlib.Core.Path.{_≡_, refl}
 use lib.ListN.{length}
 use Rattle.parsing.specs.Parse.{mapRes, many}
 use Rattle.format.specs.WayData.{dataBlock, concat}
-use Rattle.way_data.proofs.BlockLaws.{BlocksLeft, left-fit, left-more, left-done, turns}
+use Rattle.way_data.proofs.BlockLaws.{BlocksLeft, left-fit, left-more, left-done, turns, left-start}
 use Rattle.way_data.proofs.write_way_data.Statement.{statement}
 use Rattle.way_data.proofs.write_way_data.Tie as tie
 
@@ -20,12 +20,12 @@ write-way-data-spec =
     (tie.spec
     Inv-loop
     μ-loop
-    (λ c. search turns)
-    (λ c κs. search (turns, left-fit dataBlock))
+    (λ c. (refl, refl, refl, left-start _ _ _ _ _ _ (c .before .before .before .before .pre)))
+    (λ c κs. left-fit dataBlock _ _ _ _ _ _ _ _ _ _ _ _ (c .before .before .before .before .loop .inv .3) (c .before .before .before .loop-test .taken))
     (λ c. search turns)
     (λ c. search turns)
     (λ c. search (turns, left-more dataBlock))
-    (λ c. search turns)
-    (λ c. search turns)
-    (λ c. search turns)
-    (λ c. search (turns, left-done dataBlock)))
+    (λ c. c .before .loop .inv .0)
+    (λ c. c .before .loop .inv .1)
+    (λ c. c .before .loop .inv .2)
+    (λ c. left-done dataBlock _ _ _ _ _ _ _ _ _ _ _ _ (c .before .loop .inv .3) (c .loop-test .left)))

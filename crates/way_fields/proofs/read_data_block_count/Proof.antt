@@ -8,6 +8,6 @@ unfolding dataBlockCount
 read-data-block-count-spec =
     tie.close
     (tie.spec
-    (search reads)
+    (λ c κs. tt)
     (λ c. search reads)
     (λ c. search reads))

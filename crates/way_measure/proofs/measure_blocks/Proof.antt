@@ -1,9 +1,11 @@
+use native.Mathlib.Omega.{arith}
+use Rattle.parsing.proofs.Loops.{counted}
 use Prim.Native.Nat.{_≤_, _-_}
 use mathlib.Core.Path.{_≡_}
 use Rattle.parsing.specs.Parse.{ok, mapRes, many}
 use Rattle.format.specs.WayData.{block}
 use Rattle.way_measure.specs.Answers.{sizesOf}
-use Rattle.way_measure.proofs.MeasureLaws.{over-blocks}
+use Rattle.way_measure.proofs.MeasureLaws.{over-blocks, blocks-more, blocks-stop}
 use Rattle.way_measure.proofs.measure_blocks.Statement.{statement}
 use Rattle.way_measure.proofs.measure_blocks.Tie as tie
 
@@ -21,13 +23,13 @@ measure-blocks-spec =
     Inv-loop
     μ-loop
     (λ c. search over-blocks)
-    (search over-blocks)
-    (search over-blocks)
-    (search over-blocks)
-    (search over-blocks)
+    (λ c κs. tt)
+    (λ c. c .match .keys1)
+    (λ c. c .match .keys2)
+    (λ c κs. tt)
+    (λ c. let a = c .before .before .before .before .before .before .before .args in let l = c .before .before .before .before .before .loop in let e = c .before .enum-told in blocks-stop (a .map .now) (l .i) (a .at) (l .next) _ _ _ (e .given .0 .0) _ (l .inv .1) (c .before .before .before .measure-block .ensures) (e .given .1) (c .number-refusal .ensures) (c .before .before .before .before .loop-test .taken))
     (λ c. search over-blocks)
     (λ c. search over-blocks)
     (λ c. search over-blocks)
-    (λ c. search over-blocks)
-    (λ c. search over-blocks)
-    (λ c. search over-blocks))
+    (λ c. let a = c .before .before .before .before .before .before .before .args in let l = c .before .before .before .before .before .loop in (omega arith, blocks-more (a .map .now) (l .i) (a .at) (l .next) _ _ _ _ _ (l .inv .1) (c .before .before .before .measure-block .ensures) (c .before .got .given .1)))
+    (λ c. let a = c .before .before .before .args in let l = c .before .loop in counted sizesOf block (a .map .now) (l .i) _ (a .at) _ _ (l .inv .1) (l .inv .0) (c .loop-test .left)))

@@ -8,10 +8,10 @@ unfolding dataBlock
 measure-data-block-spec =
     tie.close
     (tie.spec
-    (search measures)
-    (search measures)
-    (search measures)
-    (search measures)
+    (λ c κs. tt)
+    (λ c. c .match .keys1)
+    (λ c. c .match .keys2)
+    (λ c κs. tt)
     (λ c. search measures)
-    (search measures)
+    (λ c κs. tt)
     (λ c. search measures))

@@ -1,9 +1,11 @@
+use native.Mathlib.Omega.{arith}
+use Rattle.parsing.proofs.Loops.{counted}
 use Prim.Native.Nat.{_≤_, _-_}
 use mathlib.Core.Path.{_≡_}
 use lib.ListN.{length}
 use Rattle.parsing.specs.Parse.{ok, mapRes, many}
 use Rattle.format.specs.WayData.{node}
-use Rattle.way_measure.proofs.MeasureLaws.{over-nodes}
+use Rattle.way_measure.proofs.MeasureLaws.{over-nodes, nodes-more, nodes-stop}
 use Rattle.way_measure.proofs.measure_nodes.Statement.{statement}
 use Rattle.way_measure.proofs.measure_nodes.Tie as tie
 
@@ -20,12 +22,12 @@ measure-nodes-spec =
     Inv-loop
     μ-loop
     (λ c. search over-nodes)
-    (search over-nodes)
-    (search over-nodes)
-    (search over-nodes)
-    (search over-nodes)
+    (λ c κs. tt)
+    (λ c. c .match .keys1)
+    (λ c. c .match .keys2)
+    (λ c κs. tt)
+    (λ c. let a = c .before .before .before .before .before .before .before .args in let l = c .before .before .before .before .before .loop in let e = c .before .enum-told in nodes-stop (a .map .now) (l .i) (a .at) (l .next) _ (l .inv .1) (c .before .before .before .read-node .ensures) _ (e .given .0 .0) _ (e .given .1) (c .node-refusal .ensures) (c .before .before .before .before .loop-test .taken))
     (λ c. search over-nodes)
     (λ c. search over-nodes)
-    (λ c. search over-nodes)
-    (λ c. search over-nodes)
-    (λ c. search over-nodes))
+    (λ c. let a = c .before .before .before .before .before .before .before .args in let l = c .before .before .before .before .before .loop in (omega arith, nodes-more (a .map .now) (l .i) (a .at) (l .next) _ (l .inv .1) (c .before .before .before .read-node .ensures) (c .before .got .given .0 .1 .0) (c .before .got .given .0 .0) (c .before .got .given .1)))
+    (λ c. let a = c .before .before .before .args in let l = c .before .loop in counted length node (a .map .now) (l .i) _ (a .at) _ _ (l .inv .1) (l .inv .0) (c .loop-test .left)))

@@ -1,4 +1,4 @@
-use Rattle.way_measure.proofs.MeasureLaws.{refusals}
+use Rattle.way_measure.proofs.MeasureLaws.{refusals, node-refused}
 use Rattle.way_measure.proofs.node_refusal.Statement.{statement}
 use Rattle.way_measure.proofs.node_refusal.Tie as tie
 
@@ -6,7 +6,7 @@ pub node-refusal-spec : {M : Type 1} → statement M
 node-refusal-spec =
     tie.close
     (tie.spec
-    (search refusals)
-    (search refusals)
-    (λ c. search refusals)
+    (λ c. c .match .keys1)
+    (λ c. c .match .keys2)
+    (λ c. node-refused _ _ (c .before .got .given .1))
     (λ c. search refusals))

@@ -8,14 +8,14 @@ unfolding node
 read-node-spec =
     tie.close
     (tie.spec
-    (search measures)
-    (search measures)
-    (search measures)
-    (search measures)
+    (λ c κs. tt)
+    (λ c. c .match .keys1)
+    (λ c. c .match .keys2)
+    (λ c κs. tt)
     (λ c. search measures)
-    (search measures)
-    (search measures)
-    (search measures)
-    (search measures)
+    (λ c κs. tt)
+    (λ c. c .match2 .keys1)
+    (λ c. c .match2 .keys2)
+    (λ c κs. tt)
     (λ c. search measures)
     (λ c. search measures))

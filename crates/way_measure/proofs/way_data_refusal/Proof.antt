@@ -1,4 +1,4 @@
-use Rattle.way_measure.proofs.MeasureLaws.{refusals}
+use Rattle.way_measure.proofs.MeasureLaws.{refusals, way-data-refused}
 use Rattle.way_measure.proofs.way_data_refusal.Statement.{statement}
 use Rattle.way_measure.proofs.way_data_refusal.Tie as tie
 
@@ -6,7 +6,7 @@ pub way-data-refusal-spec : {M : Type 1} → statement M
 way-data-refusal-spec =
     tie.close
     (tie.spec
-    (search refusals)
-    (search refusals)
-    (λ c. search refusals)
+    (λ c. c .match .keys1)
+    (λ c. c .match .keys2)
+    (λ c. way-data-refused _ _ (c .before .got .given .1))
     (λ c. search refusals))

@@ -6,5 +6,5 @@ pub no-intervals-spec : {M : Type 1} → statement M
 no-intervals-spec =
     tie.close
     (tie.spec
-    (search fills)
+    (λ c κs. tt)
     (λ c. search fills))
