@@ -3,7 +3,7 @@ use Prim.Native.Nat.{ℕ, _+_, _-_, _^_, _≤_, _<_}
 use native.Mathlib.Omega.{arith}
 use mathlib.Core.Path.{_≡_, refl, sym, ap, _∙_}
 use mathlib.Core.Bool.{Bool, true, false, cond}
-use mathlib.Core.List.{List, [], _∷_}
+use mathlib.Core.List.{List, []}
 use lib.Dec.{ltb}
 use lib.ListN.{length}
 use borrow.Author.Needs.{needs}
@@ -39,7 +39,6 @@ use Rattle.tile_place.proofs.PlaceLaws.{located-ordered}
 use Rattle.agreement.specs.Format.{Format, Laws}
 use Rattle.agreement.specs.Collected.{Way, way, allExact, StoredTile, collect}
 use Rattle.agreement.proofs.Chain.{Chain, stop, link}
-use Rattle.agreement.proofs.CollectLaws.{collect-end}
 use Rattle.agreement.proofs.TileAgrees.{way-good, way-strict, collected}
 use Rattle.agreement.proofs.TileFormatLaws.{tile-laws, tileHead-end}
 use Rattle.tile_layout.specs.TileLayout.{formatOf}
@@ -52,7 +51,6 @@ use Rattle.tile.specs.declared.Tile.{Tile}
 use Rattle.tile.specs.declared.TileAnswer.the-variants as tile-answer
 use Rattle.tile.specs.declared.TileRead.{TileRead}
 use Rattle.feature_place.specs.FeaturePlace.{Place, pointAt, wayAt, placeRes, placeRefusal, placeIn, featurePlace, pointPlace, wayPlace, WayPlace, behind, Behind, tileRefusal, tileStart}
-use Rattle.feature_place.specs.declared.FeaturePlace.{FeaturePlace}
 use Rattle.feature_place.specs.declared.FeaturePlace.the-variants as place
 
 pub feature-refused : Taken placeRefusal place.Refused
@@ -98,8 +96,6 @@ module _ (l : TileLayout) (m : List ℕ) (at n : ℕ) (g : WaysRead) (q : ForAll
       go rows (ok ps e) d = ap (λ a. answer (wayAt a)) (ok-at d)
       go rows (no k v) d = no-ok (sym d)
 
-pub ruleset walks = (needs, points-stop, points-end, ways-stop, ways-end)
-
 -- points from 0, ways behind them
 module _ (l : TileLayout) (m : List ℕ) (e points ways offset k : ℕ) (r : Res Place) where
   pub a-point : k < points → r ≡ pointPlace l m e k → Behind l m e points ways offset k r
@@ -110,8 +106,6 @@ module _ (l : TileLayout) (m : List ℕ) (e points ways offset k : ℕ) (r : Res
 
 pub no-feature : (l : TileLayout) (m : List ℕ) (e points ways offset k : ℕ) → points ≤ k → ways ≤ k - points → Behind l m e points ways offset k (refused InvalidFeature)
 no-feature l m e points ways offset k h b = record { each = λ rows. rw (le-ltb k points h, le-ltb (k - points) ways b) }
-
-pub ruleset features = (needs, a-point, a-way, no-feature)
 
 -- ways that are there start inside the map
 starts-inside : (F : Format) (L : Laws F) (m : List ℕ) {i e : ℕ} {ws : List (Way F)} → Chain (way F) m i ws e → 0 < length ws → i < length m
@@ -193,8 +187,6 @@ module _ (b : Bool) (i : Maybe Interval) (grid : Grid) (number : ℕ) (m : List 
         go (ok a z) o d = on (headAt (a .interval .min) (a .interval .max) (a .interval .max)) (headOf a) (ap headRes (sym c) ∙ seen a z o (ok-val d))
         go (no k v) o d = no-ok (sym d)
 
-pub ruleset starts = (needs, start-nowhere, start-no, start-at)
-
 -- the feature, by what was read
 module _ (l : TileLayout) (i : Maybe Interval) (grid : Grid) (number k : ℕ) (m : List ℕ) where
   abbrev located : Res Located
@@ -253,5 +245,3 @@ module _ (l : TileLayout) (i : Maybe Interval) (grid : Grid) (number k : ℕ) (m
           → answer (t .tile) ≡ andThen y (λ a _. collectAt l (a .interval .min) (a .interval .max) (a .entry .absolute) m) → r ≡ andThen y (λ a _. fromTile a)
       go (ok a z) d i = on a d (collect (formatAt a) m (a .entry .absolute)) refl i
       go (no x y) d i = no-ok (sym d)
-
-pub ruleset finds = (needs, no-start, no-tile, found)

@@ -26,7 +26,7 @@ use Rattle.types.specs.declared.OptionalByte.the-variants as byte
 use Rattle.types.specs.declared.End.the-variants as end
 use Rattle.types.proofs.TypeLaws as types
 use Rattle.types.proofs.TypeLaws.{part-back}
-use Rattle.types.proofs.BesideLaws.{beside-done, beside-no, beside-same, beside-after, beside-ok, beside-stop}
+use Rattle.types.proofs.BesideLaws.{beside-done, beside-no, beside-after, beside-ok, beside-stop}
 use Rattle.header_fields.specs.Fields.{placeOf, boxOf}
 use Rattle.header_fields.specs.declared.StoredPosition.{StoredPosition}
 use Rattle.header_parts.specs.Parts.{frontOf, optionsOf, maybePlace, maybeByte}
@@ -34,7 +34,6 @@ use Rattle.header_parts.specs.declared.Front.{Front}
 use Rattle.header_parts.specs.declared.Options.{Options}
 use Rattle.header_parts.specs.declared.OptionalStored.{OptionalStored}
 use Rattle.header_parts.specs.declared.OptionalStored.the-variants as stored
-use Rattle.header_parts.proofs.PartLaws.{front-ok, front-no, options-ok, options-no}
 use Rattle.tag_table.specs.Tables.{tagTable, tableIn, tableRes}
 use Rattle.tag_table.specs.declared.TagTableRead.{TagTableRead}
 use Rattle.tag_table.specs.declared.TagTableRead.the-variants as table
@@ -126,7 +125,6 @@ tables-are m at f o g g′ p w n n′ z h q d q′ d′ k c =
 pub ruleset behind = (needs, table-ok, table-no, beside-no)
 
 -- the whole header
-pub ruleset headers = (needs, front-ok, front-no, options-ok, options-no, beside-no, beside-same)
 
 -- the intervals of a header that is handed out are the stored ones
 pub intervals-back : (h : Header) → intervalsOf (mapHeader h) ≡ h .intervals

@@ -2,12 +2,10 @@
 use Prim.Native.Nat.{ℕ}
 use mathlib.Core.Path.{refl}
 use mathlib.Core.List.{List}
-use borrow.Author.Needs.{needs}
 use Rattle.parsing.proofs.Steps.{step}
-use Rattle.byte_source.proofs.ReadLaws.{Taken, Passes, Stops, stop, taken, byte-ok, byte-no, short-ok, short-no, span-ok, span-no}
-use Rattle.fields.proofs.FieldLaws.{flagged, optional-part-ok, optional-span-no}
+use Rattle.byte_source.proofs.ReadLaws.{Taken, Passes, Stops, stop, taken, byte-ok, byte-no}
+use Rattle.fields.proofs.FieldLaws.{flagged}
 use Rattle.header_fields.proofs.FieldLaws as fields
-use Rattle.header_fields.proofs.FieldLaws.{preamble-ok, preamble-no, box-ok, box-no}
 use Rattle.header_parts.specs.Parts.{frontOf, frontRes, frontRefusal, maybePlace, maybeByte, optionalPlaceRes, optionalPlaceRefusal, optionalByteRes, optionalByteRefusal, optionsOf, optionsRes, optionsRefusal}
 use Rattle.header_parts.specs.declared.FrontRead.the-variants as front
 use Rattle.header_parts.specs.declared.OptionalStoredRead.the-variants as place-read
@@ -53,8 +51,4 @@ module _ {B : Type 0} where
   pub options-no : (m : List ℕ) → Stops B (optionsRes m) optionsRefusal options.Refused
   options-no m g e′ e r f q h p = stop (optionsRes m) optionsRefusal r f q h p refl refl
 
-pub ruleset fronts = (needs, preamble-ok, preamble-no, box-ok, box-no, short-ok, short-no, span-ok, span-no, byte-ok, byte-no)
-
 pub ruleset optionals = (fields.reads, flagged)
-
-pub ruleset options-reads = (needs, maybe-place-ok, maybe-place-no, maybe-byte-ok, maybe-byte-no, optional-part-ok, optional-span-no)

@@ -22,7 +22,7 @@ use Rattle.types.specs.declared.MapHeader.{MapHeader}
 use Rattle.types.specs.declared.ZoomInterval.{ZoomInterval}
 use Rattle.types.proofs.TypeLaws.{end-ok, end-no}
 use Rattle.types.specs.Beside.{Beside}
-use Rattle.types.proofs.BesideLaws.{beside-done, beside-no, beside-ok, beside-stop}
+use Rattle.types.proofs.BesideLaws.{beside-ok, beside-stop}
 use Rattle.header.specs.HeaderView.{mapHeader, emptyHeader}
 use Rattle.header.proofs.HeaderLaws.{intervals-back}
 
@@ -92,5 +92,3 @@ module _ (m : List ℕ) (v : MapHeader) (g : End) (n : ℕ) where
 pub open-no : (m : List ℕ) (v : MapHeader) (g : End) (e′ e : Refusal) → Beside mapHeader emptyHeader (header m 0) v g → g ≡ end.Refused e → e′ ≡ endRefusal g → refused e′ ≡ opened m
 unfolding opened
 open-no m v g e′ e b h p = beside-stop mapHeader emptyHeader (header m 0) v g e′ e _ b h p
-
-pub ruleset opens = (needs, beside-done, beside-no, open-plain, open-checked, open-bad, open-no)

@@ -1,5 +1,5 @@
 -- Collecting, by what the readers answered.
-use Prim.Native.Nat.{ℕ, suc, _+_, _-_, _^_, _≤_, _<_}
+use Prim.Native.Nat.{ℕ, _+_, _-_, _^_, _≤_, _<_}
 use mathlib.Core.Path.{_≡_, refl, sym, ap, _∙_, subst}
 use mathlib.Core.Bool.{Bool, cond}
 use mathlib.Core.List.{List, []}
@@ -22,7 +22,7 @@ use Rattle.format.specs.Rows.{rowsOfInterval, intervalTable, intervalHead, poin
 use Rattle.format.specs.Tile as format
 use Rattle.format.specs.Tile.{Row, zoomTable, debugSignature, tileHead, Point, point}
 use Rattle.types.specs.Types.{optionalSpan, endRes, endRefusal}
-use Rattle.types.specs.Beside.{Beside, viewOr}
+use Rattle.types.specs.Beside.{viewOr}
 use Rattle.types.specs.declared.End.{End}
 use Rattle.types.specs.declared.End.the-variants as end
 use Rattle.types.specs.declared.OptionalSpan.{OptionalSpan}
@@ -65,8 +65,6 @@ module _ (debug : Bool) (low high : ℕ) (m : List ℕ) (at : ℕ) (g : Optional
   pub rows-then : (v : OptionalSpan) (n : ℕ) → g ≡ span-read.Value v n → TableIs (intervalTable low high m n) r → TableIs (rowsRead debug low high m at) r
   unfolding rowsRead
   rows-then v n h t = optional-span-then rowsOf noRows (shownRows r) (r .end) m g v n (debugSignature debug m at) (λ _ n. intervalTable low high m n) q h (λ a k. t)
-
-pub ruleset tables = (needs, rows-no, rows-then)
 
 -- the points, then the ways
 module _ (l : TileLayout) (m : List ℕ) (at points ways offset : ℕ) (g : End) (q : endRes points g ≡ mapRes length (many (point (l .debug) (tagKinds (tableIn (l .«poi_tags»)) m)) points m at)) where
@@ -242,8 +240,6 @@ module _ (l : TileLayout) (low high : ℕ) (m : List ℕ) (at : ℕ) (o : low �
             let f : z .count ≡ length (k .table) = ap (λ (a : ShownRows). a .count) q in
             rw (p, e, f)
 
-pub ruleset collects = (needs, no-head, no-walk, collect-done)
-
 -- a tile's place, first
 module _ (l : TileLayout) (i : Maybe Interval) (grid : Grid) (number : ℕ) (m : List ℕ) (g : PlaceRead) (q : placeRes g ≡ mapRes placeOf (locate (l .debug) i grid number m)) where
   abbrev located : Res Located
@@ -276,5 +272,3 @@ module _ (l : TileLayout) (i : Maybe Interval) (grid : Grid) (number : ℕ) (m :
             ∙ ap (λ x. answered (mapRes (tileOf l (rowsOfInterval (a .interval .min) (a .interval .max)) m) x))
             (at-cut (collect-end (formatOf l (rowsOfInterval (a .interval .min) (a .interval .max)) m) (tileHead-end (l .debug) (rowsOfInterval (a .interval .min) (a .interval .max)))) m (a .entry .absolute) small)) b
         go (no k v) d = no-ok (sym d)
-
-pub ruleset places = (needs, no-place, place-ordered, at-place)

@@ -8,16 +8,15 @@ use mathlib.Core.List.{List}
 use lib.Dec.{eqb}
 use lib.ListN.{length}
 use borrow.Author.Needs.{needs}
-use Rattle.parsing.specs.Parse.{Res, ok, no, Parser, mapRes, many}
+use Rattle.parsing.specs.Parse.{Res, ok, no, mapRes, many}
 use Rattle.parsing.specs.Good.{ok-val, ok-at, no-ok}
-use Rattle.error.specs.Refusals.{refused, numberOf, valuesOf}
+use Rattle.error.specs.Refusals.{refused}
 use Rattle.error.specs.declared.Refusal.{Refusal}
 use Rattle.byte_source.proofs.ReadLaws.{taken}
 use Rattle.tag.specs.declared.Kind.{Kind}
 use Rattle.format.specs.Kinds.{tagKinds}
-use Rattle.format.specs.Tile.{Point, Head, point, head, head-post, body, body-good}
+use Rattle.format.specs.Tile.{Head, point, head, head-post, body, body-good}
 use Rattle.types.specs.Types.{endRes, endRefusal}
-use Rattle.types.specs.declared.End.{End}
 use Rattle.types.specs.declared.End.the-variants as end
 use Rattle.tag_table.specs.Tables.{tableIn}
 use Rattle.poi.specs.Poi.{poiOf, PoiIs}
@@ -29,8 +28,7 @@ use Rattle.way.specs.Way.{bodyOf, bodyRes, bodyRefusal}
 use Rattle.way.specs.declared.WayBody.{WayBody}
 use Rattle.way.specs.declared.WayBodyRead.{WayBodyRead}
 use Rattle.way.specs.declared.WayBodyRead.the-variants as body-read
-use Rattle.agreement.specs.Format.{Format}
-use Rattle.agreement.specs.Collected.{way, exact, allExact}
+use Rattle.agreement.specs.Collected.{way, exact}
 use Rattle.agreement.proofs.CollectLaws.{count-more, count-no, way-exact, way-no-body, way-no-head, exact-more, exact-no}
 use Rattle.tile_layout.specs.TileLayout.{formatOf}
 use Rattle.tile_layout.specs.declared.TileLayout.{TileLayout}
@@ -125,8 +123,6 @@ module _ (a b : Bool) where
 
   pub both-no : a ≡ false → false ≡ (a && b)
   both-no h = rw h
-
-pub ruleset ands = (needs, both-yes, both-no)
 
 -- ways
 module _ (m : List ℕ) (l : TileLayout) (i at n : ℕ) (all : Bool) (e : ForAllRows (exactWays l m i at) (ok all n)) where

@@ -2,7 +2,7 @@
 use Prim.Native.Nat.{ℕ}
 use mathlib.Core.Path.{_≡_, refl, sym, ap, _∙_}
 use mathlib.Core.Bool.{Bool, true, false, cond}
-use mathlib.Core.List.{List, []}
+use mathlib.Core.List.{List}
 use lib.Ieee.{Float}
 use borrow.Author.Needs.{needs}
 use Rattle.parsing.specs.Parse.{Res, ok, no, andThen}
@@ -22,16 +22,16 @@ use Rattle.fields.specs.Fields.{streamedSpan}
 use Rattle.way_fields.specs.WayFields.{wayFieldsOf, streamedWayFields}
 use Rattle.way_fields.specs.declared.WayFields.{WayFields}
 use Rattle.way_fields.proofs.StreamLaws.{fields-streamed}
-use Rattle.way.specs.Way.{bodyOf, bodyRes, bodyRefusal, bodyReply}
+use Rattle.way.specs.Way.{bodyOf, bodyRefusal, bodyReply}
 use Rattle.way.specs.declared.WayBody.{WayBody}
 use Rattle.way.specs.declared.WayBodyRead.{WayBodyRead}
 use Rattle.way.specs.declared.WayBodyRead.the-variants as body-read
 use Rattle.way_data.specs.Reply.{lent}
-use Rattle.agreement.specs.Calls.{gotBody, declined, refused, Step, plain, lending, accepted, accept, decline}
+use Rattle.agreement.specs.Calls.{gotBody, refused, Step, lending, accept, decline}
 use Rattle.agreement.specs.Stream.{State, idle, waits, stream, onBody}
 use Rattle.agreement.specs.TileFormat as tile
 use Rattle.tile_layout.specs.TileLayout.{formatOf}
-use Rattle.visit.specs.Visit.{endOf, turnState, stateOf, ShownAnswer, shownBody, shownStep, acceptAnswer, acceptStep, streamedBody, declineStep}
+use Rattle.visit.specs.Visit.{endOf, turnState, stateOf, ShownAnswer, shownBody, shownStep, acceptStep, streamedBody, declineStep}
 use Rattle.tile_layout.specs.declared.TileLayout.{TileLayout}
 use Rattle.visit.specs.declared.TileEnd.{TileEnd}
 use Rattle.visit.specs.declared.Remaining.{Remaining}
@@ -47,8 +47,6 @@ use Rattle.visit.specs.declared.Declined.{Declined}
 -- a body's texts
 pub body-made : (m : List ℕ) (b : WayBody) (s t u : OptionalSpan) → s ≡ streamedSpan m (b .name) → t ≡ streamedSpan m (b .«house_number») → u ≡ streamedSpan m (b .reference) → _≡_ {A = StreamedBody} (record { name = s; «house_number» = t; reference = u; «label_position» = b .«label_position»; blocks = b .blocks; nodes = b .nodes }) (streamedBody m b)
 body-made m b s t u h k q = rw (h, k, q)
-
-pub ruleset bodies = (needs, body-made)
 
 -- what the code streams of a body that was read is what the machine's body shows
 body-streamed : (m : List ℕ) (i : ℕ) (d : Body) (e : ℕ) → body m i ≡ ok d e → streamedBody m (bodyOf d) ≡ shownBody d
@@ -138,5 +136,3 @@ module _ (l : TileLayout) (rows : ℕ) (m : List ℕ) (s : Stream) where
 
   pub decline-waits : (w : WaitingWay) → s .turn ≡ turn.Waits w → declineStep (record { answer = decline-answer.Declined; stream = record { turn = turn.Idle (record { points = 0; ways = w .ways; at = w .past; way = w .past }); end = s .end } }) ≡ shownStep (stream (formatOf l rows m) m (stateOf s) decline)
   decline-waits w e = rw e
-
-pub ruleset declines = (needs, decline-idle, decline-waits)

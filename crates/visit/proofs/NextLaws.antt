@@ -1,13 +1,8 @@
 -- One call of next, by what the readers answered.
-use Prim.Native.Nat.{ℕ, zero, suc, _+_, _-_, _≤_, _<_, _^_}
-use native.Mathlib.Nat.{not-suc-le-zero}
+use Prim.Native.Nat.{ℕ, suc, _+_, _-_, _≤_, _<_}
 use native.Mathlib.Omega.{arith}
-use mathlib.Core.Path.{_≡_, refl, sym, ap, _∙_, subst}
-use mathlib.Core.List.{List, []}
-use lib.Signed.{mag}
-use mir.Syntax.{w8}
-use mir.Val.{toZ, ofZ}
-use borrow.Author.Needs.{needs}
+use mathlib.Core.Path.{_≡_, sym, ap, _∙_, subst}
+use mathlib.Core.List.{List}
 use Rattle.parsing.specs.Parse.{Res, ok, no, mapRes}
 use Rattle.parsing.specs.Good.{ok-val, ok-at, no-ok}
 use Rattle.error.specs.Refusals as error
@@ -21,7 +16,6 @@ use Rattle.types.specs.Types.{endRes, endRefusal}
 use Rattle.types.specs.declared.End.{End}
 use Rattle.types.specs.declared.End.the-variants as end
 use Rattle.tag_table.specs.Tables.{tableIn}
-use Rattle.tagged.proofs.LayerLaws.{layer-bits}
 use Rattle.poi.specs.Poi.{poiOf, emptyPoi, PoiIs, streamedPoi}
 use Rattle.poi.specs.declared.Poi.{Poi}
 use Rattle.poi.specs.declared.PoiRead.{PoiRead}
@@ -131,5 +125,3 @@ module _ (l : TileLayout) (m : List ℕ) (rows : ℕ) (q : Remaining) (z : TileE
 -- while no way waits
 pub next-idle : (l : TileLayout) (m : List ℕ) (rows : ℕ) (s : Stream) (q : Remaining) (r : NextStep) → s .turn ≡ turn.Idle q → ((k : ℕ) → NextIs (shownStep (stream (formatOf l k m) m (idle (q .points) (q .ways) (q .at) (q .way) (endOf (s .end))) next)) r) → NextIs (shownStep (stream (formatOf l rows m) m (stateOf s) next)) r
 next-idle l m rows s q r e h = rw e (h rows)
-
-pub ruleset steps = (needs, next-waits, no-point, no-way, a-point, a-way, the-end, next-idle)

@@ -1,8 +1,7 @@
 -- Opening, by what the readers answered.
 use Prim.Native.Nat.{ℕ, _+_, _^_, _≤_, _<_}
 use mathlib.Core.Path.{_≡_, refl, sym, ap, _∙_}
-use mathlib.Core.Bool.{Bool}
-use mathlib.Core.List.{List, []}
+use mathlib.Core.List.{List}
 use lib.ListN.{length}
 use borrow.Author.Needs.{needs}
 use borrow.Author.Tests.{le-leb}
@@ -77,5 +76,3 @@ module _ (t : TileLayout) (i : Maybe Interval) (s : ℕ) (zoom : ℕ) (m : List 
             w ∙ ap (λ x. openedAt (t .debug) s zoom x m) (ok-val d)
             ∙ opened-is l (located-ordered (t .debug) i grid number m l e f)
         go (no k v) f d = no-ok (sym d)
-
-pub ruleset opens = (needs, open-no, open-at)

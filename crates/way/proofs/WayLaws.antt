@@ -25,7 +25,7 @@ use Rattle.way_measure.specs.declared.Sizes.{Sizes}
 use Rattle.way_measure.specs.declared.WayDataRead.{WayDataRead}
 use Rattle.way_measure.specs.declared.WayDataRead.the-variants as way-data
 use Rattle.way_data.specs.Reply.{lent, reply, readWayData}
-use Rattle.way.specs.Way.{bodyOf, bodyWith, bodyRes, bodyRefusal, bodyReply}
+use Rattle.way.specs.Way.{bodyOf, bodyWith, bodyRefusal}
 use Rattle.way.specs.declared.WayBody.{WayBody}
 use Rattle.way.specs.declared.WayBodyRead.{WayBodyRead}
 use Rattle.way.specs.declared.WayBodyRead.the-variants as body-read
@@ -125,7 +125,3 @@ module _ (m : List ℕ) (at : ℕ) (g : WayFieldsRead) (q : wayFieldsRes g ≡ m
           ap (λ a. record { answer = ok a e; lists = lent c la lo }) z
           ∙ ap (λ a. mapReply (reply a c la lo) (bodyWith v)) (sym d)
           ∙ delivered p
-
-pub ruleset measures = (needs, measure-no-fields, measure-no-data, measure-ok)
-
-pub ruleset deliveries = (needs, read-no-fields, read-no-data, read-ok)

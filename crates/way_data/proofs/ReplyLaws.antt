@@ -7,7 +7,6 @@ use mathlib.Core.List.{List}
 use lib.Dec.{leb, ltb}
 use lib.ListN.{length, length-map}
 use lib.Ieee.{Float}
-use borrow.Author.Needs.{needs}
 use borrow.Author.Tests.{le-ltb, lt-ltb, ltb-true, ltb-false, le-leb, lt-leb}
 use Rattle.parsing.specs.Parse.{Res, ok, no, mapRes, listOf}
 use Rattle.parsing.specs.Good.{ok-val, ok-at, no-ok}
@@ -145,5 +144,3 @@ module _ (t : Bool) (c : List ℕ) (la lo : List Float) where
 
       pub reply-done : (at : ℕ) (p : Progress) (c′ : List ℕ) (la′ lo′ : List Float) → k ≡ false → BlocksWritten t (mapRes concat r) (record { next = at; blocks = 0; nodes = 0 }) c la lo p c′ la′ lo′ → _≡_ {A = Reply (Res Sizes)} (record { answer = ok z e; lists = lent c′ la′ lo′ }) (readWayData t r c la lo)
       reply-done at p c′ la′ lo′ j w = done-as at (sym i ∙ j) r p c′ la′ lo′ (sym q ∙ ap wayDataRes h) w
-
-pub ruleset replies = (needs, shorter-counts, shorter-lats, shorter-lons, reply-no, reply-short, reply-fit, reply-done)

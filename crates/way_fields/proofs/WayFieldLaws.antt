@@ -132,8 +132,6 @@ module _ (m : List ℕ) (at : ℕ) (g : AnnouncedRead) (q : announcedRes g ≡ m
 pub streamed-made : (m : List ℕ) (f : WayFields) (s t u : OptionalSpan) → s ≡ streamedSpan m (f .name) → t ≡ streamedSpan m (f .«house_number») → u ≡ streamedSpan m (f .reference) → _≡_ {A = WayFields} (record { name = s; «house_number» = t; reference = u; «label_position» = f .«label_position»; «double_delta» = f .«double_delta»; «data_blocks» = f .«data_blocks» }) (streamedWayFields m f)
 streamed-made m f s t u h k q = rw (h, k, q)
 
-pub ruleset streams = (needs, streamed-made)
-
 pub way-fields-ok : {B : Type 0} → ViewPasses B wayFieldsRes wayFieldsOf fields-read.Value
 way-fields-ok = view-passes _ wayFieldsRes wayFieldsOf fields-read.Value (λ v n. refl)
 

@@ -8,7 +8,6 @@ use lib.Dec.{leb}
 use lib.Ieee.{Float}
 use lib.ListN.{length, take, length-take}
 use lib.Seq.{take-all}
-use borrow.Author.Needs.{needs}
 use borrow.Author.Tests.{leb-true, leb-false}
 use Rattle.parsing.specs.Parse.{Res}
 use Rattle.format.specs.Lent.{Reply, deliver}
@@ -51,5 +50,3 @@ module _ (m : List ℕ) (p : ListPlan) (c : List ℕ) (la lo il io : List Float)
         latitudes = rw h (v ∙ ap (λ l. writeInitials l la′ il) t);
         longitudes = rw h (w ∙ ap (λ l. writeInitials l lo′ io) t);
       }
-
-pub ruleset writes = (needs, counts-sized, nothing-written, lists-written)

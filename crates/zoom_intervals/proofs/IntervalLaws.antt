@@ -4,11 +4,10 @@ use native.Mathlib.Omega.{arith}
 use mathlib.Core.Path.{_≡_, refl, sym, ap, _∙_}
 use mathlib.Core.List.{List, [], _∷_, _++_}
 use lib.ListN.{length, set, replicate}
-use borrow.Author.Needs.{needs}
 use Rattle.parsing.specs.Parse.{Res, ok, mapRes, many}
 use Rattle.error.specs.Refusals.{refused}
 use Rattle.error.specs.declared.Refusal.{Refusal}
-use Rattle.byte_source.proofs.ReadLaws.{Taken, taken, loop-no, byte-ok, byte-no, number-ok, number-no}
+use Rattle.byte_source.proofs.ReadLaws.{Taken, taken, loop-no}
 use Rattle.format.specs.Header.{Interval, interval}
 use Rattle.types.specs.declared.ZoomInterval.{ZoomInterval}
 use Rattle.types.proofs.TypeLaws as types
@@ -25,7 +24,6 @@ interval-refused g e h = taken intervalRefusal h refl
 pub ruleset refusals = (types.refusals, interval-refused)
 
 -- what an interval is made of
-pub ruleset fields = (needs, byte-ok, byte-no, number-ok, number-no)
 
 -- the array
 pub none-filled : (e : ZoomInterval) → e ≡ emptyInterval → _≡_ {A = ZoomIntervals} (record { count = 0; intervals = replicate 255 e }) (zoomIntervals [])
