@@ -9,20 +9,15 @@ use mir.Syntax.{w8, w32}
 use mir.Val.{toZ, ofZ}
 use mir.Facts.{toZ-ofZ}
 use borrow.Author.Needs.{needs}
-use Rattle.parsing.specs.Parse.{Res, ok, Part, Maybe, some, andThen, mapRes, byte, optional}
+use Rattle.parsing.specs.Parse.{Res, ok, Part, Maybe, some, andThen, mapRes}
 use Rattle.parsing.proofs.Steps.{then-then}
 use Rattle.error.specs.Refusals.{refused}
 use Rattle.error.specs.declared.Refusal.{Refusal}
-use Rattle.byte_source.specs.Answers.{byteRes, byteRefusal}
-use Rattle.byte_source.specs.declared.ByteRead.{ByteRead}
-use Rattle.byte_source.specs.declared.ByteRead.the-variants as byte-read
-use Rattle.utils.specs.Vbe.{signed, text}
-use Rattle.format.specs.Header.{bit}
 use Rattle.byte_source.proofs.ReadLaws.{Taken, ViewPasses, view-passes, ViewStops, view-stops, taken}
 use Rattle.format.specs.Elevation.{low32}
 use Rattle.tag.specs.declared.Kind.{Kind}
 use Rattle.format.specs.WayData.{Node, node}
-use Rattle.format.specs.Tile.{Tagged, PointFields, Point, debugSignature, behindPosition, point, tagged, pointFields}
+use Rattle.format.specs.Tile.{Tagged, PointFields, Point, debugSignature, behindPosition, point}
 use Rattle.types.specs.Types.{optionalSpan, endRefusal, nodePosition}
 use Rattle.types.specs.declared.End.the-variants as end
 use Rattle.types.specs.declared.OptionalSpan.{OptionalSpan}
@@ -33,9 +28,9 @@ use Rattle.fields.proofs.FieldLaws.{optional-span-ok, optional-span-no, optiona
 use Rattle.types.proofs.BesideLaws.{beside-done, beside-no, beside-ok, beside-stop}
 use Rattle.tagged.proofs.LayerLaws.{layer-bits}
 use Rattle.tagged.proofs.TaggedLaws.{tagged-ok, tagged-no}
-use Rattle.tagged.specs.TagIds.{ShownTags, tagsOf, shownTags, tagIds, TaggedIs}
+use Rattle.tagged.specs.TagIds.{ShownTags, tagsOf, shownTags, tagIds}
 use Rattle.tagged.specs.declared.TaggedRead.{TaggedRead}
-use Rattle.fields.specs.Fields.{optionalSpanRes, positionRes, streamedSpan, optionalSpanRefusal, positionRefusal}
+use Rattle.fields.specs.Fields.{optionalSpanRes, positionRes, streamedSpan}
 use Rattle.fields.specs.declared.OptionalSpanRead.{OptionalSpanRead}
 use Rattle.fields.specs.declared.OptionalSpanRead.the-variants as span-read
 use Rattle.fields.specs.declared.PositionRead.{PositionRead}
@@ -45,10 +40,8 @@ use Rattle.poi.specs.declared.PoiRead.{PoiRead}
 use Rattle.poi.specs.declared.Poi.{Poi}
 use Rattle.poi.specs.declared.OptionalElevation.{OptionalElevation}
 use Rattle.poi.specs.declared.OptionalElevation.the-variants.{At}
-use Rattle.poi.specs.declared.ElevationRead.{ElevationRead}
 use Rattle.poi.specs.declared.ElevationRead.the-variants as elevation
 use Rattle.poi.specs.declared.PoiFields.{PoiFields}
-use Rattle.poi.specs.declared.PoiFieldsRead.{PoiFieldsRead}
 use Rattle.poi.specs.declared.PoiFieldsRead.the-variants as fields-read
 
 pub elevation-refused : Taken elevationRefusal elevation.Refused
@@ -76,31 +69,6 @@ pub ruleset elevations = (fields.flagged, elevation-made)
 
 pub ruleset reads = (fields.announced, elevation-ok, elevation-no, fields-made)
 
--- the fields, by the read that is refused, and whole: the searches are here, where little is known
-module _ (m : List ℕ) (at : ℕ) (b : ByteRead) (d : byteRes b ≡ byte m at) where
-  pub no-flags : (x y : Refusal) → b ≡ byte-read.Refused x → y ≡ byteRefusal b → refused y ≡ mapRes poiFieldsOf (pointFields m at)
-  unfolding pointFields
-  no-flags x y h w = search reads depth 12 fits 5000
-
-  module _ (f i : ℕ) (h : b ≡ byte-read.Value f i) (s : OptionalSpanRead) (e : optionalSpanRes m s ≡ optional (bit 7 f) text m i) where
-    pub no-name : (x y : Refusal) → s ≡ span-read.Refused x → y ≡ optionalSpanRefusal s → refused y ≡ mapRes poiFieldsOf (pointFields m at)
-    unfolding pointFields
-    no-name x y k w = search reads depth 12 fits 5000
-
-    module _ (n : OptionalSpan) (j : ℕ) (k : s ≡ span-read.Value n j) (t : OptionalSpanRead) (q : optionalSpanRes m t ≡ optional (bit 6 f) text m j) where
-      pub no-house-number : (x y : Refusal) → t ≡ span-read.Refused x → y ≡ optionalSpanRefusal t → refused y ≡ mapRes poiFieldsOf (pointFields m at)
-      unfolding pointFields
-      no-house-number x y u w = search reads depth 12 fits 5000
-
-      module _ (o : OptionalSpan) (l : ℕ) (u : t ≡ span-read.Value o l) (g : ElevationRead) (p : elevationRes g ≡ mapRes optionalElevation (optional (bit 5 f) signed m l)) where
-        pub no-elevation : (x y : Refusal) → g ≡ elevation.Refused x → y ≡ elevationRefusal g → refused y ≡ mapRes poiFieldsOf (pointFields m at)
-        unfolding pointFields
-        no-elevation x y z w = search reads depth 12 fits 5000
-
-        pub fields-whole : (v : OptionalElevation) (r : ℕ) → g ≡ elevation.Value v r → ok (record { name = n; «house_number» = o; elevation = v }) r ≡ mapRes poiFieldsOf (pointFields m at)
-        unfolding pointFields
-        fields-whole v r z = search reads depth 12 fits 5000
-
 pub fields-ok : {B : Type 0} → ViewPasses B poiFieldsRes poiFieldsOf fields-read.Value
 fields-ok = view-passes _ poiFieldsRes poiFieldsOf fields-read.Value (λ v n. refl)
 
@@ -115,19 +83,6 @@ poi-made g p t r n a b d f h k q m z =
 
 pub ruleset ends = (needs, then-then, tagged-ok, tagged-no, fields-ok, fields-no, beside-done, beside-no, poi-made)
 
--- what stands behind a position, by the read that is refused, and whole
-module _ (kinds : List Kind) (g : Maybe Part) (p : Node) (m : List ℕ) (at : ℕ) (t : TaggedRead) (b : TaggedIs (tagged kinds m at) t) where
-  pub no-tags : (r : PoiRead) (x y : Refusal) → t .end ≡ end.Refused x → y ≡ endRefusal (t .end) → r .poi ≡ emptyPoi → r .end ≡ end.Refused y → PoiIs (behindPosition kinds g p m at) r
-  no-tags r x y h w i e = search ends
-
-  module _ (n : ℕ) (h : t .end ≡ end.At n) (f : PoiFieldsRead) (d : poiFieldsRes f ≡ mapRes poiFieldsOf (pointFields m n)) where
-    pub no-fields : (r : PoiRead) (x y : Refusal) → f ≡ fields-read.Refused x → y ≡ poiFieldsRefusal f → r .poi ≡ emptyPoi → r .end ≡ end.Refused y → PoiIs (behindPosition kinds g p m at) r
-    no-fields r x y k w i e = search ends
-
-    pub behind-whole : (s : OptionalSpan) (o : Position) (v : PoiFields) (i : ℕ) → s ≡ optionalSpan g → o ≡ nodePosition p → mag (t .layer) < 2 ^ 7 → f ≡ fields-read.Value v i
-        → PoiIs (behindPosition kinds g p m at) (record { poi = record { signature = s; position = o; layer = toZ w8 (ofZ w8 (t .layer)); «tag_ids» = t .«tag_ids»; name = v .name; «house_number» = v .«house_number»; elevation = v .elevation }; end = end.At i })
-    behind-whole s o v i q z l k = search ends depth 8 fits 5000
-
 -- a point whose signature and position were read, and then the rest of it
 pub poi-whole : (m : List ℕ) (debug : Bool) (kinds : List Kind) (at n k : ℕ) (g : OptionalSpanRead) (v : OptionalSpan) (q : PositionRead) (p : Position) (r : PoiRead) → optionalSpanRes m g ≡ debugSignature debug m at → g ≡ span-read.Value v n → positionRes q ≡ mapRes nodePosition (node m n) → q ≡ position-read.Value p k → ((a : Maybe Part) (b : Node) → v ≡ optionalSpan a → p ≡ nodePosition b → PoiIs (behindPosition kinds a b m k) r) → PoiIs (point debug kinds m at) r
 unfolding point
@@ -137,15 +92,6 @@ poi-whole m debug kinds at n k g v q p r d h e i w =
     (λ b j. w a b f j))
 
 pub ruleset points = (needs, optional-span-ok, optional-span-no, position-no, beside-no, poi-whole)
-
-module _ (m : List ℕ) (debug : Bool) (kinds : List Kind) (at : ℕ) (r : PoiRead) (y : Refusal) (i : r .poi ≡ emptyPoi) (j : r .end ≡ end.Refused y) (g : OptionalSpanRead) (d : optionalSpanRes m g ≡ debugSignature debug m at) where
-  pub no-signature : (x : Refusal) → g ≡ span-read.Refused x → y ≡ optionalSpanRefusal g → PoiIs (point debug kinds m at) r
-  unfolding point
-  no-signature x h w = search points
-
-  pub no-position : (v : OptionalSpan) (n : ℕ) (q : PositionRead) (x : Refusal) → g ≡ span-read.Value v n → positionRes q ≡ mapRes nodePosition (node m n) → q ≡ position-read.Refused x → y ≡ positionRefusal q → PoiIs (point debug kinds m at) r
-  unfolding point
-  no-position v n q x h e k w = search points
 
 pub streamed-made : (m : List ℕ) (p : Poi) (s t : OptionalSpan) → mag (p .layer) < 2 ^ 7 → s ≡ streamedSpan m (p .name) → t ≡ streamedSpan m (p .«house_number») → _≡_ {A = Poi} (record { signature = Absent; position = p .position; layer = toZ w8 (ofZ w8 (p .layer)); «tag_ids» = p .«tag_ids»; name = s; «house_number» = t; elevation = p .elevation }) (streamedPoi m p)
 streamed-made m p s t h k q = rw (layer-bits (p .layer) h, k, q)

@@ -3,18 +3,15 @@ use Prim.Native.Nat.{ℕ}
 use mathlib.Core.Path.{_≡_, refl, ap, _∙_}
 use mathlib.Core.List.{List}
 use borrow.Author.Needs.{needs}
-use Rattle.parsing.specs.Parse.{Res, ok, Part, Maybe, some, andThen, mapRes, byte, optional}
+use Rattle.parsing.specs.Parse.{Res, ok, Part, Maybe, some, andThen}
 use Rattle.parsing.proofs.Steps.{then-then}
 use Rattle.error.specs.Refusals.{refused}
 use Rattle.error.specs.declared.Refusal.{Refusal}
-use Rattle.byte_source.specs.Answers.{numberRes, numberRefusal, byteRes, byteRefusal}
-use Rattle.byte_source.specs.declared.ByteRead.{ByteRead}
-use Rattle.byte_source.specs.declared.ByteRead.the-variants as byte-read
+use Rattle.byte_source.specs.Answers.{numberRes, numberRefusal}
 use Rattle.byte_source.specs.declared.NumberRead.{NumberRead}
 use Rattle.byte_source.specs.declared.NumberRead.the-variants as number
 use Rattle.byte_source.proofs.ReadLaws.{Taken, ViewPasses, view-passes, ViewStops, view-stops, taken, number-ok, number-no}
-use Rattle.utils.specs.Vbe.{text}
-use Rattle.format.specs.WayData.{Node, node}
+use Rattle.format.specs.WayData.{Node}
 use Rattle.format.specs.Tile as format
 use Rattle.format.specs.Tile.{dataBlockCount}
 use Rattle.format.specs.Header.{bit}
@@ -23,17 +20,13 @@ use Rattle.types.specs.declared.OptionalSpan.{OptionalSpan}
 use Rattle.types.specs.declared.Position.{Position}
 use Rattle.types.specs.declared.OptionalPosition.{OptionalPosition}
 use Rattle.types.specs.declared.OptionalPosition.the-variants.{At}
-use Rattle.fields.specs.Fields.{streamedSpan, optionalSpanRes, optionalSpanRefusal}
-use Rattle.fields.specs.declared.OptionalSpanRead.{OptionalSpanRead}
-use Rattle.fields.specs.declared.OptionalSpanRead.the-variants as span-read
+use Rattle.fields.specs.Fields.{streamedSpan}
 use Rattle.fields.proofs.FieldLaws as fields
-use Rattle.way_fields.specs.WayFields.{labelRes, labelRefusal, announcedOf, announcedRes, announcedRefusal, wayFieldsOf, wayFieldsRes, wayFieldsRefusal, streamedWayFields, bodyHead}
+use Rattle.way_fields.specs.WayFields.{labelRes, labelRefusal, announcedOf, announcedRes, announcedRefusal, wayFieldsOf, wayFieldsRes, wayFieldsRefusal, streamedWayFields}
 use Rattle.way_fields.specs.declared.WayFields.{WayFields}
 use Rattle.way_fields.specs.declared.WayFieldsRead.the-variants as fields-read
-use Rattle.way_fields.specs.declared.LabelRead.{LabelRead}
 use Rattle.way_fields.specs.declared.LabelRead.the-variants as label
 use Rattle.way_fields.specs.declared.Announced.{Announced}
-use Rattle.way_fields.specs.declared.AnnouncedRead.{AnnouncedRead}
 use Rattle.way_fields.specs.declared.AnnouncedRead.the-variants as announced
 
 pub way-fields-refused : Taken wayFieldsRefusal fields-read.Refused
@@ -69,36 +62,6 @@ pub ruleset labels = (fields.flagged, label-made)
 
 pub ruleset reads = (fields.announced, label-ok, label-no, announced-made)
 
--- the fields, by the read that is refused, and whole: the searches are here, where little is known
-module _ (m : List ℕ) (at : ℕ) (b : ByteRead) (d : byteRes b ≡ byte m at) where
-  pub no-flags : (x y : Refusal) → b ≡ byte-read.Refused x → y ≡ byteRefusal b → refused y ≡ mapRes announcedOf (format.wayFields m at)
-  unfolding format.wayFields
-  no-flags x y h w = search reads depth 12 fits 5000
-
-  module _ (f i : ℕ) (h : b ≡ byte-read.Value f i) (s : OptionalSpanRead) (e : optionalSpanRes m s ≡ optional (bit 7 f) text m i) where
-    pub no-name : (x y : Refusal) → s ≡ span-read.Refused x → y ≡ optionalSpanRefusal s → refused y ≡ mapRes announcedOf (format.wayFields m at)
-    unfolding format.wayFields
-    no-name x y k w = search reads depth 12 fits 5000
-
-    module _ (n : OptionalSpan) (j : ℕ) (k : s ≡ span-read.Value n j) (t : OptionalSpanRead) (q : optionalSpanRes m t ≡ optional (bit 6 f) text m j) where
-      pub no-house-number : (x y : Refusal) → t ≡ span-read.Refused x → y ≡ optionalSpanRefusal t → refused y ≡ mapRes announcedOf (format.wayFields m at)
-      unfolding format.wayFields
-      no-house-number x y l w = search reads depth 12 fits 5000
-
-      module _ (o : OptionalSpan) (l : ℕ) (u : t ≡ span-read.Value o l) (z : OptionalSpanRead) (p : optionalSpanRes m z ≡ optional (bit 5 f) text m l) where
-        pub no-reference : (x y : Refusal) → z ≡ span-read.Refused x → y ≡ optionalSpanRefusal z → refused y ≡ mapRes announcedOf (format.wayFields m at)
-        unfolding format.wayFields
-        no-reference x y a w = search reads depth 12 fits 5000
-
-        module _ (r : OptionalSpan) (a : ℕ) (v : z ≡ span-read.Value r a) (g : LabelRead) (c : labelRes g ≡ mapRes optionalPosition (optional (bit 4 f) node m a)) where
-          pub no-label : (x y : Refusal) → g ≡ label.Refused x → y ≡ labelRefusal g → refused y ≡ mapRes announcedOf (format.wayFields m at)
-          unfolding format.wayFields
-          no-label x y a w = search reads depth 12 fits 5000
-
-          pub announced-whole : (y : OptionalPosition) (x : ℕ) → g ≡ label.Value y x → ok (record { name = n; «house_number» = o; reference = r; «label_position» = y; flags = f }) x ≡ mapRes announcedOf (format.wayFields m at)
-          unfolding format.wayFields
-          announced-whole y x w = search reads depth 12 fits 5000
-
 -- the flags that were handed out are those that are stored
 module _ {B : Type 0} (m : List ℕ) (at : ℕ) (v : Announced) (a : format.WayFields) (g : NumberRead) (f : ℕ → ℕ → Res B) where
   stored-flags : numberRes g ≡ dataBlockCount (v .flags) m at → v ≡ announcedOf a → numberRes g ≡ dataBlockCount (a .flags) m at
@@ -115,22 +78,10 @@ fields-made v a k n h = rw h
 
 pub ruleset bodies = (needs, then-then, announced-ok, announced-no, blocks-ok, blocks-no, fields-made)
 
-module _ (m : List ℕ) (at : ℕ) (g : AnnouncedRead) (q : announcedRes g ≡ mapRes announcedOf (format.wayFields m at)) where
-  pub no-announced : (x y : Refusal) → g ≡ announced.Refused x → y ≡ announcedRefusal g → refused y ≡ mapRes wayFieldsOf (bodyHead m at)
-  unfolding bodyHead
-  no-announced x y h w = search bodies
-
-  module _ (v : Announced) (i : ℕ) (h : g ≡ announced.Value v i) (b : NumberRead) (d : numberRes b ≡ dataBlockCount (v .flags) m i) where
-    pub no-count : (x y : Refusal) → b ≡ number.Refused x → y ≡ numberRefusal b → refused y ≡ mapRes wayFieldsOf (bodyHead m at)
-    unfolding bodyHead
-    no-count x y k w = search bodies
-
-    pub fields-whole : (k n : ℕ) → b ≡ number.Value k n → ok (record { name = v .name; «house_number» = v .«house_number»; reference = v .reference; «label_position» = v .«label_position»; «double_delta» = bit 2 (v .flags); «data_blocks» = k }) n ≡ mapRes wayFieldsOf (bodyHead m at)
-    unfolding bodyHead
-    fields-whole k n e = search bodies
-
 pub streamed-made : (m : List ℕ) (f : WayFields) (s t u : OptionalSpan) → s ≡ streamedSpan m (f .name) → t ≡ streamedSpan m (f .«house_number») → u ≡ streamedSpan m (f .reference) → _≡_ {A = WayFields} (record { name = s; «house_number» = t; reference = u; «label_position» = f .«label_position»; «double_delta» = f .«double_delta»; «data_blocks» = f .«data_blocks» }) (streamedWayFields m f)
 streamed-made m f s t u h k q = rw (h, k, q)
+
+pub ruleset streams = (needs, streamed-made)
 
 pub way-fields-ok : {B : Type 0} → ViewPasses B wayFieldsRes wayFieldsOf fields-read.Value
 way-fields-ok = view-passes _ wayFieldsRes wayFieldsOf fields-read.Value (λ v n. refl)

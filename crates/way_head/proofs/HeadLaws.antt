@@ -11,26 +11,23 @@ use Rattle.parsing.specs.Parse.{Res, ok, Part, Maybe, andThen}
 use Rattle.parsing.proofs.Steps.{then-then}
 use Rattle.error.specs.Refusals.{refused}
 use Rattle.error.specs.declared.Refusal.{Refusal}
-use Rattle.byte_source.specs.Answers.{numberRes, numberRefusal, shortRes, shortRefusal}
-use Rattle.byte_source.specs.BigEndian.{bigEndian}
-use Rattle.byte_source.specs.declared.ShortRead.{ShortRead}
-use Rattle.byte_source.specs.declared.ShortRead.the-variants as short
+use Rattle.byte_source.specs.Answers.{numberRes}
 use Rattle.byte_source.specs.declared.NumberRead.{NumberRead}
 use Rattle.byte_source.specs.declared.NumberRead.the-variants as number
 use Rattle.byte_source.proofs.ReadLaws.{number-ok, number-no, short-ok, short-no}
 use Rattle.utils.specs.Vbe.{unsigned}
 use Rattle.tag.specs.declared.Kind.{Kind}
-use Rattle.format.specs.Tile.{Tagged, Head, debugSignature, headRest, head, tagged}
+use Rattle.format.specs.Tile.{Tagged, Head, debugSignature, headRest, head}
 use Rattle.types.specs.Types.{optionalSpan, endRefusal}
 use Rattle.types.specs.declared.End.the-variants as end
 use Rattle.types.specs.declared.OptionalSpan.{OptionalSpan}
 use Rattle.types.proofs.BesideLaws.{beside-done, beside-no, beside-same, beside-ok, beside-stop}
-use Rattle.tagged.specs.TagIds.{ShownTags, tagsOf, shownTags, tagIds, TaggedIs}
+use Rattle.tagged.specs.TagIds.{ShownTags, tagsOf, shownTags, tagIds}
 use Rattle.tagged.specs.declared.TaggedRead.{TaggedRead}
 use Rattle.tagged.proofs.LayerLaws.{layer-bits}
 use Rattle.tagged.proofs.TaggedLaws.{tagged-ok, tagged-no}
 use Rattle.fields.proofs.FieldLaws.{optional-span-ok, optional-span-no, optional-span-then}
-use Rattle.fields.specs.Fields.{optionalSpanRes, optionalSpanRefusal}
+use Rattle.fields.specs.Fields.{optionalSpanRes}
 use Rattle.fields.specs.declared.OptionalSpanRead.{OptionalSpanRead}
 use Rattle.fields.specs.declared.OptionalSpanRead.the-variants as span-read
 use Rattle.way_head.specs.WayHead.{headOf, emptyHead, HeadIs}
@@ -45,22 +42,6 @@ head-made g z s b n t a d h q m =
 
 pub ruleset rests = (needs, then-then, short-ok, short-no, tagged-ok, tagged-no, beside-done, beside-no, head-made)
 
--- the rest of a head, by the read that is refused, and whole: the searches are here, where little is known
-module _ (kinds : List Kind) (g : Maybe Part) (z at : ℕ) (m : List ℕ) (b : ShortRead) (d : shortRes b ≡ bigEndian 2 m at) where
-  pub no-bitmap : (r : WayHeadRead) (x y : Refusal) → b ≡ short.Refused x → y ≡ shortRefusal b → r .head ≡ emptyHead → r .end ≡ end.Refused y → HeadIs (headRest kinds g z at m at) r
-  unfolding headRest
-  no-bitmap r x y h w i e = search rests
-
-  module _ (v n : ℕ) (h : b ≡ short.Value v n) (t : TaggedRead) (q : TaggedIs (tagged kinds m n) t) where
-    pub no-tags : (r : WayHeadRead) (x y : Refusal) → t .end ≡ end.Refused x → y ≡ endRefusal (t .end) → r .head ≡ emptyHead → r .end ≡ end.Refused y → HeadIs (headRest kinds g z at m at) r
-    unfolding headRest
-    no-tags r x y k w i e = search rests
-
-    pub rest-whole : (s : OptionalSpan) (k : ℕ) → s ≡ optionalSpan g → mag (t .layer) < 2 ^ 7 → t .end ≡ end.At k
-        → HeadIs (headRest kinds g z at m at) (record { head = record { signature = s; size = z; start = at; bitmap = v; layer = toZ w8 (ofZ w8 (t .layer)); «tag_ids» = t .«tag_ids» }; end = end.At k })
-    unfolding headRest
-    rest-whole s k o l e = search rests depth 8 fits 5000
-
 -- a head whose signature and size were read, and then the rest of it
 pub head-whole : (m : List ℕ) (debug : Bool) (kinds : List Kind) (at n k : ℕ) (g : OptionalSpanRead) (v : OptionalSpan) (q : NumberRead) (z : ℕ) (r : WayHeadRead) → optionalSpanRes m g ≡ debugSignature debug m at → g ≡ span-read.Value v n → numberRes q ≡ unsigned m n → q ≡ number.Value z k → ((a : Maybe Part) → v ≡ optionalSpan a → HeadIs (headRest kinds a z k m k) r) → HeadIs (head debug kinds m at) r
 unfolding head
@@ -70,15 +51,6 @@ head-whole m debug kinds at n k g v q z r d h e i w =
     (number-ok q z k (unsigned m n) (λ z y. headRest kinds a z y m y) (headRest kinds a z k m k) e i refl))
 
 pub ruleset heads = (needs, optional-span-ok, optional-span-no, number-no, beside-no, head-whole)
-
-module _ (m : List ℕ) (debug : Bool) (kinds : List Kind) (at : ℕ) (r : WayHeadRead) (y : Refusal) (i : r .head ≡ emptyHead) (j : r .end ≡ end.Refused y) (g : OptionalSpanRead) (d : optionalSpanRes m g ≡ debugSignature debug m at) where
-  pub no-signature : (x : Refusal) → g ≡ span-read.Refused x → y ≡ optionalSpanRefusal g → HeadIs (head debug kinds m at) r
-  unfolding head
-  no-signature x h w = search heads
-
-  pub no-size : (v : OptionalSpan) (n : ℕ) (q : NumberRead) (x : Refusal) → g ≡ span-read.Value v n → numberRes q ≡ unsigned m n → q ≡ number.Refused x → y ≡ numberRefusal q → HeadIs (head debug kinds m at) r
-  unfolding head
-  no-size v n q x h e k w = search heads
 
 -- a head that was read, in a definition that goes on from it
 module _ {B : Type 0} (t : WayHeadRead) (r : Res Head) (f : Head → ℕ → Res B) where

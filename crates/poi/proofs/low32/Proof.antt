@@ -6,6 +6,6 @@ pub low32-spec : {M : Type 1} → statement M
 low32-spec =
     tie.close
     (tie.spec
-    (λ c κs. tt)
-    (λ c κs. tt)
+    (search halves)
+    (search halves)
     (λ c. search halves))

@@ -7,10 +7,10 @@ read-elevation-spec =
     tie.close
     (tie.spec
     (λ c. search elevations)
-    (λ c κs. tt)
-    (λ c. c .match .keys1)
-    (λ c. c .match .keys2)
-    (λ c κs. tt)
+    (search elevations)
+    (search elevations)
+    (search elevations)
+    (search elevations)
     (λ c. search elevations)
-    (λ c κs. tt)
+    (search elevations)
     (λ c. search elevations))

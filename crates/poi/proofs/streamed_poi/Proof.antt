@@ -6,6 +6,6 @@ pub streamed-poi-spec : {M : Type 1} → statement M
 streamed-poi-spec =
     tie.close
     (tie.spec
-    (λ c κs. tt)
-    (λ c κs. tt)
+    (search streams)
+    (search streams)
     (λ c. search streams))

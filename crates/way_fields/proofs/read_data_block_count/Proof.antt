@@ -8,6 +8,6 @@ unfolding dataBlockCount
 read-data-block-count-spec =
     tie.close
     (tie.spec
-    (λ c κs. tt)
+    (search reads)
     (λ c. search reads)
     (λ c. search reads))

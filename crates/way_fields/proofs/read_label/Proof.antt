@@ -7,9 +7,9 @@ read-label-spec =
     tie.close
     (tie.spec
     (λ c. search labels)
-    (λ c κs. tt)
-    (λ c. c .match .keys1)
-    (λ c. c .match .keys2)
-    (λ c κs. tt)
+    (search labels)
+    (search labels)
+    (search labels)
+    (search labels)
     (λ c. search labels)
     (λ c. search labels))
