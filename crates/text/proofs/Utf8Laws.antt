@@ -60,10 +60,10 @@ few-bits : (c n : ℕ) → c < 64 ^ n → n ≤ 4 → c < 16777216
 few-bits c n h p = lt-of-lt-of-le h (pow-le-pow-right {n = 64} (lit< tt) p)
 
 module _ (c n k : ℕ) (h : c < 64 ^ n) (p : n + k ≤ 4) where
-  pub bits-mul : 64 * c < 2 ^ 64
+  pub bits-mul : 64 * c < 2 ^ 32
   bits-mul = omega (arith, few-bits c n h (omega arith))
 
-  pub bits-add : (b high : ℕ) → b ≤ high → high ≤ 191 → 64 * c + (b - 0x80) < 2 ^ 64
+  pub bits-add : (b high : ℕ) → b ≤ high → high ≤ 191 → 64 * c + (b - 0x80) < 2 ^ 32
   bits-add b high q r = omega (arith, few-bits c n h (omega arith))
 
 pub ruleset follows = (needs, follow-none, follow-past, follow-low, follow-high, follow-in, more-bits, bits-mul, bits-add)

@@ -12,7 +12,7 @@ ghost use Rattle.text.specs.Writing.{writtenRefusal, behind, outcome, wr
 
 // A code unit sequence: a character with its code point and its number of bytes, or an ill-formed one with its number of bytes.
 pub enum Sequence {
-    Char(u64, usize),
+    Char(u32, usize),
     Ill(usize),
 }
 
@@ -29,7 +29,7 @@ fn code_of(sequence: Sequence) -> u64
     ensures { λ r. ⌜ r ≡ codeOf sequence ⌝ }
 {
     match sequence {
-        Sequence::Char(c, _) => c,
+        Sequence::Char(c, _) => c as u64,
         Sequence::Ill(_) => 0xFFFD,
     }
 }
@@ -44,14 +44,14 @@ fn written_of(sequence: Sequence) -> usize
     }
 }
 
-fn wide(x: u8) -> u64
+fn wide(x: u8) -> u32
     ensures { λ r. ⌜ r ≡ x ⌝ }
 {
-    x as u64
+    x as u32
 }
 
 // `n` bytes gave `c`; `more` follow, from `at` on, the first of them from `low` to `high`.
-fn follow_at(text: &[u8], at: usize, more: u64, low: u64, high: u64, c: u64, n: usize) -> Sequence
+fn follow_at(text: &[u8], at: usize, more: u32, low: u32, high: u32, c: u32, n: usize) -> Sequence
     requires { ⌜ (n + more ≤ 4) × (128 ≤ low) × (high ≤ 191) × (c < 64 ^ n) ⌝ }
     ensures { λ r. ⌜ r ≡ follow more low high c n (drop at (now (text .entry))) ⌝ }
 {
