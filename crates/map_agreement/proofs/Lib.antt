@@ -4,3 +4,4 @@ pub mod Chain
 pub mod MapLaws
 pub mod HeaderFacts
 pub mod Theorem
+pub mod ZoomingLaws

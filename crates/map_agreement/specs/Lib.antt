@@ -2,3 +2,4 @@ pub mod TileView
 pub mod MapsforgeMap
 pub mod Called
 pub mod BookSays
+pub mod ZoomingIn

@@ -1,0 +1,319 @@
+-- Zooming in only adds, of a tile of any format. A stream that ends well passes a chain of points and a chain of ways; the stream of fewer
+-- rows starts at the same two places and passes the fronts of both chains.
+use mathlib.Core.Path.{_≡_, refl, sym, ap, _∙_, subst}
+use mathlib.Core.Bool.{Bool, true, false, cond}
+use mathlib.Core.List.{List, [], _∷_, _++_}
+use Prim.Native.Nat.{ℕ, zero, suc, _+_, _-_, _^_, _≤_, _<_, zero-le}
+use native.Mathlib.Nat.{le-refl, le-of-suc-le-suc, not-suc-le-zero}
+use native.Mathlib.Omega.{arith}
+use borrow.Author.Tests.{ltb-true, ltb-false}
+use lib.Dec.{ltb}
+use lib.ListN.{length, take}
+use lib.Seq.{length-take-le}
+use Rattle.parsing.specs.Parse.{Res, ok, no}
+use Rattle.parsing.specs.Good.{split, ok-val, total}
+use Rattle.arithmetic.specs.Cut.{cut}
+use Rattle.arithmetic.proofs.CutLaws.{cut-fits, cut-over}
+use Rattle.format.specs.Lent.{LentLists, fits, written, needed}
+use Rattle.agreement.specs.Calls.{Call, next, accept, decline, Answer, gotPoint, gotHead, gotBody, declined, ended, refused, Step, plain, lending}
+use Rattle.agreement.specs.Format.{Format, Laws, dataEnd, pointsUpTo, waysUpTo}
+use Rattle.agreement.specs.Stream.{StreamAnswer, State, idle, waits, stream, onPoint, onHead, onBody, freshStream, openStream}
+use Rattle.agreement.proofs.Chain.{Chain, stop, link, front, bound}
+use Rattle.zooming.specs.Zooming.{Way, byHead, whole, EndsWell, at-end, on-point, on-declined, on-accepted, Advances, Fewer, OnlyAdds}
+
+-- two answers of other kinds, told apart by a number
+abbrev kind : {P H B E : Type 0} → Answer P H B E → ℕ
+kind (gotPoint p) = 0
+kind (gotHead h) = 1
+kind (gotBody b) = 2
+kind declined = 3
+kind (ended z) = 4
+kind (refused n v) = 5
+
+module _ (F : Format) (m : List ℕ) (rule : ℕ → F .Head → Bool) where
+  -- ways that a stream passed, from place v on
+  data Passes : (k v : ℕ) → List LentLists → List (Way F) → Type 0 where
+    done : {k v : ℕ} → Passes k v [] []
+    past : {k v b : ℕ} {h : F .Head} {ls : List LentLists} {ws : List (Way F)} → F .head m v ≡ ok h b → rule k h ≡ false
+        → Passes (suc k) (cut (dataEnd F h)) ls ws → Passes k v ls (byHead h ∷ ws)
+    through : {k v b e : ℕ} {h : F .Head} {d : F .Body} {l : LentLists} {ls : List LentLists} {ws : List (Way F)} → F .head m v ≡ ok h b → rule k h ≡ true
+        → F .body m b ≡ ok d e → fits (F .lists d) l ≡ true → Passes (suc k) e ls ws → Passes k v (l ∷ ls) (whole h l d (written (F .lists d) l) ∷ ws)
+
+  answer-is : {x y : Step (StreamAnswer F) (State (F .End))} → x ≡ y → x .reply .answer ≡ y .reply .answer
+  answer-is h = ap (λ (t : Step (StreamAnswer F) (State (F .End))). t .reply .answer) h
+
+  left-is : {x y : Step (StreamAnswer F) (State (F .End))} → x ≡ y → x .left ≡ y .left
+  left-is h = ap (λ (t : Step (StreamAnswer F) (State (F .End))). t .left) h
+
+  other : {C : Type 0} {x y : Step (StreamAnswer F) (State (F .End))} → x ≡ y → (kind (x .reply .answer) ≡ kind (y .reply .answer) → ⊥) → C
+  other h f = absurd (f (ap (λ (t : Step (StreamAnswer F) (State (F .End))). kind (t .reply .answer)) h))
+
+  -- one call, by its answer
+  record PointStep (n w i v : ℕ) (z : F .End) (p : F .Point) (s : State (F .End)) : Type 0 where
+    place : ℕ
+    reads : F .point m i ≡ ok p place
+    left : s ≡ idle n w place v z
+
+  point-step : (n w i v : ℕ) (z : F .End) (p : F .Point) (s : State (F .End)) (r : Res (F .Point)) → F .point m i ≡ r
+      → onPoint F n w i v z r ≡ plain (gotPoint p) s → PointStep n w i v z p s
+  point-step n w i v z p s (ok q e) f h =
+      let a = answer-is h in
+      let c : q ≡ p = cc in
+      record { place = e; reads = f ∙ ap (λ x. ok x e) c; left = sym (left-is h) }
+  point-step n w i v z p s (no k x) f h = other h (λ e. omega arith)
+
+  record HeadStep (w i v : ℕ) (z : F .End) (g : F .Head) (s : State (F .End)) : Type 0 where
+    place : ℕ
+    reads : F .head m v ≡ ok g place
+    left : s ≡ waits w (cut (dataEnd F g)) place z
+
+  head-step : (w i v : ℕ) (z : F .End) (g : F .Head) (s : State (F .End)) (r : Res (F .Head)) → F .head m v ≡ r
+      → onHead F w i v z r ≡ plain (gotHead g) s → HeadStep w i v z g s
+  head-step w i v z g s (ok q e) f h =
+      let a = answer-is h in
+      let c : q ≡ g = cc in
+      record { place = e; reads = f ∙ ap (λ x. ok x e) c; left = sym (left-is h) ∙ ap (λ x. waits w (cut (dataEnd F x)) e z) c }
+  head-step w i v z g s (no k x) f h = other h (λ e. omega arith)
+
+  record BodyStep (w x b : ℕ) (z : F .End) (l : LentLists) (d : F .Body) (l′ : LentLists) (s : State (F .End)) : Type 0 where
+    place : ℕ
+    reads : F .body m b ≡ ok d place
+    fit : fits (F .lists d) l ≡ true
+    wrote : l′ ≡ written (F .lists d) l
+    left : s ≡ idle 0 w place place z
+
+  body-fits : (w x b e : ℕ) (z : F .End) (l : LentLists) (q d : F .Body) (l′ : LentLists) (s : State (F .End)) (c : Bool) → fits (F .lists q) l ≡ c
+      → F .body m b ≡ ok q e
+      → _≡_ {A = Step (StreamAnswer F) (State (F .End))} (cond c (lending (gotBody q) (written (F .lists q) l) (idle 0 w e e z)) (lending (refused 15 (needed (F .lists q))) l (waits w x b z))) (lending (gotBody d) l′ s)
+      → BodyStep w x b z l d l′ s
+  body-fits w x b e z l q d l′ s true g f h =
+      let a = answer-is h in
+      let c : q ≡ d = cc in
+      record {
+        place = e;
+        reads = f ∙ ap (λ y. ok y e) c;
+        fit = ap (λ y. fits (F .lists y) l) (sym c) ∙ g;
+        wrote = sym (ap (λ (t : Step (StreamAnswer F) (State (F .End))). t .reply .lists) h) ∙ ap (λ y. written (F .lists y) l) c;
+        left = sym (left-is h);
+      }
+  body-fits w x b e z l q d l′ s false g f h = other h (λ e. omega arith)
+
+  body-step : (w x b : ℕ) (z : F .End) (l : LentLists) (d : F .Body) (l′ : LentLists) (s : State (F .End)) (r : Res (F .Body)) → F .body m b ≡ r
+      → onBody F w x b z l r ≡ lending (gotBody d) l′ s → BodyStep w x b z l d l′ s
+  body-step w x b z l d l′ s (ok q e) f h = body-fits w x b e z l q d l′ s (fits (F .lists q) l) refl f h
+  body-step w x b z l d l′ s (no k y) f h = other h (λ e. omega arith)
+
+  -- what a stream that ends well passed
+  record Passed (k n w i v : ℕ) (ls : List LentLists) (ps : List (F .Point)) (ws : List (Way F)) : Type 0 where
+    last : ℕ
+    points : Chain (F .point) m i ps last
+    point-count : length ps ≡ n
+    ways : Passes k v ls ws
+    way-count : length ws ≡ w
+
+  not-point : {C : Type 0} (k n w i v : ℕ) (z : F .End) (r : Res (F .Point)) → kind (onPoint F n w i v z r .reply .answer) ≡ k → (k ≡ 0 → ⊥) → (k ≡ 5 → ⊥) → C
+  not-point k n w i v z (ok p e) h a b = absurd (a (sym h))
+  not-point k n w i v z (no q e) h a b = absurd (b (sym h))
+
+  not-head : {C : Type 0} (k w i v : ℕ) (z : F .End) (r : Res (F .Head)) → kind (onHead F w i v z r .reply .answer) ≡ k → (k ≡ 1 → ⊥) → (k ≡ 5 → ⊥) → C
+  not-head k w i v z (ok p e) h a b = absurd (a (sym h))
+  not-head k w i v z (no q e) h a b = absurd (b (sym h))
+
+  kind-is : {x y : Step (StreamAnswer F) (State (F .End))} → x ≡ y → kind (x .reply .answer) ≡ kind (y .reply .answer)
+  kind-is h = ap (λ (t : Step (StreamAnswer F) (State (F .End))). kind (t .reply .answer)) h
+
+  at : {s s′ : State (F .End)} {x : Step (StreamAnswer F) (State (F .End))} (c : Call) → s ≡ s′ → stream F m s c ≡ x → stream F m s′ c ≡ x
+  at c e h = ap (λ s. stream F m s c) (sym e) ∙ h
+
+  declined-too : (k w i v : ℕ) (z : F .End) (g : F .Head) (b : ℕ) {ls : List LentLists} {ws : List (Way F)} {y : F .End}
+      → F .head m v ≡ ok g b → rule k g ≡ false → (Passed (suc k) 0 w (cut (dataEnd F g)) (cut (dataEnd F g)) ls [] ws) × (y ≡ z)
+      → (Passed k 0 (suc w) i v ls [] (byHead g ∷ ws)) × (y ≡ z)
+  declined-too k w i v z g b r c t =
+      let q = t .0 in
+      (record { last = i; points = stop; point-count = refl; ways = past r c (q .ways); way-count = ap suc (q .way-count) }, t .1)
+
+  accepted-too : (k w i v : ℕ) (z : F .End) (g : F .Head) (b : F .Body) (l l′ : LentLists) (x : ℕ) {ls : List LentLists} {ws : List (Way F)} {y : F .End}
+      → F .head m v ≡ ok g x → rule k g ≡ true → (e : ℕ) → F .body m x ≡ ok b e → fits (F .lists b) l ≡ true → l′ ≡ written (F .lists b) l
+      → (Passed (suc k) 0 w e e ls [] ws) × (y ≡ z) → (Passed k 0 (suc w) i v (l ∷ ls) [] (whole g l b l′ ∷ ws)) × (y ≡ z)
+  accepted-too k w i v z g b l l′ x r c e f t y p =
+      let q = p .0 in
+      (record { last = i; points = stop; point-count = refl; ways = rw y (through r c f t (q .ways)); way-count = ap suc (q .way-count) }, p .1)
+
+  passed : {k : ℕ} {s : State (F .End)} {ls : List LentLists} {ps : List (F .Point)} {ws : List (Way F)} {y : F .End} → EndsWell F m rule k s ls ps ws y
+      → (n w i v : ℕ) (z : F .End) → s ≡ idle n w i v z → (Passed k n w i v ls ps ws) × (y ≡ z)
+  passed (at-end h) zero zero i v z e =
+      let a = answer-is (at next e h) in
+      (record { last = i; points = stop; point-count = refl; ways = done; way-count = refl }, cc)
+  passed (at-end h) (suc n) w i v z e = not-point 4 n w i v z (F .point m i) (kind-is (at next e h)) (λ k. omega arith) (λ k. omega arith)
+  passed (at-end h) zero (suc w) i v z e = not-head 4 w i v z (F .head m v) (kind-is (at next e h)) (λ k. omega arith) (λ k. omega arith)
+  passed (on-point h r) zero zero i v z e = other (at next e h) (λ k. omega arith)
+  passed (on-point h r) zero (suc w) i v z e = not-head 0 w i v z (F .head m v) (kind-is (at next e h)) (λ k. omega arith) (λ k. omega arith)
+  passed (on-point {s′ = s′} {p = p} h r) (suc n) w i v z e =
+      let a = point-step n w i v z p s′ (F .point m i) refl (at next e h) in
+      let t = passed r n w (a .place) v z (a .left) in
+      let q = t .0 in
+      (record { last = q .last; points = link (a .reads) (q .points); point-count = ap suc (q .point-count); ways = q .ways; way-count = q .way-count }, t .1)
+  passed (on-declined h c d r) (suc n) w i v z e = not-point 1 n w i v z (F .point m i) (kind-is (at next e h)) (λ k. omega arith) (λ k. omega arith)
+  passed (on-declined h c d r) zero zero i v z e = other (at next e h) (λ k. omega arith)
+  passed (on-declined {k = k} {s′ = s′} {s″ = s″} {h = g} {ws = ws} h c d r) zero (suc w) i v z e =
+      let a = head-step w i v z g s′ (F .head m v) refl (at next e h) in
+      let f : idle 0 w (cut (dataEnd F g)) (cut (dataEnd F g)) z ≡ s″ = left-is (at decline (a .left) d) in
+      let t = passed r 0 w (cut (dataEnd F g)) (cut (dataEnd F g)) z (sym f) in
+      declined-too k w i v z g (a .place) (a .reads) c t
+  passed (on-accepted h c d r) (suc n) w i v z e = not-point 1 n w i v z (F .point m i) (kind-is (at next e h)) (λ k. omega arith) (λ k. omega arith)
+  passed (on-accepted h c d r) zero zero i v z e = other (at next e h) (λ k. omega arith)
+  passed (on-accepted {k = k} {s′ = s′} {s″ = s″} {h = g} {b = b} {l = l} {l′ = l′} h c d r) zero (suc w) i v z e =
+      let a = head-step w i v z g s′ (F .head m v) refl (at next e h) in
+      let f = body-step w (cut (dataEnd F g)) (a .place) z l b l′ s″ (F .body m (a .place)) refl (at (accept l) (a .left) d) in
+      let t = passed r 0 w (f .place) (f .place) z (f .left) in
+      accepted-too k w i v z g b l l′ (a .place) (a .reads) c (f .place) (f .reads) (f .fit) (f .wrote) t
+
+  -- and back: a stream that passes these ends well
+  through-ways : {k v : ℕ} {ls : List LentLists} {ws : List (Way F)} → Passes k v ls ws → (i : ℕ) (z : F .End) → EndsWell F m rule k (idle 0 (length ws) i v z) ls [] ws z
+  through-ways done i z = at-end {s′ = idle 0 0 i _ z} refl
+  through-ways (past {v = v} {b = x} {h = g} {ws = ws} h c r) i z =
+      let s : State (F .End) = waits (length ws) (cut (dataEnd F g)) x z in
+      let a : stream F m (idle 0 (suc (length ws)) i v z) next ≡ plain (gotHead g) s = rw h in
+      on-declined a c refl (through-ways r (cut (dataEnd F g)) z)
+  through-ways (through {v = v} {b = x} {e = e} {h = g} {d = d} {l = l} {ws = ws} h c b f r) i z =
+      let s : State (F .End) = waits (length ws) (cut (dataEnd F g)) x z in
+      let a : stream F m (idle 0 (suc (length ws)) i v z) next ≡ plain (gotHead g) s = rw h in
+      let k : stream F m s (accept l) ≡ lending (gotBody d) (written (F .lists d) l) (idle 0 (length ws) e e z) = rw (b, f) in
+      on-accepted a c k (through-ways r e z)
+
+  through-all : {k i e v : ℕ} {ls : List LentLists} {ps : List (F .Point)} {ws : List (Way F)} → Chain (F .point) m i ps e → Passes k v ls ws → (z : F .End)
+      → EndsWell F m rule k (idle (length ps) (length ws) i v z) ls ps ws z
+  through-all stop r z = through-ways r _ z
+  through-all {v = v} {ws = ws} (link {i = i} {x = x} {a = p} {l = ps} h c) r z =
+      let a : stream F m (idle (suc (length ps)) (length ws) i v z) next ≡ plain (gotPoint p) (idle (length ps) (length ws) x v z) = rw h in
+      on-point a (through-all c r z)
+
+  -- the counts under other names
+  through-by : {j n k i e v : ℕ} {ls : List LentLists} {ps : List (F .Point)} {ws : List (Way F)} {y z : F .End} → Chain (F .point) m i ps e → Passes j v ls ws
+      → length ps ≡ n → length ws ≡ k → y ≡ z → EndsWell F m rule j (idle n k i v z) ls ps ws y
+  through-by {z = z} c r a b d = rw (← a, ← b, d) (through-all c r z)
+
+  -- the first ways, with the lists that their accepts took
+  record FirstWays (j k v : ℕ) (ls : List LentLists) (ws : List (Way F)) : Type 0 where
+    kept : List LentLists
+    rest : List LentLists
+    lists : ls ≡ kept ++ rest
+    ways : Passes j v kept (take k ws)
+
+  first-ways : (k : ℕ) {j v : ℕ} {ls : List LentLists} {ws : List (Way F)} → Passes j v ls ws → FirstWays j k v ls ws
+  first-ways zero {ls = ls} r = record { kept = []; rest = ls; lists = refl; ways = done }
+  first-ways (suc k) done = record { kept = []; rest = []; lists = refl; ways = done }
+  first-ways (suc k) (past h c r) = let f = first-ways k r in record { kept = f .kept; rest = f .rest; lists = f .lists; ways = past h c (f .ways) }
+  first-ways (suc k) (through {l = l} h c b t r) =
+      let f = first-ways k r in
+      record { kept = l ∷ f .kept; rest = f .rest; lists = ap (λ x. l ∷ x) (f .lists); ways = through h c b t (f .ways) }
+
+  -- each way leads on, so there are no more than the map has bytes
+  module _ (L : Laws F) (A : Advances F) (small : length m < 2 ^ 64) where
+    behind-cut : (v x : ℕ) → v < x → v < length m → suc v ≤ cut x
+    behind-cut v x h l = go (ltb x (2 ^ 64)) refl
+      where
+        go : (b : Bool) → ltb x (2 ^ 64) ≡ b → suc v ≤ cond b x (2 ^ 64 - 1)
+        go true e = omega arith
+        go false e = omega arith
+
+    in-map : {v b : ℕ} {h : F .Head} → F .head m v ≡ ok h b → v < length m
+    in-map {v} {b} {h} r = let s = L .head-strict .more m v h b r in let u = L .head-good .bound m v h b r in omega arith
+
+    few-ways : {k v : ℕ} {ls : List LentLists} {ws : List (Way F)} → Passes k v ls ws → 0 < length ws → v + length ws ≤ length m
+    few-ways done h = absurd (omega arith)
+    few-ways (past {v = v} {b = b} {h = g} {ws = []} r c p) h = let u = in-map r in omega arith
+    few-ways (past {v = v} {b = b} {h = g} {ws = w ∷ ws} r c p) h =
+        let a = A .starts m v g b r in
+        let u = in-map r in
+        let k = behind-cut v (dataEnd F g) (omega arith) u in
+        let t = few-ways p (omega arith) in
+        omega arith
+    few-ways (through {v = v} {b = b} {e = e} {h = g} {d = d} {ws = []} r c q f p) h = let u = in-map r in omega arith
+    few-ways (through {v = v} {b = b} {e = e} {h = g} {d = d} {ws = w ∷ ws} r c q f p) h =
+        let s = L .head-strict .more m v g b r in
+        let k = L .body-good .forth m b d e q in
+        let t = few-ways p (omega arith) in
+        omega arith
+
+    few-points : {i e : ℕ} {ps : List (F .Point)} → Chain (F .point) m i ps e → 0 < length ps → i + length ps ≤ length m
+    few-points stop h = absurd (omega arith)
+    few-points (link {i = i} {x = x} {a = p} {l = []} r c) h =
+        let s = L .point-strict .more m i p x r in let u = L .point-good .bound m i p x r in omega arith
+    few-points (link {i = i} {x = x} {a = p} {l = q ∷ ps} r c) h =
+        let s = L .point-strict .more m i p x r in let t = few-points c (omega arith) in omega arith
+
+    -- so a count that was met was not cut
+    uncut : (n k i : ℕ) → k ≡ cut n → 0 < i → (0 < k → i + k ≤ length m) → k ≡ n
+    uncut n k i e h f = go (ltb n (2 ^ 64)) refl
+      where
+        go : (b : Bool) → ltb n (2 ^ 64) ≡ b → k ≡ n
+        go true t = e ∙ cut-fits n (ltb-true n (2 ^ 64) t)
+        go false t =
+            let l : 2 ^ 64 ≤ n = ltb-false n (2 ^ 64) t in
+            let c : k ≡ 2 ^ 64 - 1 = e ∙ cut-over n (omega arith) in
+            absurd (let g = f (omega arith) in omega arith)
+
+-- fewer rows count no more
+fewer-rows : {A : Type 0} (f : A → ℕ) (j k : ℕ) (l : List A) → j ≤ k → total f (take j l) ≤ total f (take k l)
+fewer-rows f zero k l h = zero-le
+fewer-rows f (suc j) zero l h = absurd (not-suc-le-zero h)
+fewer-rows f (suc j) (suc k) [] h = le-refl _
+fewer-rows f (suc j) (suc k) (a ∷ l) h = let i = fewer-rows f j k l (le-of-suc-le-suc h) in omega arith
+
+at-most : {n : ℕ} (k i : ℕ) → (0 < k → i + k ≤ n) → k ≤ n
+at-most zero i h = zero-le
+at-most (suc k) i h = let g = h (omega arith) in omega arith
+
+above-zero : (x : ℕ) → 0 < x → 0 < cut x
+above-zero x h = go (ltb x (2 ^ 64)) refl
+  where
+    go : (b : Bool) → ltb x (2 ^ 64) ≡ b → 0 < cond b x (2 ^ 64 - 1)
+    go true e = h
+    go false e = omega arith
+
+module _ (F : Format) (L : Laws F) (A : Advances F) (m : List ℕ) (small : length m < 2 ^ 64) (rule : ℕ → F .Head → Bool) (i : ℕ) (z : F .End) where
+  -- from the tile's head on
+  module _ (h : F .TileHead) (e : ℕ) (read : F .tileHead m i ≡ ok h e) (rows rows′ : ℕ) (le : rows′ ≤ rows)
+      {ls : List LentLists} {ps : List (F .Point)} {ws : List (Way F)} {y : F .End} (t : EndsWell F m rule 0 (freshStream F rows z h e) ls ps ws y) where
+    pub fewer-from : Fewer F m rule i z h rows′ ls ps ws y
+    fewer-from =
+        let u = L .tileHead-strict .more m i h e read in
+        let g = passed F m rule t (cut (pointsUpTo (F .table h) rows)) (cut (waysUpTo (F .table h) rows)) e (cut (e + F .offset h)) z refl in
+        let q = g .0 in
+        let p = uncut F m rule L A small (pointsUpTo (F .table h) rows) (length ps) e (q .point-count) (omega arith) (few-points F m rule L A small (q .points)) in
+        let w = uncut F m rule L A small (waysUpTo (F .table h) rows) (length ws) (cut (e + F .offset h)) (q .way-count) (above-zero (e + F .offset h) (omega arith)) (few-ways F m rule L A small (q .ways)) in
+        let lp = fewer-rows (λ r. r .points) rows′ rows (F .table h) le in
+        let lw = fewer-rows (λ r. r .ways) rows′ rows (F .table h) le in
+        let fw = first-ways F m rule (waysUpTo (F .table h) rows′) (q .ways) in
+        let fp = front (L .point-good) (pointsUpTo (F .table h) rows′) (omega arith) (q .points) in
+        let cp = length-take-le (pointsUpTo (F .table h) rows′) ps (omega arith) in
+        let cw = length-take-le (waysUpTo (F .table h) rows′) ws (omega arith) in
+        let sp = at-most (length ps) e (few-points F m rule L A small (q .points)) in
+        let sw = at-most (length ws) (cut (e + F .offset h)) (few-ways F m rule L A small (q .ways)) in
+        record {
+          start = freshStream F rows′ z h e;
+          behind = e;
+          opens = rw read;
+          first = fw .kept;
+          rest = fw .rest;
+          lists = fw .lists;
+          ends = through-by F m rule (fp .chain) (fw .ways) (cp ∙ sym (cut-fits (pointsUpTo (F .table h) rows′) (omega arith))) (cw ∙ sym (cut-fits (waysUpTo (F .table h) rows′) (omega arith))) (g .1);
+          point-count = cp;
+          way-count = cw;
+        }
+
+  -- the tile's stream of these rows, where it opened and ended well
+  pub zooming-in : (rows : ℕ) {s : State (F .End)} {e : ℕ} → openStream F rows z m i ≡ ok s e
+      → {ls : List LentLists} {ps : List (F .Point)} {ws : List (Way F)} {y : F .End} → EndsWell F m rule 0 s ls ps ws y
+      → OnlyAdds F m rule i z rows ls ps ws y
+  zooming-in rows {s} {e} o {ls} {ps} {ws} {y} t =
+      let a = split (F .tileHead m i) (λ h x. ok (freshStream F rows z h x) x) s e o in
+      record {
+        head = a .val;
+        behind = a .mid;
+        read = a .first;
+        fewer = λ rows′ le.
+            fewer-from (a .val) (a .mid) (a .first) rows rows′ le
+            (subst (λ (s : State (F .End)). EndsWell F m rule 0 s ls ps ws y) (sym (ok-val (a .second))) t);
+      }

@@ -1,0 +1,60 @@
+-- Zooming in only adds (request 12), of a tile of any format: document 02. The stream is the machine of crate agreement. Nothing here
+-- speaks of collecting or of decoded lengths, so a tile need not collect, and a stored size may be any number.
+use mathlib.Core.Path.{_≡_}
+use mathlib.Core.Bool.{Bool, true, false}
+use mathlib.Core.List.{List, [], _∷_, _++_}
+use Prim.Native.Nat.{ℕ, suc, _≤_, _<_}
+use lib.ListN.{length, take}
+use Rattle.parsing.specs.Parse.{ok}
+use Rattle.format.specs.Lent.{LentLists}
+use Rattle.agreement.specs.Calls.{next, accept, decline, gotPoint, gotHead, gotBody, declined, ended, plain, lending}
+use Rattle.agreement.specs.Format.{Format, pointsUpTo, waysUpTo}
+use Rattle.agreement.specs.Stream.{State, stream, openStream}
+
+-- a way that a stream delivered: by its head alone if it was declined; else with the lists that its accept was lent, the body that accept
+-- gave, and the lists after the call
+pub data Delivered (Head Body : Type 0) : Type 0 where
+  byHead : Head → Delivered Head Body
+  whole : Head → (lent : LentLists) → Body → (left : LentLists) → Delivered Head Body
+
+abbrev pub Way : Format → Type 0
+Way F = Delivered (F .Head) (F .Body)
+
+-- A program drives a stream by a rule, and the stream ends well. Next is called until the end: it gives the points, then the ways. A way
+-- is accepted, with the next of the lent lists, exactly if the rule says so of its number, counted from 0, and its head; else it is
+-- declined. No call is refused. `points` and `ways` are what the stream delivered, `z` is what its end said.
+pub data EndsWell (F : Format) (m : List ℕ) (rule : ℕ → F .Head → Bool) : (way : ℕ) → State (F .End) → (lent : List LentLists) → (points : List (F .Point)) → (ways : List (Way F)) → (z : F .End) → Type 0 where
+  at-end : {k : ℕ} {s s′ : State (F .End)} {z : F .End} → stream F m s next ≡ plain (ended z) s′ → EndsWell F m rule k s [] [] [] z
+  on-point : {k : ℕ} {s s′ : State (F .End)} {p : F .Point} {ls : List LentLists} {ps : List (F .Point)} {ws : List (Way F)} {z : F .End}
+      → stream F m s next ≡ plain (gotPoint p) s′
+      → EndsWell F m rule k s′ ls ps ws z → EndsWell F m rule k s ls (p ∷ ps) ws z
+  on-declined : {k : ℕ} {s s′ s″ : State (F .End)} {h : F .Head} {ls : List LentLists} {ws : List (Way F)} {z : F .End}
+      → stream F m s next ≡ plain (gotHead h) s′ → rule k h ≡ false → stream F m s′ decline ≡ plain declined s″
+      → EndsWell F m rule (suc k) s″ ls [] ws z → EndsWell F m rule k s ls [] (byHead h ∷ ws) z
+  on-accepted : {k : ℕ} {s s′ s″ : State (F .End)} {h : F .Head} {b : F .Body} {l l′ : LentLists} {ls : List LentLists} {ws : List (Way F)} {z : F .End}
+      → stream F m s next ≡ plain (gotHead h) s′ → rule k h ≡ true → stream F m s′ (accept l) ≡ lending (gotBody b) l′ s″
+      → EndsWell F m rule (suc k) s″ ls [] ws z → EndsWell F m rule k s (l ∷ ls) [] (whole h l b l′ ∷ ws) z
+
+-- a way's data start is behind its first byte, so that even a declined way of size 0 leads on
+pub record Advances (F : Format) : Type 0 where
+  pub starts : (m : List ℕ) (i : ℕ) (h : F .Head) (e : ℕ) → F .head m i ≡ ok h e → i < F .start h
+
+-- The stream of fewer rows of the tile at place i, whose head is h: it opens, ends well by the same rule with the first of the same
+-- lists, says the same at its end, and delivers the first points and the first ways, just as many as its rows count.
+pub record Fewer (F : Format) (m : List ℕ) (rule : ℕ → F .Head → Bool) (i : ℕ) (z : F .End) (h : F .TileHead) (rows : ℕ) (lent : List LentLists) (points : List (F .Point)) (ways : List (Way F)) (y : F .End) : Type 0 where
+  pub start : State (F .End)
+  pub behind : ℕ
+  pub opens : openStream F rows z m i ≡ ok start behind
+  pub first : List LentLists
+  pub rest : List LentLists
+  pub lists : lent ≡ first ++ rest
+  pub ends : EndsWell F m rule 0 start first (take (pointsUpTo (F .table h) rows) points) (take (waysUpTo (F .table h) rows) ways) y
+  pub point-count : length (take (pointsUpTo (F .table h) rows) points) ≡ pointsUpTo (F .table h) rows
+  pub way-count : length (take (waysUpTo (F .table h) rows) ways) ≡ waysUpTo (F .table h) rows
+
+-- So it is of every smaller number of rows: the tile has a head, by whose zoom table they are counted.
+pub record OnlyAdds (F : Format) (m : List ℕ) (rule : ℕ → F .Head → Bool) (i : ℕ) (z : F .End) (rows : ℕ) (lent : List LentLists) (points : List (F .Point)) (ways : List (Way F)) (y : F .End) : Type 0 where
+  pub head : F .TileHead
+  pub behind : ℕ
+  pub read : F .tileHead m i ≡ ok head behind
+  pub fewer : (rows′ : ℕ) → rows′ ≤ rows → Fewer F m rule i z head rows′ lent points ways y
