@@ -111,7 +111,7 @@ fn number(map: &[u8]) -> Option<&[u8]> {
 }
 
 /// "groups of 7 bits, lowest first"; at most nine of them, so 63 bits.
-fn unsigned(number: &[u8]) -> u64 {
+pub fn unsigned(number: &[u8]) -> u64 {
     let groups = number.iter().rev();
     groups.fold(0, |value, byte| value << 7 | u64::from(byte & 0x7F))
 }

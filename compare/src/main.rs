@@ -34,10 +34,14 @@ compare/run [--rust FOLDER] COMMAND ARGS...
                       --quick is a fixed run of less than a minute, --only looks at case K alone
   book [--cases N] [MAP...]
                       our library's stream against document 01's book, on all tiles of the same maps; at least N long lists
+  zooming [--cases N] [--seed S] [--quick] [--only K] [MAP...]
+                      our library's streams at all pairs of zooms, on all tiles of the same maps and on N damaged copies of tiles,
+                      many with wrong stored sizes: one that ends well says all that comes at a lower zoom; fails on a difference.
+                      --quick is a fixed run of less than ten seconds, --only looks at copy K alone
   figures             checks document 01's worked figures; fails on a difference
   help                this text
 
-scale and book link target/staticlib/libexports.a, which host/library builds first, or that of the folder
+scale, book and zooming link target/staticlib/libexports.a, which host/library builds first, or that of the folder
 MAPSFORGE_LIB names.
 
 FOLDER holds the Rust: error.rs, io.rs and so on. By default it is compare/mapsforge-rs.
@@ -76,6 +80,10 @@ fn run(arguments: &[&str]) -> io::Result<ExitCode> {
         #[cfg(feature = "both")]
         ["book", rest @ ..] => {
             return Ok(scale::run_book(rest)?.unwrap_or_else(misused));
+        }
+        #[cfg(feature = "both")]
+        ["zooming", rest @ ..] => {
+            return Ok(scale::run_zooming(rest)?.unwrap_or_else(misused));
         }
         ["figures"] => return Ok(checked(figures::check())),
         ["help"] => print!("{HELP}"),

@@ -20,6 +20,7 @@ mod opening;
 mod streamed;
 mod way_data;
 mod whole;
+mod zooming;
 
 use std::io;
 use std::path::PathBuf;
@@ -39,7 +40,9 @@ const SEED: u64 = 1;
 
 /// What is asked for on the command line.
 struct Options {
-    cases: u64,
+    /// None if it is not said how many.
+    cases: Option<u64>,
+    quick: bool,
     seed: u64,
     threads: u64,
     /// A single case, to look at it again.
@@ -50,14 +53,14 @@ struct Options {
 impl Options {
     /// None if they make no sense.
     fn of(arguments: &[&str]) -> Option<Self> {
-        let maps = Vec::new();
-        let mut options = Options { cases: CASES, seed: SEED, threads: 1, only: None, maps };
+        let (cases, quick, seed, threads, only, maps) = (None, false, SEED, 1, None, Vec::new());
+        let mut options = Options { cases, quick, seed, threads, only, maps };
         let mut arguments = arguments.iter();
         while let Some(&argument) = arguments.next() {
             let mut number = || arguments.next()?.parse::<u64>().ok();
             match argument {
-                "--quick" => options.cases = QUICK_CASES,
-                "--cases" => options.cases = number()?,
+                "--quick" => options.quick = true,
+                "--cases" => options.cases = Some(number()?),
                 "--seed" => options.seed = number()?,
                 "--threads" => options.threads = number()?.max(1),
                 "--only" => options.only = Some(number()?),
@@ -67,17 +70,33 @@ impl Options {
         }
         Some(options)
     }
+
+    /// The same of a command that does not know all of them.
+    fn of_those(known: &[&str], arguments: &[&str]) -> Option<Self> {
+        let is_other = |argument: &&str| argument.starts_with('-') && !known.contains(argument);
+        Options::of(arguments).filter(|_| !arguments.iter().any(is_other))
+    }
+
+    /// How many cases: what is said, else what is usual.
+    fn cases(&self, usual: u64, quick: u64) -> u64 {
+        self.cases.unwrap_or(if self.quick { quick } else { usual })
+    }
 }
 
 /// Holds our stream to document 01's book; None if the arguments make no sense.
 pub fn run_book(arguments: &[&str]) -> io::Result<Option<ExitCode>> {
-    let is_other = |argument: &&str| argument.starts_with('-') && *argument != "--cases";
-    let Some(options) = Options::of(arguments) else { return Ok(None) };
-    if arguments.iter().any(is_other) {
-        return Ok(None);
-    }
+    let Some(options) = Options::of_those(&["--cases"], arguments) else { return Ok(None) };
     check::keep_panics();
-    let good = book::compare(&bases(&options)?, options.cases);
+    let good = book::compare(&bases(&options)?, options.cases(CASES, CASES));
+    Ok(Some(if good { ExitCode::SUCCESS } else { ExitCode::FAILURE }))
+}
+
+/// Holds our stream at each zoom to those at richer zooms; None if the arguments make no sense.
+pub fn run_zooming(arguments: &[&str]) -> io::Result<Option<ExitCode>> {
+    let known = ["--cases", "--seed", "--quick", "--only"];
+    let Some(options) = Options::of_those(&known, arguments) else { return Ok(None) };
+    check::keep_panics();
+    let good = zooming::compare(&bases(&options)?, &options);
     Ok(Some(if good { ExitCode::SUCCESS } else { ExitCode::FAILURE }))
 }
 
@@ -115,9 +134,7 @@ fn whole_maps(bases: &[Base], all: &mut Check) -> bool {
         all.end_case();
         if let Err(why) = compared.and_then(|compared| compared) {
             println!("UNEXPLAINED: {}, undamaged: {why}", base.name);
-            if base.map.len() < 2000 {
-                println!("  the whole map {:02x?}", base.map);
-            }
+            base.print_if_small();
             differences += 1;
         }
     }
@@ -178,7 +195,8 @@ fn of_thread(bases: &[Base], options: &Options, thread: u64) -> Thread {
             return Thread { differences: 1, ..done };
         }
     };
-    let numbers = (thread..options.cases).step_by(options.threads as usize);
+    let end = options.cases(CASES, QUICK_CASES);
+    let numbers = (thread..end).step_by(options.threads as usize);
     let only = options.only.filter(|_| thread == 0);
     for case in numbers.filter(|_| options.only.is_none()).chain(only) {
         done.cases += 1;

@@ -43,6 +43,16 @@ pub struct WayData {
     pub end: u64,
 }
 
+/// Where collecting a tile reads.
+#[cfg(feature = "both")]
+pub struct ReadParts {
+    /// From its start to the furthest byte.
+    pub bytes: Range<usize>,
+    /// All numbers, and the ways' stored sizes among them.
+    pub numbers: Vec<Range<usize>>,
+    pub sizes: Vec<Range<usize>>,
+}
+
 /// A map's bytes, and the header that was read from it, or from what it was before it was damaged.
 #[derive(Clone, Copy)]
 pub struct Opened<'a> {
@@ -105,17 +115,26 @@ impl<'a> Opened<'a> {
         Reader::new(self, View::Streamed).head(address).err()
     }
 
-    /// Where collecting a tile reads: from its start to the furthest byte, and its numbers. None if it
-    /// reads nothing behind the entry.
+    /// How many points and ways a tile's zoom table counts up to a zoom, or the refusal by which a stream
+    /// of the tile does not open.
     #[cfg(feature = "both")]
-    pub fn read_parts(self, address: &Address) -> Option<(Range<usize>, Vec<Range<usize>>)> {
+    pub fn counted(self, address: &Address, zoom: u8) -> Result<[u128; 2], Answer> {
+        let mut reader = Reader::new(self, View::Streamed);
+        let head = reader.head(address)?;
+        Ok(reader.counts(head.rows(zoom)))
+    }
+
+    /// None if collecting the tile reads nothing behind the entry.
+    #[cfg(feature = "both")]
+    pub fn read_parts(self, address: &Address) -> Option<ReadParts> {
         let mut reader = Reader::new(self, View::Collected);
         reader.trace = Some(Vec::new());
         // a refused tile has read bytes too
         drop(reader.tile(address));
         let start = usize::try_from(reader.tile_start?).ok()?;
-        let (end, numbers) = reader.traced();
-        (start < end).then_some((start..end, numbers))
+        let bytes = start..reader.furthest();
+        let (numbers, sizes) = (reader.trace.unwrap_or_default(), reader.sizes);
+        (!bytes.is_empty()).then_some(ReadParts { bytes, numbers, sizes })
     }
 
     /// The collected tile with its texts as a stream gives them, or the refusal.
@@ -169,6 +188,14 @@ struct Head {
     ways: u128,
 }
 
+impl Head {
+    /// "Zoom is clamped into the interval; rows up to it count."
+    fn rows(&self, zoom: u8) -> &[[u64; 2]] {
+        let rows = usize::from(zoom.saturating_sub(self.lowest)) + 1;
+        &self.table[..rows.min(self.table.len())]
+    }
+}
+
 impl Reader<'_> {
     /// "Collecting decodes every row".
     fn tile(&mut self, address: &Address) -> Read<Tile> {
@@ -188,11 +215,10 @@ impl Reader<'_> {
         Ok(Tile { signature, table, first_way, points, ways, exact })
     }
 
-    /// "Zoom is clamped into the interval; rows up to it count." Answers the water mark.
+    /// Answers the water mark.
     fn stream(&mut self, address: &Address, zoom: u8, delivery: &mut impl Delivery) -> Read<bool> {
         let head = self.head(address)?;
-        let rows = (usize::from(zoom.saturating_sub(head.lowest)) + 1).min(head.table.len());
-        let [points, ways] = self.counts(&head.table[..rows]);
+        let [points, ways] = self.counts(head.rows(zoom));
         for _ in 0..points {
             delivery.point(self.point()?);
         }

@@ -9,6 +9,7 @@ use mapsforge_rs::grid::Grid;
 use mapsforge_rs::io::ByteRead;
 
 use super::crafted;
+use super::damage::SHOWN;
 use super::opening::Opening;
 use crate::maps::calls::on_grid;
 use crate::maps::file::{grids, UNKNOWN};
@@ -25,6 +26,15 @@ pub struct Base {
     pub name: String,
     pub map: Vec<u8>,
     pub tiles: Vec<Address>,
+}
+
+impl Base {
+    /// All of a small map, beside what differs.
+    pub fn print_if_small(&self) {
+        if self.map.len() < SHOWN {
+            println!("  the whole map {:02x?}", self.map);
+        }
+    }
 }
 
 /// The crafted maps and tiles of the driver, each map once.

@@ -9,7 +9,7 @@ use super::damage::{Damage, Stretch};
 use super::held::Held;
 use super::lent::Lent;
 use super::opening::{self, Opening};
-use crate::differences::tile::Opened;
+use crate::differences::tile::{Opened, ReadParts};
 use crate::random::Random;
 use crate::tiles::Address;
 
@@ -74,7 +74,8 @@ impl Cases {
         let compared = self.compare(check, target, &damage, seed);
         check.end_case();
         let Err(why) = compared else { return Ok(()) };
-        let (damage, why) = self.shrunk(target, damage, seed, why);
+        let compare = |fewer: &Damage| self.compare(&mut Check::default(), target, fewer, seed);
+        let (damage, why) = damage.shrunk(why, compare);
         Err(self.difference(case, target, &damage, &why))
     }
 
@@ -117,53 +118,25 @@ impl Cases {
         compared
     }
 
-    /// Leaves out what is not needed for a difference.
-    fn shrunk(
-        &mut self,
-        target: usize,
-        mut damage: Damage,
-        seed: u64,
-        mut why: String,
-    ) -> (Damage, String) {
-        let mut k = 0;
-        while k <= damage.edits.len() {
-            let mut fewer = damage.clone();
-            match k.checked_sub(1) {
-                None => fewer.cut = None,
-                Some(edit) => drop(fewer.edits.remove(edit)),
-            }
-            match self.compare(&mut Check::default(), target, &fewer, seed) {
-                Err(still) if k > 0 || damage.cut.is_some() => (damage, why) = (fewer, still),
-                _ => k += 1,
-            }
-        }
-        (damage, why)
-    }
-
     fn difference(&self, case: u64, target: usize, damage: &Damage, why: &str) -> String {
         let target = &self.targets[target];
         let held = &self.held[target.base];
-        let mut map = held.map.clone();
-        damage.edits.iter().for_each(|edit| drop(edit.make(&mut map)));
-        map.truncate(damage.cut.unwrap_or(map.len()));
         let (at, seed) = (target.at, self.seed);
-        let end = (target.bytes.end + 64).min(map.len());
-        let start = target.bytes.start.min(end);
         let mut text = format!("seed {seed}, case {case}: {}, sub file {}", held.name, at.sub_file);
         text += &format!(", grid {:?}, tile {}\n", at.grid, at.tile);
-        text += &format!("  damage: {:x?}\n", damage.edits);
-        text += &format!("  cut to: {:?} of {}\n", damage.cut, held.map.len());
-        text += &format!("  the tile's place {start}, then {:02x?}\n", &map[start..end]);
-        if map.len() < 2000 {
-            text += &format!("  the whole map {map:02x?}\n");
-        }
-        text + "  " + why
+        text + &damage.told(&held.map, &target.bytes) + "  " + why
     }
 }
 
 fn target(base: usize, map: &Base, opening: &Opening, at: &Address) -> Target {
     let parts = opening.as_ref().ok().and_then(|file| Opened::of(file).read_parts(at));
-    let is_read = parts.is_some();
-    let (bytes, numbers) = parts.unwrap_or((0..map.map.len(), Vec::new()));
-    Target { base, at: *at, bytes, numbers, is_read }
+    match parts {
+        Some(ReadParts { bytes, numbers, .. }) => {
+            Target { base, at: *at, bytes, numbers, is_read: true }
+        }
+        None => {
+            let bytes = 0..map.map.len();
+            Target { base, at: *at, bytes, numbers: Vec::new(), is_read: false }
+        }
+    }
 }

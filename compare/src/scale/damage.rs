@@ -2,11 +2,14 @@
 
 use std::ops::Range;
 
+use super::check::Checked;
 use crate::leaves::sample::{signed_in, unsigned, unsigned_in};
 use crate::random::Random;
 
 /// From this size on bytes are put in or taken out only at times, since the rest is moved.
 const LARGE: usize = 1 << 14;
+/// Below this size a map that differs is shown as a whole.
+pub const SHOWN: usize = 2000;
 
 /// So many bytes at a place are replaced by others, of the same number or not.
 #[derive(Clone, Debug)]
@@ -47,6 +50,49 @@ impl Damage {
     /// Whether no byte before `end` is another one, and the map still reaches so far.
     pub fn is_behind(&self, end: usize) -> bool {
         self.edits.iter().all(|edit| edit.at >= end) && self.cut.is_none_or(|cut| cut >= end)
+    }
+
+    /// A damaged copy of a map.
+    pub fn copy(&self, map: &[u8]) -> Vec<u8> {
+        let mut copy = map.to_vec();
+        self.edits.iter().for_each(|edit| drop(edit.make(&mut copy)));
+        copy.truncate(self.length(&copy));
+        copy
+    }
+
+    /// Leaves out what is not needed for a difference.
+    pub fn shrunk(
+        mut self,
+        mut why: String,
+        mut compare: impl FnMut(&Damage) -> Checked,
+    ) -> (Damage, String) {
+        let mut k = 0;
+        while k <= self.edits.len() {
+            let mut fewer = self.clone();
+            match k.checked_sub(1) {
+                None => fewer.cut = None,
+                Some(edit) => drop(fewer.edits.remove(edit)),
+            }
+            match compare(&fewer) {
+                Err(still) if k > 0 || self.cut.is_some() => (self, why) = (fewer, still),
+                _ => k += 1,
+            }
+        }
+        (self, why)
+    }
+
+    /// What is done to a map, the bytes of a damaged tile, and all of a small map.
+    pub fn told(&self, map: &[u8], tile: &Range<usize>) -> String {
+        let copy = self.copy(map);
+        let end = (tile.end + 64).min(copy.len());
+        let start = tile.start.min(end);
+        let mut text = format!("  damage: {:x?}\n", self.edits);
+        text += &format!("  cut to: {:?} of {}\n", self.cut, map.len());
+        text += &format!("  the tile's place {start}, then {:02x?}\n", &copy[start..end]);
+        if copy.len() < SHOWN {
+            text += &format!("  the whole map {copy:02x?}\n");
+        }
+        text
     }
 }
 

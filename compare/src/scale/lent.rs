@@ -105,6 +105,22 @@ fn list<T: Copy>(
 }
 
 impl Fronts {
+    /// Lists of these lengths that hold a word, and a buffer.
+    pub fn holding(word: u64, lengths: Lengths) -> Self {
+        let [counts, a, b, c, d, buffer] = lengths;
+        Fronts {
+            counts: vec![word; counts],
+            floats: [a, b, c, d].map(|length| vec![f64::from_bits(word); length]),
+            buffer: vec![BYTE; buffer],
+        }
+    }
+
+    pub fn lists(&mut self) -> Lists<'_> {
+        let [latitudes, longitudes, initial_latitudes, initial_longitudes] = &mut self.floats;
+        let nodes = Nodes { counts: &mut self.counts, latitudes, longitudes };
+        Lists { nodes, initial_latitudes, initial_longitudes, buffer: &mut self.buffer }
+    }
+
     /// A streamed way's three lists.
     pub fn of_way(way: &Way) -> Self {
         Fronts::of_blocks(&way.blocks)

@@ -152,7 +152,7 @@ fn tile(
 }
 
 /// Those of the sub file's interval and one beside it on each side.
-fn zooms(header: &MapHeader, at: &Address) -> Vec<u8> {
+pub fn zooms(header: &MapHeader, at: &Address) -> Vec<u8> {
     let intervals = &header.zoom_interval_configuration;
     let interval = usize::try_from(at.sub_file).ok().and_then(|k| intervals.get(k));
     interval.map_or(vec![0, u8::MAX], |interval| {

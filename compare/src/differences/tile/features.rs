@@ -38,7 +38,9 @@ impl Reader<'_> {
 
     pub fn way_head(&mut self) -> Read<WayHead> {
         let signature = self.signature()?;
+        let place = self.at() as usize;
         let size = self.unsigned()?;
+        self.sizes.push(place..self.at() as usize);
         let stored_end = self.at() + u128::from(size);
         let bitmap = self.bytes(2)?;
         let bitmap = u16::from_be_bytes([bitmap[0], bitmap[1]]);

@@ -53,6 +53,8 @@ pub struct Reader<'a> {
     /// The places of the signatures and of the texts that were read, in their order.
     pub signatures: Vec<u64>,
     pub texts: Vec<u64>,
+    /// The places of the ways' stored sizes.
+    pub sizes: Vec<Range<usize>>,
     /// The places of the numbers that were read, if they are wanted.
     pub trace: Option<Vec<Range<usize>>>,
     view: View,
@@ -62,15 +64,24 @@ pub struct Reader<'a> {
 
 impl<'a> Reader<'a> {
     pub fn new(opened: Opened<'a>, view: View) -> Self {
-        let (signatures, texts) = (Vec::new(), Vec::new());
-        let (parting, tile_start, trace) = (None, None, None);
-        Reader { opened, parting, tile_start, signatures, texts, trace, view, at: 0, furthest: 0 }
+        Reader {
+            opened,
+            parting: None,
+            tile_start: None,
+            signatures: Vec::new(),
+            texts: Vec::new(),
+            sizes: Vec::new(),
+            trace: None,
+            view,
+            at: 0,
+            furthest: 0,
+        }
     }
 
-    /// The place behind the furthest byte that was read, and the numbers' places.
+    /// The place behind the furthest byte that was read.
     #[cfg(feature = "both")]
-    pub fn traced(self) -> (usize, Vec<Range<usize>>) {
-        (self.furthest as usize, self.trace.unwrap_or_default())
+    pub fn furthest(&self) -> usize {
+        self.furthest as usize
     }
 
     /// Notes a parting here, if it is the first one.

@@ -2,7 +2,7 @@
 
 use super::super::check::Checked;
 use super::super::lent::{Fronts, Lengths};
-use super::super::library::{self, degree, Ask, Fetch, Lists, Nodes, BYTE, WORD};
+use super::super::library::{self, Ask, Fetch, WORD};
 use super::super::opening::Opening;
 use super::Counts;
 use crate::differences::tile::Opened;
@@ -120,15 +120,7 @@ fn fetched(ask: &Ask, k: u64, stored: &Tile) -> Checked<Fetched> {
 }
 
 fn fetch(ask: &Ask, k: u64, lengths: Lengths) -> (Fetch, Fronts) {
-    let [counts, a, b, c, d, buffer] = lengths;
-    let mut fronts = Fronts {
-        counts: vec![WORD; counts],
-        floats: [a, b, c, d].map(|length| vec![degree(); length]),
-        buffer: vec![BYTE; buffer],
-    };
-    let [latitudes, longitudes, initial_latitudes, initial_longitudes] = &mut fronts.floats;
-    let nodes = Nodes { counts: &mut fronts.counts, latitudes, longitudes };
-    let lists = Lists { nodes, initial_latitudes, initial_longitudes, buffer: &mut fronts.buffer };
-    let fetch = library::fetch(ask, k, lists);
+    let mut fronts = Fronts::holding(WORD, lengths);
+    let fetch = library::fetch(ask, k, fronts.lists());
     (fetch, fronts)
 }

@@ -1,0 +1,135 @@
+//! Pairs of zooms of a tile: what a stream at the richer zoom says of that at the lower one.
+
+use super::super::check::{Check, Checked};
+use super::super::lent::Fronts;
+use super::super::library::{Ask, Next};
+use super::super::opening::part;
+use super::super::whole;
+use super::given::Given;
+use super::rules::{Rule, RULES};
+use super::streams::{stream, Ended, Refusal, Stream, Way};
+use super::tally::Tally;
+use crate::answer::Answer;
+use crate::differences::tile::Opened;
+use crate::random::Random;
+
+/// A tile, and the zooms of its sub file's interval and beside it.
+struct Tile<'a> {
+    opened: Opened<'a>,
+    ask: &'a Ask<'a>,
+    zooms: Vec<u8>,
+    /// The points and ways that the zoom table counts up to each of them, by document 01's model.
+    counted: Vec<Result<[u128; 2], Answer>>,
+}
+
+/// All pairs of a tile's zooms, by all rules.
+pub fn of_tile(tally: &mut Tally, opened: Opened, ask: &Ask, random: &mut Random) -> Checked {
+    let zooms = whole::zooms(opened.header, &ask.at);
+    let counted = zooms.iter().map(|&zoom| opened.counted(&ask.at, zoom)).collect();
+    let tile = Tile { opened, ask, zooms, counted };
+    let before = tally.pairs();
+    let all = tile.by_rule(tally, Rule::All, random)?;
+    for rule in RULES {
+        let streams = tile.by_rule(tally, rule, random)?;
+        streams.iter().zip(&all).for_each(|(stream, all)| tally.beside_all(stream, all));
+    }
+    if tally.pairs() > before {
+        tally.tile(ask);
+    }
+    Ok(())
+}
+
+impl Tile<'_> {
+    /// The streams of all zooms with the same lists, of which each pair is compared.
+    fn by_rule(&self, tally: &mut Tally, rule: Rule, random: &mut Random) -> Checked<Vec<Ended>> {
+        let given = Given::of(self.opened, &self.ask.at, &self.zooms, rule, random);
+        let of_zoom = |&zoom| stream(self.ask, zoom, rule, &given);
+        let streams: Vec<Ended> = self.zooms.iter().map(of_zoom).collect();
+        for (k, richer) in streams.iter().enumerate() {
+            tally.stream(richer, k);
+            let Ok(richer) = richer else { continue };
+            let high = self.zooms[k];
+            let place = |why| format!("rule {rule:?}, zoom {high}: {why}");
+            self.counts(&mut tally.check, k, richer).map_err(place)?;
+            for (j, lower) in streams[..k].iter().enumerate() {
+                let low = self.zooms[j];
+                let place = |why| format!("rule {rule:?}, zoom {low} by zoom {high}: {why}");
+                self.pair(&mut tally.check, lower, richer).map_err(place)?;
+                tally.pair(&self.counted[j], &self.counted[k]);
+            }
+        }
+        Ok(streams)
+    }
+
+    /// A stream that ends well delivers as many points and ways as the zoom table counts; so does each of
+    /// the lower ones, which come before it.
+    fn counts(&self, check: &mut Check, k: usize, stream: &Stream) -> Checked {
+        let delivered = [stream.points.len(), stream.ways.len()].map(|count| count as u128);
+        check.same("points and ways", &Ok(delivered), &self.counted[k])
+    }
+
+    /// The stream at the lower zoom opens and ends well too, says the same at its end, and delivers exactly
+    /// the first points and ways of the richer one.
+    fn pair(&self, check: &mut Check, lower: &Ended, richer: &Stream) -> Checked {
+        let refused = |(call, number): &Refusal| format!("{call} is refused: {number}");
+        let lower = lower.as_ref().map_err(refused)?;
+        let map = self.ask.map;
+        let point = |lower: &Next, richer: &Next| next(check, map, lower, richer);
+        first("point", &lower.points, &richer.points, point)?;
+        let way = |lower: &Way, richer: &Way| way(check, map, lower, richer);
+        first("way", &lower.ways, &richer.ways, way)?;
+        next(check, map, &lower.end, &richer.end).map_err(|why| format!("the end's {why}"))
+    }
+}
+
+/// The features of the lower zoom are the first of the richer one.
+fn first<T>(
+    what: &str,
+    lower: &[T],
+    richer: &[T],
+    mut same: impl FnMut(&T, &T) -> Checked,
+) -> Checked {
+    for (k, lower) in lower.iter().enumerate() {
+        let missing = || format!("{what} {k} does not come at the richer zoom");
+        let richer = richer.get(k).ok_or_else(missing)?;
+        same(lower, richer).map_err(|why| format!("{what} {k}, {why}"))?;
+    }
+    Ok(())
+}
+
+/// A point, a head or the end.
+fn next(check: &mut Check, map: &[u8], lower: &Next, richer: &Next) -> Checked {
+    check.words("words", &lower.got.words, &richer.got.words)?;
+    check.same("layer and elevation", lower.signed, richer.signed)?;
+    check.floats("position", &lower.degrees, &richer.degrees)?;
+    check.words("tag ids", &lower.ids, &richer.ids)?;
+    texts(check, map, &lower.got.words[11..17], &richer.got.words[11..17])
+}
+
+fn way(check: &mut Check, map: &[u8], lower: &Way, richer: &Way) -> Checked {
+    next(check, map, &lower.head, &richer.head)?;
+    check.same("whether it is accepted", lower.body.is_some(), richer.body.is_some())?;
+    let (Some(lower), Some(richer)) = (&lower.body, &richer.body) else { return Ok(()) };
+    let [words, by] = [lower, richer].map(|body| &body.accept.got.words);
+    check.words("words of the body", words, by)?;
+    check.floats("label position", &lower.accept.degrees, &richer.accept.degrees)?;
+    texts(check, map, &words[8..17], &by[8..17])?;
+    lists(check, &lower.lists, &richer.lists)
+}
+
+/// Every entry, whether it was written or not.
+fn lists(check: &mut Check, lower: &Fronts, richer: &Fronts) -> Checked {
+    check.words("node counts", &lower.counts, &richer.counts)?;
+    check.floats("latitudes", &lower.floats[0], &richer.floats[0])?;
+    check.floats("longitudes", &lower.floats[1], &richer.floats[1])
+}
+
+/// The bytes of each text, which are in the map.
+fn texts(check: &mut Check, map: &[u8], lower: &[u64], richer: &[u64]) -> Checked {
+    for (lower, richer) in lower.chunks_exact(3).zip(richer.chunks_exact(3)) {
+        let [lower, richer] = [lower, richer].map(|words| part(map, words[1], words[2]));
+        check.same("a text", lower, richer)?;
+        lower.ok_or("a text that is not in the map")?;
+    }
+    Ok(())
+}
