@@ -15,10 +15,12 @@ use crate::leaves::sample::unsigned_in;
 use crate::random::Random;
 use crate::tiles::Address;
 
-/// A tile of up to so many bytes and zooms is small, and one in so many copies is of any tile.
-const SMALL_BYTES: usize = 3000;
+/// A tile of so many bytes and zooms in a map of so many bytes is small, and one in so many copies is of
+/// any tile: a bad way may be read to the map's end.
+const SMALL_TILE: usize = 3000;
 const SMALL_ZOOMS: usize = 16;
-const ANY: usize = 64;
+const SMALL_MAP: usize = 1 << 16;
+const ANY: usize = 16;
 
 /// A tile with ways, of which the zoom table counts more at the highest zoom than at the lowest.
 struct Target<'a> {
@@ -94,7 +96,8 @@ fn target<'a>(base: &'a Base, opened: Opened, at: &Address) -> Option<Target<'a>
     let parts = opened.read_parts(at)?;
     let grows = opened.counted(at, 0) != opened.counted(at, u8::MAX);
     let zooms = whole::zooms(opened.header, at).len();
-    let is_small = parts.bytes.len() <= SMALL_BYTES && zooms <= SMALL_ZOOMS;
+    let is_small =
+        parts.bytes.len() <= SMALL_TILE && zooms <= SMALL_ZOOMS && base.map.len() <= SMALL_MAP;
     (grows && !parts.sizes.is_empty()).then_some(Target { base, at: *at, parts, is_small })
 }
 

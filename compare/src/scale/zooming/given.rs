@@ -18,18 +18,14 @@ pub struct Given {
 }
 
 impl Given {
-    /// For the ways that the rule accepts, by document 01's model, at the richest zoom that is not refused
-    /// there: lists that are just long enough, or by a few entries more.
+    /// For the ways that the rule accepts, by document 01's model, at the richest zoom that comes to its
+    /// ways: lists that are just long enough, or by a few entries more.
     pub fn of(opened: Opened, at: &Address, zooms: &[u8], rule: Rule, random: &mut Random) -> Self {
-        let mut foreseen = Foreseen { rule, needed: Vec::new() };
+        let mut foreseen = Foreseen { rule, heads: 0, needed: Vec::new() };
         for &zoom in zooms.iter().rev() {
-            let mut at_zoom = Foreseen { rule, needed: Vec::new() };
-            let ended = opened.stream(at, zoom, &mut at_zoom).answer[0] == 0;
-            // behind bad points no way comes, but at a lower zoom some may
-            if at_zoom.needed.len() > foreseen.needed.len() {
-                foreseen = at_zoom;
-            }
-            if ended {
+            let ended = opened.stream(at, zoom, &mut foreseen).answer[0] == 0;
+            // behind a bad point no way comes, but at a lower zoom some may
+            if ended || foreseen.heads > 0 {
                 break;
             }
         }
@@ -50,6 +46,7 @@ impl Given {
 /// The lengths that each accepted way of a stream needs.
 struct Foreseen {
     rule: Rule,
+    heads: u64,
     needed: Vec<Lengths>,
 }
 
@@ -57,6 +54,7 @@ impl Delivery for Foreseen {
     fn point(&mut self, _point: Point) {}
 
     fn head(&mut self, head: Head) -> bool {
+        self.heads += 1;
         self.rule.accepts(head.bitmap, &head.ids)
     }
 
