@@ -35,9 +35,9 @@ compare/run [--rust FOLDER] COMMAND ARGS...
   book [--cases N] [MAP...]
                       our library's stream against document 01's book, on all tiles of the same maps; at least N long lists
   zooming [--cases N] [--seed S] [--quick] [--only K] [MAP...]
-                      our library's streams at all pairs of zooms, on all tiles of the same maps and on N damaged copies of tiles,
-                      many with wrong stored sizes: one that ends well says all that comes at a lower zoom; fails on a difference.
-                      --quick is a fixed run of less than ten seconds, --only looks at copy K alone
+                      our library's streams at all pairs of zooms, on all tiles of the same maps and on N damaged copies
+                      of tiles, many with wrong stored sizes: one that ends well says all that comes at a lower zoom;
+                      fails on a difference. --quick is a fixed run of some seconds, --only looks at copy K alone
   figures             checks document 01's worked figures; fails on a difference
   help                this text
 
