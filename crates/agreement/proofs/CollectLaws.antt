@@ -16,12 +16,11 @@ use Rattle.arithmetic.specs.Cut.{cut}
 use Rattle.arithmetic.proofs.CutLaws.{cut-fits}
 use Rattle.format.specs.Rows.{pointsOf, waysOf}
 use Rattle.agreement.specs.Format.{Format, Laws}
-use Rattle.agreement.specs.Stream.{openStream}
 use Rattle.agreement.specs.Collected.{Way, way, exact, allExact, StoredTile, collect, cutPlace, storedTile, aPoint, aWay, missing, fetch}
 use Rattle.agreement.proofs.Chain.{Chain, stop, link}
 use Rattle.agreement.proofs.TileAgrees.{way-good, way-strict, collected}
 use Rattle.parsing.proofs.Ends.{PastEnd, bind-end, many-end}
-use Rattle.arithmetic.proofs.CutLaws.{at-cut}
+use Rattle.arithmetic.proofs.CutLaws.{at-cut, Cuts, cuts-bind}
 use Rattle.agreement.proofs.CutCounts.{below-cut, many-cut}
 
 -- first j values, then n more
@@ -141,11 +140,8 @@ module _ (F : Format) (m : List ℕ) where
   exact-no i k at e h b = fold-no (way F) m allExact exact i k at e h b
 
 -- a tile whose own place was cut
-pub open-end : (F : Format) (rows : ℕ) (z : F .End) → PastEnd (F .tileHead) → PastEnd (openStream F rows z)
-open-end F rows z s = bind-end _ s
-
-pub collect-end : (F : Format) → PastEnd (F .tileHead) → PastEnd (collect F)
-collect-end F s = bind-end _ s
+pub collect-cuts : (F : Format) → Cuts (F .tileHead) → Cuts (collect F)
+collect-cuts F s = cuts-bind _ s
 
 pub way-end : (F : Format) → PastEnd (F .head) → PastEnd (way F)
 way-end F s = bind-end _ s

@@ -1,8 +1,15 @@
 -- The Mapsforge tile meets what the machines ask of a format; and each of its parts is refused at the map's end and behind it.
-use Prim.Native.Nat.{ℕ, suc}
-use mathlib.Core.Bool.{Bool}
-use mathlib.Core.List.{List}
-use Rattle.parsing.proofs.Ends.{PastEnd, Still, ends}
+use Prim.Native.Nat.{ℕ, suc, _≤_, max}
+use native.Mathlib.Omega.{arith}
+use mathlib.Core.Path.{_≡_}
+use mathlib.Core.Bool.{Bool, true, false}
+use mathlib.Core.List.{List, [], _∷_}
+use lib.Dec.{lit≤}
+use lib.ListN.{length}
+use Rattle.parsing.specs.Parse.{Res, ok, no, andThen, many, renumbered, optional, none}
+use Rattle.arithmetic.specs.Cut.{cut}
+use Rattle.arithmetic.proofs.CutLaws.{Cuts, cuts-past}
+use Rattle.parsing.proofs.Ends.{PastEnd, Still, AtEnd, stopped, stays, part-end, ends}
 use Rattle.utils.specs.Vbe.{groups, unsigned, signed, coordinate}
 use Rattle.format.specs.WayData.{node}
 use Rattle.format.specs.Tile as tile
@@ -42,17 +49,29 @@ row-end : PastEnd tile.row
 unfolding tile.row
 row-end = search (ends, unsigned-end)
 
-table-still : (n : ℕ) → Still (tile.zoomTable n)
-unfolding tile.zoomTable
-table-still n = search (ends, row-end)
+rows-still : (n : ℕ) → Still (many tile.row n)
+rows-still n = search (ends, row-end)
 
 signature-still : (debug : Bool) → Still (tile.debugSignature debug)
 unfolding tile.debugSignature
 signature-still debug = search ends
 
-pub tileHead-end : (debug : Bool) (rows : ℕ) → PastEnd (tile.tileHead debug rows)
-unfolding tile.tileHead
-tileHead-end debug rows = search (ends, signature-still, table-still, unsigned-end)
+-- a tile's head behind the map is refused by its own place
+head-past : (debug : Bool) (rows : ℕ) (m : List ℕ) (i : ℕ) → length m ≤ i → tile.tileHead debug rows m i ≡ no 20 (cut i ∷ [])
+unfolding tile.tileHead tile.debugSignature optional tile.zoomTable
+head-past true rows m i h = rw (part-end 32 (lit≤ tt) .stops m i h)
+head-past false rows m i h = go (many tile.row rows m i) (rows-still rows .stops m i h)
+  where
+    e : max i (length m) ≡ i
+    e = omega arith
+
+    go : (r : Res (List tile.Row)) → AtEnd i r
+        → _≡_ {A = Res tile.TileHead} (andThen (renumbered 20 (cut (max i (length m))) r) (λ t x. andThen (renumbered 20 (cut (max x (length m))) (unsigned m x)) (λ o y. ok (record { signature = none; table = t; offset = o }) y))) (no 20 (cut i ∷ []))
+    go r stopped = rw e
+    go r (stays a) = rw (unsigned-end .stops m i h, e)
+
+pub tileHead-cuts : (debug : Bool) (rows : ℕ) → Cuts (tile.tileHead debug rows)
+tileHead-cuts debug rows = cuts-past 20 (head-past debug rows)
 
 pub point-end : (debug : Bool) (kinds : List Kind) → PastEnd (tile.point debug kinds)
 unfolding tile.point

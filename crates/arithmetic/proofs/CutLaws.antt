@@ -1,13 +1,13 @@
 -- Laws of numbers and places cut at 2 ^ 64 - 1.
 use Prim.Native.Nat.{ℕ, _+_, _-_, _^_, _<_, _≤_}
 use native.Mathlib.Omega.{arith}
-use mathlib.Core.Path.{_≡_, refl, sym, _∙_}
+use mathlib.Core.Path.{_≡_, refl, sym, ap, _∙_}
 use mathlib.Core.Bool.{Bool, true, false, cond}
-use mathlib.Core.List.{List}
+use mathlib.Core.List.{List, [], _∷_}
 use lib.Dec.{ltb}
 use lib.ListN.{length}
 use borrow.Author.Tests.{lt-ltb, ltb-true, ltb-false}
-use Rattle.parsing.specs.Parse.{Parser}
+use Rattle.parsing.specs.Parse.{Res, ok, no, Parser, andThen, bind, renumbered, instead}
 use Rattle.parsing.proofs.Ends.{PastEnd}
 use Rattle.arithmetic.specs.Cut.{cut}
 
@@ -44,3 +44,26 @@ at-cut {p = p} e m i h = go (ltb i (2 ^ 64)) refl
     go : (c : Bool) → ltb i (2 ^ 64) ≡ c → p m (cond c i (2 ^ 64 - 1)) ≡ p m i
     go true t = refl
     go false t = let l : 2 ^ 64 ≤ i = ltb-false i (2 ^ 64) t in e .stops m (2 ^ 64 - 1) (omega arith) ∙ sym (e .stops m i (omega arith))
+
+-- the same, of a parser whose refusal there may say where it is
+pub record Cuts {A : Type 0} (p : Parser A) : Type 0 where
+  pub at : (m : List ℕ) (i : ℕ) → length m < 2 ^ 64 → p m (cut i) ≡ p m i
+
+pub cut-cut : (i : ℕ) → cut (cut i) ≡ cut i
+cut-cut i = cut-fits (cut i) (cut-small i (cut i) refl)
+
+pub cuts-bind : {A B : Type 0} {p : Parser A} (f : A → Parser B) → Cuts p → Cuts (bind p f)
+cuts-bind f c = record { at = λ m i h. rw (c .at m i h) }
+
+-- refused behind the map by a number and the place
+pub cuts-past : {A : Type 0} {p : Parser A} (n : ℕ) → ((m : List ℕ) (i : ℕ) → length m ≤ i → p m i ≡ no n (cut i ∷ [])) → Cuts p
+cuts-past {p = p} n f = record { at = λ m i h. go m i h (ltb i (2 ^ 64)) refl }
+  where
+    go : (m : List ℕ) (i : ℕ) → length m < 2 ^ 64 → (c : Bool) → ltb i (2 ^ 64) ≡ c → p m (cond c i (2 ^ 64 - 1)) ≡ p m i
+    go m i h true t = refl
+    go m i h false t =
+        let l : 2 ^ 64 ≤ i = ltb-false i (2 ^ 64) t in
+        f m (2 ^ 64 - 1) (omega arith) ∙ ap (λ x. no n (x ∷ [])) (cut-over (2 ^ 64 - 1) (omega arith) ∙ sym (cut-over i (omega arith))) ∙ sym (f m i (omega arith))
+
+pub cuts-instead : {A : Type 0} {p : Parser A} (n : ℕ) → PastEnd p → Cuts (instead n (λ m i. cut i) p)
+cuts-instead n e = cuts-past n (λ m i h. rw (e .stops m i h))

@@ -15,7 +15,7 @@ use Rattle.error.specs.declared.Refusal.the-variants.{ReversedInterval}
 use Rattle.byte_source.proofs.ReadLaws.{Taken, taken, loop-no, number-ok, number-no}
 use Rattle.utils.proofs.NumberLaws as numbers
 use Rattle.format.specs.Tile.{Row, row, zoomTable}
-use Rattle.format.specs.Rows.{intervalTable}
+use Rattle.format.specs.Rows.{numbersOfTable}
 use Rattle.types.specs.Types.{endRefusal}
 use Rattle.types.specs.declared.End.the-variants as end
 use Rattle.types.proofs.BesideLaws.{besides, beside-same, beside-ok, beside-stop}
@@ -62,17 +62,17 @@ pub ruleset fills = (besides, rows-none, rows-more, row-no, rows-done)
 
 -- the table of an interval from a to b
 module _ (m : List ℕ) (a b at : ℕ) where
-  pub table-reversed : b < a → refused ReversedInterval ≡ intervalTable a b m at
-  unfolding intervalTable
+  pub table-reversed : b < a → refused ReversedInterval ≡ numbersOfTable a b m at
+  unfolding numbersOfTable
   table-reversed h = rw (lt-leb a b h)
 
-  pub table-is : a ≤ b → many row (b - a + 1) m at ≡ intervalTable a b m at
-  unfolding intervalTable zoomTable
+  pub table-is : a ≤ b → many row (b - a + 1) m at ≡ numbersOfTable a b m at
+  unfolding numbersOfTable
   table-is h = rw (le-leb a b h, add-one (b - a))
 
-  pub table-known : (r : ZoomTableRead) → TableIs (many row (b - a + 1) m at) r → a ≤ b → TableIs (intervalTable a b m at) r
+  pub table-known : (r : ZoomTableRead) → TableIs (many row (b - a + 1) m at) r → a ≤ b → TableIs (numbersOfTable a b m at) r
   table-known r t h =
-      beside-same rowsOf noRows (intervalTable a b m at) (many row (b - a + 1) m at) (shownRows r) (r .end) t (table-is h)
+      beside-same rowsOf noRows (numbersOfTable a b m at) (many row (b - a + 1) m at) (shownRows r) (r .end) t (table-is h)
 
 pub ruleset tables = (besides, table-reversed, table-known)
 

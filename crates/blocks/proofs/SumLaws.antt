@@ -19,7 +19,7 @@ use Rattle.byte_source.proofs.ReadLaws.{ViewPasses, view-passes, ViewStops, vie
 use Rattle.arithmetic.specs.Cut.{cut}
 use Rattle.arithmetic.proofs.CutLaws.{cut-add}
 use Rattle.format.specs.Tile.{Row, row}
-use Rattle.format.specs.Rows.{rowsUpto, pointsOf, waysOf, intervalTable}
+use Rattle.format.specs.Rows.{rowsUpto, pointsOf, waysOf, numbersOfTable}
 use Rattle.blocks.specs.Blocks.{zoomRow, sumOf, zoomSums, sumsRes, sumsRefusal, rowRes, rowRefusal}
 use Rattle.blocks.specs.declared.SumsRead.the-variants as sums-read
 use Rattle.blocks.specs.declared.ZoomRow.{ZoomRow}
@@ -101,32 +101,32 @@ sums-of a b z xs ys h =
 
 -- a table of which the first k rows and then the others are summed
 module _ (m : List ℕ) (a b at k : ℕ) where
-  parts : a ≤ b → k ≤ suc (b - a) → intervalTable a b m at ≡ andThen (many row k m at) (λ xs x. mapRes (λ ys. xs ++ ys) (many row (b - a + 1 - k) m x))
+  parts : a ≤ b → k ≤ suc (b - a) → numbersOfTable a b m at ≡ andThen (many row k m at) (λ xs x. mapRes (λ ys. xs ++ ys) (many row (b - a + 1 - k) m x))
   parts h l =
       let e : k + (b - a + 1 - k) ≡ b - a + 1 = omega arith in
       sym (table-is m a b at h) ∙ (rw e at (many-append row m k (b - a + 1 - k) at))
 
   module _ {B : Type 0} (f : List Row → ℕ → Res B) where
-    pub sum-reversed : b < a → refused ReversedInterval ≡ andThen (intervalTable a b m at) f
+    pub sum-reversed : b < a → refused ReversedInterval ≡ andThen (numbersOfTable a b m at) f
     sum-reversed h = rw (← (table-reversed m a b at h))
 
-    pub front-no : (g : RowRead) (e′ e : Refusal) → rowRes g ≡ mapRes sumOf (many row k m at) → g ≡ row-read.Refused e → e′ ≡ rowRefusal g → a ≤ b → k ≤ suc (b - a) → refused e′ ≡ andThen (intervalTable a b m at) f
+    pub front-no : (g : RowRead) (e′ e : Refusal) → rowRes g ≡ mapRes sumOf (many row k m at) → g ≡ row-read.Refused e → e′ ≡ rowRefusal g → a ≤ b → k ≤ suc (b - a) → refused e′ ≡ andThen (numbersOfTable a b m at) f
     front-no g e′ e q d z h l =
         rw (parts h l) (ap refused (z ∙ ap rowRefusal d) ∙ then-then (many row k m at) _ f (refused e) (view-stop sumOf (many row k m at) _ (sym q ∙ ap rowRes d)))
 
-    pub back-no : (n : ℕ) (g q : RowRead) (v : ZoomRow) (e′ e : Refusal) → rowRes g ≡ mapRes sumOf (many row k m at) → g ≡ row-read.Value v n → rowRes q ≡ mapRes sumOf (many row (b - a + 1 - k) m n) → q ≡ row-read.Refused e → e′ ≡ rowRefusal q → a ≤ b → k ≤ suc (b - a) → refused e′ ≡ andThen (intervalTable a b m at) f
+    pub back-no : (n : ℕ) (g q : RowRead) (v : ZoomRow) (e′ e : Refusal) → rowRes g ≡ mapRes sumOf (many row k m at) → g ≡ row-read.Value v n → rowRes q ≡ mapRes sumOf (many row (b - a + 1 - k) m n) → q ≡ row-read.Refused e → e′ ≡ rowRefusal q → a ≤ b → k ≤ suc (b - a) → refused e′ ≡ andThen (numbersOfTable a b m at) f
     back-no n g q v e′ e c d i j z h l =
         rw (parts h l) (ap refused (z ∙ ap rowRefusal j) ∙ then-then (many row k m at) _ f (refused e) (viewed sumOf (many row k m at) _ (sym c ∙ ap rowRes d)
         (λ xs _. then-then (many row (b - a + 1 - k) m n) _ f (refused e) (view-stop sumOf (many row (b - a + 1 - k) m n) _ (sym i ∙ ap rowRes j)))))
 
-  pub both-ok : (n e p w z : ℕ) (g q : RowRead) (v u : ZoomRow) → rowRes g ≡ mapRes sumOf (many row k m at) → g ≡ row-read.Value v n → rowRes q ≡ mapRes sumOf (many row (b - a + 1 - k) m n) → q ≡ row-read.Value u e → a ≤ b → k ≡ rowsUpto a b z → k ≤ suc (b - a) → p ≡ cut (v .points + u .points) → w ≡ cut (v .ways + u .ways) → _≡_ {A = Res Sums} (ok (record { points = v .points; ways = v .ways; «all_points» = p; «all_ways» = w }) e) (mapRes (zoomSums a b z) (intervalTable a b m at))
+  pub both-ok : (n e p w z : ℕ) (g q : RowRead) (v u : ZoomRow) → rowRes g ≡ mapRes sumOf (many row k m at) → g ≡ row-read.Value v n → rowRes q ≡ mapRes sumOf (many row (b - a + 1 - k) m n) → q ≡ row-read.Value u e → a ≤ b → k ≡ rowsUpto a b z → k ≤ suc (b - a) → p ≡ cut (v .points + u .points) → w ≡ cut (v .ways + u .ways) → _≡_ {A = Res Sums} (ok (record { points = v .points; ways = v .ways; «all_points» = p; «all_ways» = w }) e) (mapRes (zoomSums a b z) (numbersOfTable a b m at))
   unfolding of-parts
   both-ok n e p w z g q v u c d i j h o l x y =
       let s = split (many row k m at) (λ xs r. ok (sumOf xs) r) v n (sym c ∙ ap rowRes d) in
       let t = split (many row (b - a + 1 - k) m n) (λ ys r. ok (sumOf ys) r) u e (sym i ∙ ap rowRes j) in
       done (s .val) (s .mid) (t .val) (t .mid) (s .first) (ok-val (s .second)) (ok-at (s .second)) (t .first) (ok-val (t .second)) (ok-at (t .second))
     where
-      done : (xs : List Row) (r : ℕ) (ys : List Row) (r′ : ℕ) → many row k m at ≡ ok xs r → sumOf xs ≡ v → r ≡ n → many row (b - a + 1 - k) m n ≡ ok ys r′ → sumOf ys ≡ u → r′ ≡ e → ok (record { points = v .points; ways = v .ways; «all_points» = p; «all_ways» = w }) e ≡ mapRes (zoomSums a b z) (intervalTable a b m at)
+      done : (xs : List Row) (r : ℕ) (ys : List Row) (r′ : ℕ) → many row k m at ≡ ok xs r → sumOf xs ≡ v → r ≡ n → many row (b - a + 1 - k) m n ≡ ok ys r′ → sumOf ys ≡ u → r′ ≡ e → ok (record { points = v .points; ways = v .ways; «all_points» = p; «all_ways» = w }) e ≡ mapRes (zoomSums a b z) (numbersOfTable a b m at)
       done xs r ys r′ f1 w1 o1 f2 w2 o2 =
           let c1 : rowsUpto a b z ≡ length xs = sym o ∙ sym (many-count row m k at xs r f1) in
           let c2 : of-parts v u ≡ zoomSums a b z (xs ++ ys) = rw (← w1, ← w2) (sums-of a b z xs ys c1) in

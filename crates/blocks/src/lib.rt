@@ -6,7 +6,8 @@ ghost use mathlib.Core.Path.{_≡_};
 ghost use Prim.Native.Nat.{_-_, _≤_, suc};
 ghost use Rattle.parsing.specs.Parse.{mapRes, many};
 ghost use Rattle.format.specs.Tile.{row};
-ghost use Rattle.format.specs.Rows.{rowsUpto, intervalTable};
+ghost use Rattle.format.specs.Rows.{rowsUpto, numbersOfTable, intervalTable};
+ghost use Rattle.format.specs.CutOff.{whereByte};
 ghost use Rattle.blocks.specs.Blocks.{zoomRow, rowRes, rowRefusal, sumOf, noRows, shownRows, TableIs, zoomSums, sumsRes, sumsRefusal};
 
 // The points and ways of a zoom level.
@@ -108,9 +109,9 @@ fn fill_rows(map: &[u8], at: usize, count: usize) -> ZoomTableRead
     }
 }
 
-// A row for each level of an interval.
-pub fn read_zoom_table(map: &[u8], at: usize, min: u8, max: u8) -> ZoomTableRead
-    ensures { λ r. ⌜ TableIs (intervalTable min max (now (map .entry)) at) r ⌝ }
+// A row for each level of an interval, as numbers.
+fn read_table_numbers(map: &[u8], at: usize, min: u8, max: u8) -> ZoomTableRead
+    ensures { λ r. ⌜ TableIs (numbersOfTable min max (now (map .entry)) at) r ⌝ }
 {
     if max < min {
         return refused_table(Refusal::ReversedInterval);
@@ -159,9 +160,9 @@ fn rows_upto(min: u8, max: u8, zoom: u8) -> usize
     (zoom - min) as usize + 1
 }
 
-// The sums of a zoom table, and the place behind it.
-pub fn sum_zoom_table(map: &[u8], at: usize, min: u8, max: u8, zoom: u8) -> SumsRead
-    ensures { λ r. ⌜ sumsRes r ≡ mapRes (zoomSums min max zoom) (intervalTable min max (now (map .entry)) at) ⌝ }
+// The sums of a zoom table, as numbers, and the place behind it.
+fn sum_table_numbers(map: &[u8], at: usize, min: u8, max: u8, zoom: u8) -> SumsRead
+    ensures { λ r. ⌜ sumsRes r ≡ mapRes (zoomSums min max zoom) (numbersOfTable min max (now (map .entry)) at) ⌝ }
 {
     if max < min {
         return SumsRead::Refused(Refusal::ReversedInterval);
@@ -186,4 +187,37 @@ pub fn sum_zoom_table(map: &[u8], at: usize, min: u8, max: u8, zoom: u8) -> Sums
         },
         at,
     )
+}
+
+// Where the missing byte of a read that began at `at`, byte by byte, is: the first behind the map.
+pub fn missing_byte(map: &[u8], at: usize) -> u64
+    ensures { λ r. ⌜ r ≡ whereByte (now (map .entry)) at ⌝ }
+{
+    if map.len() < at {
+        return at as u64;
+    }
+    map.len() as u64
+}
+
+// A row for each level of an interval. A map that ends in it is refused with 20.
+pub fn read_zoom_table(map: &[u8], at: usize, min: u8, max: u8) -> ZoomTableRead
+    ensures { λ r. ⌜ TableIs (intervalTable min max (now (map .entry)) at) r ⌝ }
+{
+    let table = read_table_numbers(map, at, min, max);
+    let end = table.end;
+    let End::At(_) = end else {
+        return refused_table(error::in_tile_head(types::end_refusal(end), missing_byte(map, at)));
+    };
+    table
+}
+
+// The sums of a zoom table, and the place behind it. A map that ends in it is refused with 20.
+pub fn sum_zoom_table(map: &[u8], at: usize, min: u8, max: u8, zoom: u8) -> SumsRead
+    ensures { λ r. ⌜ sumsRes r ≡ mapRes (zoomSums min max zoom) (intervalTable min max (now (map .entry)) at) ⌝ }
+{
+    let got = sum_table_numbers(map, at, min, max, zoom);
+    let SumsRead::Value(_, _) = got else {
+        return SumsRead::Refused(error::in_tile_head(sums_refusal(got), missing_byte(map, at)));
+    };
+    got
 }

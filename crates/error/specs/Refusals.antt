@@ -1,10 +1,12 @@
 -- Document 01, "Answers other than a result": the number and the values of each refusal. Every promise goes through these.
 use Prim.Native.Nat.{ℕ}
 use mathlib.Core.List.{List, [], _∷_}
+use mathlib.Core.Bool.{cond}
+use lib.Dec.{eqb}
 use Rattle.parsing.specs.Parse.{Res, ok, no}
 use Rattle.error.specs.declared.Lengths.{Lengths}
 use Rattle.error.specs.declared.Refusal.{Refusal}
-use Rattle.error.specs.declared.Refusal.the-variants.{Source, InvalidMagic, UnsupportedVersion, InvalidBoundingBox, InvalidHeaderSize, InvalidIndexSignature, InvalidTagId, InvalidTileIndex, TextTooLong, TooManyNodes, NumberTooLong, CoordinateTooLarge, ReversedInterval, InvalidGrid, TooShort, OutOfTurn, InvalidFeature, ZoomTooLarge}
+use Rattle.error.specs.declared.Refusal.the-variants.{Source, InvalidMagic, UnsupportedVersion, InvalidBoundingBox, InvalidHeaderSize, InvalidIndexSignature, InvalidTagId, InvalidTileIndex, TextTooLong, TooManyNodes, NumberTooLong, CoordinateTooLarge, ReversedInterval, InvalidGrid, TooShort, OutOfTurn, InvalidFeature, ZoomTooLarge, IndexCutOff, TileHeadCutOff}
 
 abbrev pub numberOf : Refusal → ℕ
 numberOf Source = 1
@@ -25,6 +27,8 @@ numberOf (TooShort l) = 15
 numberOf OutOfTurn = 16
 numberOf InvalidFeature = 17
 numberOf ZoomTooLarge = 18
+numberOf (IndexCutOff i) = 19
+numberOf (TileHeadCutOff i) = 20
 
 -- the lengths needed, of five lists and a buffer; 0 where a call lends none
 abbrev pub lengths : ℕ → ℕ → ℕ → ℕ → ℕ → ℕ → List ℕ
@@ -49,6 +53,8 @@ valuesOf (TooShort l) = lengths (l .list1) (l .list2) (l .list3) (l .list4) (l .
 valuesOf OutOfTurn = []
 valuesOf InvalidFeature = []
 valuesOf ZoomTooLarge = []
+valuesOf (IndexCutOff i) = i ∷ []
+valuesOf (TileHeadCutOff i) = i ∷ []
 
 -- a refusal as a result
 abbrev pub refused : {A : Type 0} → Refusal → Res A
@@ -57,3 +63,10 @@ refused r = no (numberOf r) (valuesOf r)
 -- only the buffer is too short
 abbrev pub shortBuffer : ℕ → Refusal
 shortBuffer n = TooShort (record { list1 = 0; list2 = 0; list3 = 0; list4 = 0; list5 = 0; buffer = n })
+
+-- what stands for refusal 1 in an index entry that is read at a place, and in a tile's head
+abbrev pub inIndex : ℕ → Refusal → Refusal
+inIndex place r = cond (eqb (numberOf r) 1) (IndexCutOff place) r
+
+abbrev pub inTileHead : ℕ → Refusal → Refusal
+inTileHead place r = cond (eqb (numberOf r) 1) (TileHeadCutOff place) r

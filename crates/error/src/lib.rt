@@ -1,6 +1,6 @@
 // error.rs: why a call has no result.
 ghost use mathlib.Core.Path.{_≡_};
-ghost use Rattle.error.specs.Refusals.{numberOf, shortBuffer};
+ghost use Rattle.error.specs.Refusals.{numberOf, shortBuffer, inIndex, inTileHead};
 
 // The lengths that a call needs: of the lists in the order in which it takes them, and of the buffer. 0 where it takes none.
 pub struct Lengths {
@@ -50,6 +50,10 @@ pub enum Refusal {
     InvalidFeature,
     // 18: a zoom above 63 in column or longitude arithmetic
     ZoomTooLarge,
+    // 19: the map ends in an index entry, with the place where its read began
+    IndexCutOff(u64),
+    // 20: the map ends in a tile's head, with the place where the missing read began
+    TileHeadCutOff(u64),
 }
 
 // Document 01's number of a refusal.
@@ -75,6 +79,8 @@ pub fn number_of(refusal: Refusal) -> u8
         Refusal::OutOfTurn => 16,
         Refusal::InvalidFeature => 17,
         Refusal::ZoomTooLarge => 18,
+        Refusal::IndexCutOff(_) => 19,
+        Refusal::TileHeadCutOff(_) => 20,
     }
 }
 
@@ -90,4 +96,24 @@ pub fn short_buffer(needed: u64) -> Refusal
         list5: 0,
         buffer: needed,
     })
+}
+
+// What is refused of an index entry that is read at `place`: a map that ends too early has a number of its own there.
+pub fn in_index(refusal: Refusal, place: u64) -> Refusal
+    ensures { λ r. ⌜ r ≡ inIndex place refusal ⌝ }
+{
+    if number_of(refusal) == 1 {
+        return Refusal::IndexCutOff(place);
+    }
+    refusal
+}
+
+// The same of a tile's head.
+pub fn in_tile_head(refusal: Refusal, place: u64) -> Refusal
+    ensures { λ r. ⌜ r ≡ inTileHead place refusal ⌝ }
+{
+    if number_of(refusal) == 1 {
+        return Refusal::TileHeadCutOff(place);
+    }
+    refusal
 }

@@ -40,7 +40,7 @@ use Rattle.agreement.specs.Format.{Format, Laws}
 use Rattle.agreement.specs.Collected.{Way, way, allExact, StoredTile, collect}
 use Rattle.agreement.proofs.Chain.{Chain, stop, link}
 use Rattle.agreement.proofs.TileAgrees.{way-good, way-strict, collected}
-use Rattle.agreement.proofs.TileFormatLaws.{tile-laws, tileHead-end}
+use Rattle.agreement.proofs.TileFormatLaws.{tile-laws, tileHead-cuts}
 use Rattle.tile_layout.specs.TileLayout.{formatOf}
 use Rattle.tile_layout.specs.declared.TileLayout.{TileLayout}
 use Rattle.tile_walk.specs.TileWalk.{waysRes, waysRefusal, exactWays, ForAllRows}
@@ -161,7 +161,7 @@ module _ (b : Bool) (i : Maybe Interval) (grid : Grid) (number : ℕ) (m : List 
         qh
         ∙ ap (λ (c : TilePlace). mapRes (headAt (c .«min_zoom») (c .«max_zoom») (c .«max_zoom»)) (intervalHead b (c .«min_zoom») (c .«max_zoom») m (c .at))) d
         ∙ rw (le-leb (a .interval .min) (a .interval .max) (located-ordered b i grid number m a z o))
-        (ap (mapRes (headAt (a .interval .min) (a .interval .max) (a .interval .max))) (at-cut (tileHead-end b (rowsOfInterval (a .interval .min) (a .interval .max))) m (a .entry .absolute) small))
+        (ap (mapRes (headAt (a .interval .min) (a .interval .max) (a .interval .max))) (tileHead-cuts b (rowsOfInterval (a .interval .min) (a .interval .max)) .at m (a .entry .absolute) small))
 
     pub start-no : (x y : Refusal) → hd ≡ head-read.Refused x → y ≡ headRefusal hd → refused y ≡ tileStart b i grid number m
     unfolding tileStart

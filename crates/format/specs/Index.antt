@@ -10,6 +10,7 @@ use Rattle.parsing.specs.Parse.{Res, ok, no, Parser, andThen, mapRes, _>>=_, re
 use Rattle.parsing.specs.Good.{Good, goods}
 use Rattle.byte_source.specs.BigEndian.{bigEndian, bytes}
 use Rattle.format.specs.Header.{Interval, between}
+use Rattle.format.specs.CutOff.{ofIndex}
 
 -- a result that no read goes on from: it has no next place, and 0 stands there
 abbrev pub answer : {A : Type 0} → A → Res A
@@ -87,14 +88,14 @@ pub record Entry : Type 0 where
 
 unfoldable pub entry : ℕ → Parser Entry
 entry start = do
-  n ← bigEndian 5
+  n ← ofIndex (bigEndian 5)
   return (record { water = leb (2 ^ 39) n; offset = n % 2 ^ 39; absolute = start + n % 2 ^ 39 })
 
 -- the entries stand at the sub file's start, in debug maps behind its signature
 abbrev pub entryAt : Bool → ℕ → ℕ → ℕ
 entryAt d start tile = start + cond d 16 0 + 5 * tile
 
--- grid (14), tile (8), entry (1), in the sub file with this start; d is the debug flag
+-- grid (14), tile (8), entry (19), in the sub file with this start; d is the debug flag
 unfoldable pub entryIn : Bool → ℕ → Grid → ℕ → List ℕ → Res Entry
 entryIn d start g tile m =
     andThen (gridTiles g) (λ n _. cond (ltb tile n) (entry start m (entryAt d start tile)) (no 8 []))
@@ -108,7 +109,7 @@ pub record Located : Type 0 where
   pub interval : Interval
   pub entry : Entry
 
--- grid (14), tile (8), entry (1), and last the interval (13)
+-- grid (14), tile (8), entry (19), and last the interval (13)
 unfoldable pub locateIn : Bool → Interval → Grid → ℕ → List ℕ → Res Located
 locateIn d z g tile m =
     andThen (entryIn d (z .start) g tile m) (λ n _.

@@ -1,3 +1,4 @@
+pub mod CutOff
 pub mod Header
 pub mod TagTable
 pub mod Kinds

@@ -4,13 +4,17 @@ use Prim.Native.Nat.{ℕ, suc, _-_, max, min}
 use mathlib.Core.Bool.{Bool}
 use mathlib.Core.List.{List, []}
 use lib.Dec.{leb}
-use Rattle.parsing.specs.Parse.{Parser, fail, pick}
+use Rattle.parsing.specs.Parse.{Parser, fail, pick, many}
 use Rattle.parsing.specs.Good.{Good, goods, total}
-use Rattle.format.specs.Tile.{Row, zoomTable, zoomTable-good, TileHead, tileHead}
+use Rattle.format.specs.Tile.{Row, row, zoomTable, zoomTable-good, TileHead, tileHead}
 
 -- a row for each level from low to high
 abbrev pub rowsOfInterval : ℕ → ℕ → ℕ
 rowsOfInterval low high = suc (high - low)
+
+-- with 1 for a map that ends in it, as numbers are read; the table itself has 20
+unfoldable pub numbersOfTable : ℕ → ℕ → Parser (List Row)
+numbersOfTable low high = pick (leb low high) (many row (rowsOfInterval low high)) (fail 13 [])
 
 unfoldable pub intervalTable : ℕ → ℕ → Parser (List Row)
 intervalTable low high = pick (leb low high) (zoomTable (rowsOfInterval low high)) (fail 13 [])

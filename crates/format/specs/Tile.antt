@@ -10,13 +10,14 @@ use lib.Dec.{ltb}
 use lib.IntN.{ℤ, pos, _-ℤ_}
 use lib.ListN.{length}
 use Rattle.parsing.specs.Parse.{Res, ok, no, Parser, bind, _>>=_, return, fail, pick, many, here, byte, Part, part, Maybe, none, some, optional}
-use Rattle.parsing.specs.Good.{Good, Strict, Post, goods, stricts, bind-good, return-good, strict-left, strict-right, bind-post}
+use Rattle.parsing.specs.Good.{Good, Strict, Post, goods, stricts, bind-good, return-good, instead-strict, strict-left, strict-right, bind-post}
 use Rattle.byte_source.specs.BigEndian.{bigEndian, bytes}
 use Rattle.utils.specs.Vbe.{unsigned, signed, text, numbers, numbers-strict, unsigned-strict}
 use Rattle.tag.specs.Value.{value, value-good}
 use Rattle.tag.specs.declared.Kind.{Kind}
 use Rattle.tag.specs.declared.Kind.the-variants.{Nothing}
 use Rattle.format.specs.Header.{bit}
+use Rattle.format.specs.CutOff.{whereRead, whereByte, ofHead}
 use Rattle.format.specs.WayData.{Node, node, wayData, node-good, wayData-good, node-strict}
 
 -- the points and ways of a zoom level
@@ -32,7 +33,7 @@ row = do
 
 -- a row for each zoom level
 unfoldable pub zoomTable : ℕ → Parser (List Row)
-zoomTable n = many row n
+zoomTable n = ofHead whereByte (many row n)
 
 -- in debug maps, 32 bytes in front of a tile, a point and a way
 unfoldable pub debugSignature : Bool → Parser (Maybe Part)
@@ -46,9 +47,9 @@ pub record TileHead : Type 0 where
 
 unfoldable pub tileHead : Bool → ℕ → Parser TileHead
 tileHead debug rows = do
-  g ← debugSignature debug
+  g ← ofHead whereRead (debugSignature debug)
   t ← zoomTable rows
-  o ← unsigned
+  o ← ofHead whereByte unsigned
   return (record { signature = g; table = t; offset = o })
 
 -- an id of one of n tags
@@ -215,7 +216,7 @@ tileHead-good debug rows = search (numbers, debugSignature-good, zoomTable-good)
 
 pub tileHead-strict : (debug : Bool) (rows : ℕ) → Strict (tileHead debug rows)
 unfolding tileHead
-tileHead-strict debug rows = search (strict-right, strict-left, unsigned-strict, numbers, debugSignature-good, zoomTable-good) depth 12
+tileHead-strict debug rows = search (strict-right, strict-left, instead-strict, unsigned-strict, numbers, debugSignature-good, zoomTable-good) depth 12
 
 pub tagId-good : (n : ℕ) → Good (tagId n)
 unfolding tagId

@@ -2,19 +2,20 @@
 use Prim.Native.Nat.{ℕ, _+_, _*_, _%_, _^_, _≤_, _<_}
 use native.Mathlib.Nat.{add-assoc}
 use native.Mathlib.Omega.{arith}
-use mathlib.Core.Path.{_≡_, sym, ap, _∙_}
+use mathlib.Core.Path.{_≡_, refl, sym, ap, _∙_}
 use mathlib.Core.Bool.{Bool, true, false, cond}
-use mathlib.Core.List.{List, []}
-use lib.Dec.{leb, ltb, lit≤}
+use mathlib.Core.List.{List, [], _∷_}
+use lib.Dec.{leb, ltb, eqb, lit≤}
 use lib.ListN.{length}
 use borrow.Author.Tests.{lt-ltb, le-ltb}
 use Rattle.parsing.specs.Parse.{Res, ok, no, Parser, andThen}
 use Rattle.parsing.specs.Good.{ok-val, no-ok}
-use Rattle.parsing.proofs.Ends.{PastEnd, bind-end}
-use Rattle.error.specs.Refusals.{refused}
+use Rattle.parsing.specs.Parse.{renumbered}
+use Rattle.error.specs.Refusals.{refused, numberOf, inIndex}
+use Rattle.error.proofs.RefusalLaws.{in-index}
 use Rattle.error.specs.declared.Refusal.{Refusal}
 use Rattle.arithmetic.specs.Cut.{cut}
-use Rattle.arithmetic.proofs.CutLaws.{at-cut}
+use Rattle.arithmetic.proofs.CutLaws.{Cuts, cuts-bind, cuts-instead, cut-fits}
 use Rattle.byte_source.specs.Answers.{numberRes, numberRefusal}
 use Rattle.byte_source.specs.BigEndian.{bigEndian}
 use Rattle.byte_source.specs.declared.NumberRead.{NumberRead}
@@ -52,23 +53,29 @@ entry-held n start absolute h = rw h
 
 -- the entry that was read, or not
 module _ (m : List ℕ) (start at : ℕ) (g : NumberRead) (q : numberRes g ≡ bigEndian 5 m at) where
-  read-by : (g′ : NumberRead) → g ≡ g′ → heldRes (andThen (numberRes g′) (λ n e. ok (record { water = leb (2 ^ 39) n; offset = n % 2 ^ 39; absolute = start + n % 2 ^ 39 }) e)) ≡ heldRes (entry start m at)
+  read-by : (g′ : NumberRead) → g ≡ g′ → heldRes (andThen (renumbered 19 (cut at) (numberRes g′)) (λ n e. ok (record { water = leb (2 ^ 39) n; offset = n % 2 ^ 39; absolute = start + n % 2 ^ 39 }) e)) ≡ heldRes (entry start m at)
   unfolding entry
-  read-by g′ h = ap (λ r. heldRes (andThen r (λ n e. ok (record { water = leb (2 ^ 39) n; offset = n % 2 ^ 39; absolute = start + n % 2 ^ 39 }) e))) (ap numberRes (sym h) ∙ q)
+  read-by g′ h = ap (λ r. heldRes (andThen (renumbered 19 (cut at) r) (λ n e. ok (record { water = leb (2 ^ 39) n; offset = n % 2 ^ 39; absolute = start + n % 2 ^ 39 }) e))) (ap numberRes (sym h) ∙ q)
 
-  pub read-refused : (e′ e : Refusal) → g ≡ number.Refused e → e′ ≡ numberRefusal g → refused e′ ≡ heldRes (entry start m at)
-  read-refused e′ e h p = ap refused (p ∙ ap numberRefusal h) ∙ read-by (number.Refused e) h
+  held-no : (c : Bool) (e : Refusal) → cond c (no 19 (cut at ∷ [])) (refused e) ≡ heldRes (andThen (cond c (no 19 (cut at ∷ [])) (refused e)) (λ n x. ok (record { water = leb (2 ^ 39) n; offset = n % 2 ^ 39; absolute = start + n % 2 ^ 39 }) x))
+  held-no true e = refl
+  held-no false e = refl
+
+  pub read-refused : (e″ e′ e : Refusal) → at < 2 ^ 64 → g ≡ number.Refused e → e′ ≡ numberRefusal g → e″ ≡ inIndex at e′ → refused e″ ≡ heldRes (entry start m at)
+  read-refused e″ e′ e l h p k =
+      ap refused (k ∙ ap (inIndex at) (p ∙ ap numberRefusal h) ∙ ap (λ x. inIndex x e) (sym (cut-fits at l))) ∙ in-index (cut at) e ∙ held-no (eqb (numberOf e) 1) e
+      ∙ read-by (number.Refused e) h
 
   pub read-value : (n next absolute : ℕ) → g ≡ number.Value n next → absolute ≡ cut (start + n % 549755813888) → ok (record { «is_water» = leb 549755813888 n; offset = n % 549755813888; «offset_abs» = absolute }) 0 ≡ heldRes (entry start m at)
   read-value n next absolute h k = entry-held n start absolute k ∙ read-by (number.Value n next) h
 
 -- a read at a place that the code holds cut is the read at the true place
-entry-end : (start : ℕ) → PastEnd (entry start)
+entry-cuts : (start : ℕ) → Cuts (entry start)
 unfolding entry
-entry-end start = bind-end _ (bigEndian-end 5 (lit≤ tt))
+entry-cuts start = cuts-bind _ (cuts-instead 19 (bigEndian-end 5 (lit≤ tt)))
 
 pub entry-cut : {B : Type 0} (m : List ℕ) (start place at : ℕ) (f : Entry → ℕ → Res B) (x : Res B) → length m < 2 ^ 64 → at ≡ cut place → x ≡ andThen (entry start m at) f → x ≡ andThen (entry start m place) f
-entry-cut m start place at f x l h e = e ∙ ap (λ r. andThen r f) (ap (entry start m) h ∙ at-cut (entry-end start) m place l)
+entry-cut m start place at f x l h e = e ∙ ap (λ r. andThen r f) (ap (entry start m) h ∙ entry-cuts start .at m place l)
 
 -- the entry of a tile, by the answer of its grid
 module _ (d : Bool) (start : ℕ) (g : TileGrid) (tile : ℕ) (m : List ℕ) (r : GridRead) (q : gridRes r ≡ gridTiles g) where
@@ -97,16 +104,7 @@ module _ (d : Bool) (g : TileGrid) (tile : ℕ) (m : List ℕ) (f : IntervalRead
   unfolding tileIndexEntry
   entry-found z x h p = p ∙ ap (λ y. heldRes (tileIndexEntry d (intervalFound y) g tile m)) (sym h)
 
--- for callers: what a definition reads at the entry's tile, the code may read at the place that it holds
-pub entry-ok : {B : Type 0} (g : EntryRead) (v : TileIndexEntry) (m : List ℕ) (r : Res Entry) (body : Bool → Parser B) (x : Res B) → entryRes g ≡ heldRes r → g ≡ read.Entry v → length m < 2 ^ 64 → ((water : Bool) → PastEnd (body water)) → x ≡ body (v .«is_water») m (v .«offset_abs») → x ≡ andThen r (λ e _. body (e .water) m (e .absolute))
-entry-ok {B = B} g v m r body x e h l p q = go r (ap entryRes (sym h) ∙ e)
-  where
-    go : (r : Res Entry) → ok v 0 ≡ heldRes r → x ≡ andThen r (λ e _. body (e .water) m (e .absolute))
-    go (ok a n) d =
-        let c : v ≡ heldEntry a = ok-val d in
-        q ∙ ap (λ (u : TileIndexEntry). body (u .«is_water») m (u .«offset_abs»)) c ∙ at-cut (p (a .water)) m (a .absolute) l
-    go (no n w) d = no-ok (sym d)
-
+-- for callers
 pub entry-no : {B : Type 0} (g : EntryRead) (e′ e : Refusal) (r : Res Entry) (f : Entry → ℕ → Res B) → entryRes g ≡ heldRes r → g ≡ read.Refused e → e′ ≡ entryRefusal g → refused e′ ≡ andThen r f
 entry-no {B = B} g e′ e r f q h p = ap refused (p ∙ sym (entry-refused g e h)) ∙ go r (ap entryRes (sym h) ∙ q)
   where

@@ -244,7 +244,7 @@ fn read_entry(map: &[u8], start: u64, at: usize) -> EntryRead
 {
     let got = byte_source::read_u40_be(map, at);
     let NumberRead::Value(n, _) = got else {
-        return EntryRead::Refused(byte_source::number_refusal(got));
+        return EntryRead::Refused(error::in_index(byte_source::number_refusal(got), at as u64));
     };
     let offset = n % 549755813888;
     let absolute = arithmetic::saturating_add_usize(start as usize, offset as usize);
@@ -269,7 +269,7 @@ pub fn entry_in(map: &[u8], debug: bool, start: u64, grid: Grid, tile: usize) ->
     read_entry(map, start, entry_place(debug, start, tile))
 }
 
-// The entry of a tile. Refused in this order: sub file (8), grid (14), tile (8), the map's end (1).
+// The entry of a tile. Refused in this order: sub file (8), grid (14), tile (8), the map's end (19).
 pub fn tile_index_entry(
     map: &[u8],
     debug: bool,

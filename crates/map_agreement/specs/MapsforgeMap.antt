@@ -15,7 +15,7 @@ use Rattle.agreement.specs.MapLayout.{MapLayout}
 use Rattle.agreement.specs.TileFormat.{tileFormat}
 use Rattle.map_agreement.specs.TileView.{tileView}
 
--- the tile's entry in its sub file: grid (14), tile (8), entry (1), interval (13)
+-- the tile's entry in its sub file: grid (14), tile (8), entry (19), interval (13)
 abbrev pub entryOf : Grid → (number : ℕ) → Interval → Parser Located
 entryOf g number z =
     pick (goodGrid g)

@@ -8,7 +8,7 @@ use lib.ListN.{length, getD, take, drop}
 use native.Mathlib.Omega.{arith}
 use borrow.Author.Needs.{needs}
 use borrow.Author.Tests.{le-leb, lt-leb, le-ltb, lt-ltb, eq-eqb, ne-eqb}
-use Rattle.parsing.specs.Parse.{Res, ok, no, andThen, byte, chunk}
+use Rattle.parsing.specs.Parse.{Res, ok, no, andThen, byte, chunk, renumbered}
 
 -- a read whose answer g is known to be g′: what is left is the rest of the definition at g′
 pub step : {A B G : Type 0} (res : G → Res A) {g g′ : G} (r : Res A) (f : A → ℕ → Res B) {x : Res B} → res g ≡ r → g ≡ g′ → x ≡ andThen (res g′) f → x ≡ andThen r f
@@ -51,6 +51,14 @@ module _ (s : List ℕ) (at n : ℕ) where
 
   pub chunk-past : 1 ≤ n → at ≤ length s → length s - at < n → no 1 [] ≡ chunk n s at
   chunk-past h l k = fits-not h (omega arith)
+
+-- a refusal under another number is handed up
+pub renumbered-no : {A B : Type 0} (n w k : ℕ) (v : List ℕ) (f : A → ℕ → Res B) → renumbered {A = B} n w (no k v) ≡ andThen (renumbered {A = A} n w (no k v)) f
+renumbered-no n w k v f = go (eqb k 1)
+  where
+    go : (c : Bool) → cond c (no n (w ∷ [])) (no k v) ≡ andThen (cond c (no n (w ∷ [])) (no k v)) f
+    go true = refl
+    go false = refl
 
 -- a definition whose value is put through another
 pub then-then : {A B C : Type 0} (r : Res A) (f : A → ℕ → Res B) (g : B → ℕ → Res C) (x : Res C) → x ≡ andThen r (λ a e. andThen (f a e) g) → x ≡ andThen (andThen r f) g

@@ -6,10 +6,10 @@ use mathlib.Core.List.{List, [], _∷_, _++_}
 use Prim.Native.Nat.{ℕ, zero, suc, _+_, _-_, _≤_, _<_, max}
 use native.Mathlib.Nat.{le-refl, le-trans, le-add-right, lt-of-lt-of-le}
 use native.Mathlib.Omega.{arith}
-use lib.Dec.{T, leb, leb→le, le→leb, ltb, ltb→lt, lt→ltb}
+use lib.Dec.{T, leb, leb→le, le→leb, ltb, ltb→lt, lt→ltb, eqb}
 use lib.ListN.{length, getD, take, drop, length-take, length-drop}
 use lib.Seq.{ext-getD, getD-take, getD-drop}
-use Rattle.parsing.specs.Parse.{Res, ok, no, Parser, andThen, bind, return, fail, pick, many, here, seek, byte, chunk, Part, part, Maybe, none, some, optional}
+use Rattle.parsing.specs.Parse.{Res, ok, no, Parser, andThen, bind, return, fail, pick, many, here, seek, byte, chunk, renumbered, instead, Part, part, Maybe, none, some, optional}
 
 -- two maps of one length have the same bytes from f up to t
 pub record Agree (m m′ : List ℕ) (f t : ℕ) : Type 0 where
@@ -160,6 +160,25 @@ unfolding optional
 optional-good true g = bind-good g (λ a. return-good (some a))
 optional-good false g = return-good none
 
+-- a success is the same under another number
+pub renumbered-ok : {A : Type 0} (n w : ℕ) (r : Res A) (a : A) (e : ℕ) → renumbered n w r ≡ ok a e → r ≡ ok a e
+renumbered-ok n w (ok b x) a e h = h
+renumbered-ok n w (no k v) a e h = go (eqb k 1) h
+  where
+    go : {C : Type 0} (c : Bool) → cond c (no n (w ∷ [])) (no k v) ≡ ok a e → C
+    go true h = no-ok h
+    go false h = no-ok h
+
+pub instead-good : {A : Type 0} (n : ℕ) (w : List ℕ → ℕ → ℕ) {p : Parser A} → Good p → Good (instead n w p)
+instead-good n w {p} g = record {
+  forth = λ m i a e h. g .forth m i a e (renumbered-ok n (w m i) (p m i) a e h);
+  bound = λ m i a e h. g .bound m i a e (renumbered-ok n (w m i) (p m i) a e h);
+  near = λ m m′ i a e s h. let k = g .near m m′ i a e s (renumbered-ok n (w m i) (p m i) a e h) in rw k;
+}
+
+pub instead-strict : {A : Type 0} (n : ℕ) (w : List ℕ → ℕ → ℕ) {p : Parser A} → Strict p → Strict (instead n w p)
+instead-strict n w {p} s = record { more = λ m i a e h. s .more m i a e (renumbered-ok n (w m i) (p m i) a e h) }
+
 pub byte-strict : Strict byte
 byte-strict = record { more = λ m i a e h. let r = guarded (ltb i (length m)) (getD m i 0) (i + 1) a e h in omega (arith, r .next) }
 
@@ -214,9 +233,9 @@ pub pick-post : {A : Type 0} {p q : Parser A} {Q : A → ℕ → Type 0} (c : Bo
 pick-post true gp gq = gp refl
 pick-post false gp gq = gq refl
 
-pub ruleset goods = (bind-good, return-good, fail-good, pick-good, many-good, here-good, byte-good, chunk-good, part-good, optional-good)
+pub ruleset goods = (bind-good, return-good, fail-good, pick-good, many-good, here-good, byte-good, chunk-good, part-good, optional-good, instead-good)
 
-pub ruleset stricts = (goods, byte-strict, strict-left, strict-right, strict-pick, strict-fail)
+pub ruleset stricts = (goods, byte-strict, strict-left, strict-right, strict-pick, strict-fail, instead-strict)
 
 -- a success takes as many bytes as f says at least, so that counts of what was read fit
 pub record Weight {A : Type 0} (p : Parser A) (f : A → ℕ) : Type 0 where

@@ -3,7 +3,7 @@
 use mathlib.Core.Bool.{Bool, true, false, cond}
 use mathlib.Core.List.{List, [], _∷_, _++_}
 use Prim.Native.Nat.{ℕ, zero, suc, _+_}
-use lib.Dec.{leb, ltb}
+use lib.Dec.{leb, ltb, eqb}
 use lib.ListN.{length, getD, take, drop}
 
 infixl 1 _>>=_
@@ -64,6 +64,15 @@ byte m i = cond (ltb i (length m)) (ok (getD m i 0) (i + 1)) (no 1 [])
 abbrev pub chunk : ℕ → Parser (List ℕ)
 chunk zero m i = ok [] i
 chunk (suc n) m i = cond (leb (i + suc n) (length m)) (ok (take (suc n) (drop i m)) (i + suc n)) (no 1 [])
+
+-- a result, but that a map that ends too early is refused by number n with the value w
+abbrev pub renumbered : {A : Type 0} → (n w : ℕ) → Res A → Res A
+renumbered n w (ok a e) = ok a e
+renumbered n w (no k v) = cond (eqb k 1) (no n (w ∷ [])) (no k v)
+
+-- the same parser, but that a map that ends too early is refused by number n, with a value that the map and the read's place give
+abbrev pub instead : {A : Type 0} → (n : ℕ) → (List ℕ → ℕ → ℕ) → Parser A → Parser A
+instead n w p m i = renumbered n (w m i) (p m i)
 
 -- a part of the map: where it starts, how long it is, and its bytes
 pub record Part : Type 0 where

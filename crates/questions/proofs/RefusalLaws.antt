@@ -2,24 +2,30 @@
 use Prim.Native.Nat.{ℕ}
 use mathlib.Core.Path.{_≡_, refl, sym, ap, _∙_}
 use mathlib.Core.List.{List, [], _∷_}
+use borrow.Author.Needs.{needs}
+use borrow.Author.Tests.{eq-eqb, ne-eqb}
 use types.Run.{OneOf, miss}
 use denote.Enum.Declared.{tagOf}
 use Rattle.error.specs.Refusals.{numberOf, valuesOf}
 use Rattle.error.specs.declared.Lengths.{Lengths}
 use Rattle.error.specs.declared.Refusal.{Refusal}
-use Rattle.error.specs.declared.Refusal.the-variants.{Source, InvalidMagic, UnsupportedVersion, InvalidBoundingBox, InvalidHeaderSize, InvalidIndexSignature, InvalidTagId, InvalidTileIndex, TextTooLong, TooManyNodes, NumberTooLong, CoordinateTooLarge, ReversedInterval, InvalidGrid, TooShort, OutOfTurn, InvalidFeature, ZoomTooLarge}
+use Rattle.error.specs.declared.Refusal.the-variants.{Source, InvalidMagic, UnsupportedVersion, InvalidBoundingBox, InvalidHeaderSize, InvalidIndexSignature, InvalidTagId, InvalidTileIndex, TextTooLong, TooManyNodes, NumberTooLong, CoordinateTooLarge, ReversedInterval, InvalidGrid, TooShort, OutOfTurn, InvalidFeature, ZoomTooLarge, IndexCutOff, TileHeadCutOff}
 use Rattle.error.proofs.Refusal as declared
 use Rattle.report.specs.declared.Words.{Words}
 use Rattle.report.specs.Words.{noWords, pushed}
 use Rattle.report.proofs.WordLaws.{chains}
-use Rattle.questions.specs.Answers.{pushedAll, refusalWords}
+use Rattle.questions.specs.Answers.{pushedAll, inRust, refusalWords}
 use lib.ListN.{take}
 
--- the cases that hold no values, by the places of their variants
+-- the cases that have no values in the Rust, by the places of their variants
 abbrev plain : List ℕ
-plain = 0 ∷ 1 ∷ 3 ∷ 4 ∷ 5 ∷ 7 ∷ 8 ∷ 9 ∷ 10 ∷ 11 ∷ 12 ∷ 13 ∷ 15 ∷ 16 ∷ 17 ∷ []
+plain = 0 ∷ 1 ∷ 3 ∷ 4 ∷ 5 ∷ 7 ∷ 8 ∷ 9 ∷ 10 ∷ 11 ∷ 12 ∷ 13 ∷ 15 ∷ 16 ∷ 17 ∷ 18 ∷ 19 ∷ []
 
-no-values : (r : Refusal) → OneOf plain (tagOf declared.the-type r) → valuesOf r ≡ []
+-- the values
+abbrev valuesThere : Refusal → List ℕ
+valuesThere r = inRust (numberOf r) [] (take 3 (valuesOf r))
+
+no-values : (r : Refusal) → OneOf plain (tagOf declared.the-type r) → valuesThere r ≡ []
 no-values Source h = refl
 no-values InvalidMagic h = refl
 no-values (UnsupportedVersion v) h = absurd (miss plain 2 tt h)
@@ -38,22 +44,37 @@ no-values (TooShort l) h = absurd (miss plain 14 tt h)
 no-values OutOfTurn h = refl
 no-values InvalidFeature h = refl
 no-values ZoomTooLarge h = refl
+no-values (IndexCutOff i) h = refl
+no-values (TileHeadCutOff i) h = refl
 
-module _ (r : Refusal) (w : Words) (e : w ≡ pushed noWords (numberOf r)) where
-  valued : (xs : List ℕ) (x : Words) → take 3 (valuesOf r) ≡ xs → x ≡ pushedAll w xs → x ≡ refusalWords r
+-- the number, by the tests that the code makes
+module _ (r : Refusal) (n : ℕ) (h : n ≡ numberOf r) where
+  pub cut-index : n ≡ 19 → 1 ≡ inRust (numberOf r) 1 (numberOf r)
+  cut-index e = rw (eq-eqb (numberOf r) 19 (sym h ∙ e))
+
+  pub cut-head : (n ≡ 19 → ⊥) → n ≡ 20 → 1 ≡ inRust (numberOf r) 1 (numberOf r)
+  cut-head f e = rw (ne-eqb (numberOf r) 19 (λ k. f (h ∙ k)), eq-eqb (numberOf r) 20 (sym h ∙ e))
+
+  pub cut-neither : (n ≡ 19 → ⊥) → (n ≡ 20 → ⊥) → n ≡ inRust (numberOf r) 1 (numberOf r)
+  cut-neither f g = rw (ne-eqb (numberOf r) 19 (λ k. f (h ∙ k)), ne-eqb (numberOf r) 20 (λ k. g (h ∙ k))) h
+
+pub ruleset rust-numbers = (needs, cut-index, cut-head, cut-neither)
+
+module _ (r : Refusal) (w : Words) (e : w ≡ pushed noWords (inRust (numberOf r) 1 (numberOf r))) where
+  valued : (xs : List ℕ) (x : Words) → valuesThere r ≡ xs → x ≡ pushedAll w xs → x ≡ refusalWords r
   unfolding refusalWords
-  valued xs x h p = p ∙ ap (pushedAll w) (sym h) ∙ ap (λ v. pushedAll v (take 3 (valuesOf r))) e
+  valued xs x h p = p ∙ ap (pushedAll w) (sym h) ∙ ap (λ v. pushedAll v (valuesThere r)) e
 
   pub refused-plain : OneOf plain (tagOf declared.the-type r) → w ≡ refusalWords r
-  refused-plain h = valued [] w (ap (take 3) (no-values r h)) refl
+  refused-plain h = valued [] w (no-values r h) refl
 
   pub refused-version : (v : ℕ) (x : Words) → r ≡ UnsupportedVersion v → x ≡ pushed w v → x ≡ refusalWords r
-  refused-version v x h p = valued (v ∷ []) x (ap (λ y. take 3 (valuesOf y)) h) p
+  refused-version v x h p = valued (v ∷ []) x (ap valuesThere h) p
 
   pub refused-tag : (i : ℕ) (x : Words) → r ≡ InvalidTagId i → x ≡ pushed w i → x ≡ refusalWords r
-  refused-tag i x h p = valued (i ∷ []) x (ap (λ y. take 3 (valuesOf y)) h) p
+  refused-tag i x h p = valued (i ∷ []) x (ap valuesThere h) p
 
   pub refused-lengths : (l : Lengths) (x : Words) → r ≡ TooShort l → x ≡ pushedAll w (l .list1 ∷ l .list2 ∷ l .list3 ∷ []) → x ≡ refusalWords r
-  refused-lengths l x h p = valued (l .list1 ∷ l .list2 ∷ l .list3 ∷ []) x (ap (λ y. take 3 (valuesOf y)) h) p
+  refused-lengths l x h p = valued (l .list1 ∷ l .list2 ∷ l .list3 ∷ []) x (ap valuesThere h) p
 
 pub ruleset refusals = (chains, refused-plain, refused-version, refused-tag, refused-lengths)

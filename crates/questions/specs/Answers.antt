@@ -1,6 +1,8 @@
 -- The simplest answers as words (compare/src/answer.rs has the same).
 use Prim.Native.Nat.{ℕ}
+use mathlib.Core.Bool.{cond}
 use mathlib.Core.List.{List, [], _∷_}
+use lib.Dec.{eqb}
 use lib.ListN.{take}
 use Rattle.error.specs.Refusals.{numberOf, valuesOf}
 use Rattle.error.specs.declared.Refusal.{Refusal}
@@ -15,6 +17,10 @@ pushedAll w (x ∷ xs) = pushedAll (pushed w x) xs
 abbrev pub answered : List ℕ → Words
 answered xs = pushedAll (pushed noWords 0) xs
 
--- a refusal is document 01's number and its values; of the six lengths needed those of the first three lists
+-- what stands for document 01's refusal in the Rust: a map that ends in an index entry (19) or in a tile's head (20) is its `Source`
+abbrev pub inRust : {A : Type 0} → (number : ℕ) → (source other : A) → A
+inRust n a b = cond (eqb n 19) a (cond (eqb n 20) a b)
+
+-- a refusal is its number and its values; of the six lengths needed those of the first three lists
 unfoldable pub refusalWords : Refusal → Words
-refusalWords r = pushedAll (pushed noWords (numberOf r)) (take 3 (valuesOf r))
+refusalWords r = pushedAll (pushed noWords (inRust (numberOf r) 1 (numberOf r))) (inRust (numberOf r) [] (take 3 (valuesOf r)))

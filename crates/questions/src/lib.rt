@@ -11,8 +11,9 @@ ghost use mathlib.Core.Path.{_≡_};
 ghost use mathlib.Core.Bool.{cond};
 ghost use mathlib.Core.List.{[], _∷_};
 ghost use Rattle.questions.specs.Numbers.{byteAt, numberAt, intAt};
+ghost use Rattle.error.specs.Refusals.{numberOf};
 ghost use Rattle.tag.specs.Tag.{letterOf};
-ghost use Rattle.questions.specs.Answers.{pushedAll, answered, refusalWords};
+ghost use Rattle.questions.specs.Answers.{pushedAll, answered, inRust, refusalWords};
 
 // The numbers that stand at a place of a question; 0 where it ends too early.
 pub fn byte_at(question: &[u8], at: usize) -> u8
@@ -57,11 +58,25 @@ fn push_lengths(words: Words, l: Lengths) -> Words
     report::push(report::push(report::push(words, l.list1), l.list2), l.list3)
 }
 
-// A refusal: its number, and its values; of the lengths needed those of the first three lists.
+// The number of what stands for a refusal in the Rust: a map that ends in an index entry or in a tile's head is its `Source`.
+fn rust_number(refusal: Refusal) -> u8
+    ensures { λ r. ⌜ r ≡ inRust (numberOf refusal) 1 (numberOf refusal) ⌝ }
+{
+    let number = error::number_of(refusal);
+    if number == 19 {
+        return 1;
+    }
+    if number == 20 {
+        return 1;
+    }
+    number
+}
+
+// A refusal: its number in the Rust, and its values there; of the lengths needed those of the first three lists.
 pub fn refusal_words(refusal: Refusal) -> Words
     ensures { λ r. ⌜ r ≡ refusalWords refusal ⌝ }
 {
-    let words = report::push(report::no_words(), error::number_of(refusal) as u64);
+    let words = report::push(report::no_words(), rust_number(refusal) as u64);
     match refusal {
         Refusal::UnsupportedVersion(v) => report::push(words, v as u64),
         Refusal::InvalidTagId(i) => report::push(words, i),

@@ -8,12 +8,12 @@ use lib.ListN.{length}
 use borrow.Author.Needs.{needs}
 use borrow.Author.Tests.{le-leb}
 use Rattle.parsing.specs.Parse.{Res, ok, no, andThen, mapRes, many, Part, Maybe}
-use Rattle.parsing.specs.Good.{split, ok-val, ok-at, no-ok}
+use Rattle.parsing.specs.Good.{split, ok-val, ok-at, no-ok, renumbered-ok}
+use Rattle.format.specs.CutOff.{whereRead, whereByte, ofHead}
 use Rattle.parsing.proofs.Loops.{many-count}
 use Rattle.error.specs.Refusals.{refused, numberOf, valuesOf}
 use Rattle.error.specs.declared.Refusal.{Refusal}
 use Rattle.arithmetic.specs.Cut.{cut}
-use Rattle.arithmetic.proofs.CutLaws.{at-cut}
 use Rattle.utils.specs.Vbe.{unsigned}
 use Rattle.format.specs.Header.{Interval}
 use Rattle.format.specs.Index.{answer, answered, Grid, Located, locate}
@@ -44,8 +44,8 @@ use Rattle.tile_place.specs.declared.PlaceRead.{PlaceRead}
 use Rattle.tile_place.specs.declared.PlaceRead.the-variants as place
 use Rattle.tile_place.proofs.PlaceLaws.{located-ordered}
 use Rattle.agreement.specs.Collected.{Way, way, allExact, StoredTile, collect, cutPlace}
-use Rattle.agreement.proofs.CollectLaws.{collect-cut, collect-end}
-use Rattle.agreement.proofs.TileFormatLaws.{tile-laws, tileHead-end, head-end}
+use Rattle.agreement.proofs.CollectLaws.{collect-cut, collect-cuts}
+use Rattle.agreement.proofs.TileFormatLaws.{tile-laws, tileHead-cuts, head-end}
 use Rattle.tile_layout.specs.TileLayout.{formatOf}
 use Rattle.tile_layout.specs.declared.TileLayout.{TileLayout}
 use Rattle.tile_walk.specs.TileWalk.{waysRes, waysRefusal, exactWays, ForAllRows}
@@ -216,12 +216,12 @@ module _ (l : TileLayout) (low high : ℕ) (m : List ℕ) (at : ℕ) (o : low �
     rows-of : (k : format.TileHead) → head ≡ ok k n → (t : ZoomTableRead) → TableIs (rowsRead (l .debug) low high m at) t → shownRows t ≡ rowsOf (k .table)
     unfolding tileHead
     rows-of k e t b =
-        let s = split (debugSignature (l .debug) m at) (λ a x. andThen (zoomTable (rowsOfInterval low high) m x) (λ c y. andThen (unsigned m y) (λ d z. ok (record { signature = a; table = c; offset = d }) z))) k n e in
-        let u = split (zoomTable (rowsOfInterval low high) m (s .mid)) (λ c y. andThen (unsigned m y) (λ d z. ok (record { signature = s .val; table = c; offset = d }) z)) k n (s .second) in
-        let p = split (unsigned m (u .mid)) (λ d z. ok (record { signature = s .val; table = u .val; offset = d }) z) k n (u .second) in
+        let s = split (ofHead whereRead (debugSignature (l .debug)) m at) (λ a x. andThen (zoomTable (rowsOfInterval low high) m x) (λ c y. andThen (ofHead whereByte unsigned m y) (λ d z. ok (record { signature = a; table = c; offset = d }) z))) k n e in
+        let u = split (zoomTable (rowsOfInterval low high) m (s .mid)) (λ c y. andThen (ofHead whereByte unsigned m y) (λ d z. ok (record { signature = s .val; table = c; offset = d }) z)) k n (s .second) in
+        let p = split (ofHead whereByte unsigned m (u .mid)) (λ d z. ok (record { signature = s .val; table = u .val; offset = d }) z) k n (u .second) in
         let c : u .val ≡ k .table = ap (λ (a : format.TileHead). a .table) (ok-val (p .second)) in
         b .whole
-        ∙ ap (viewOr rowsOf noRows) (rows-read (s .val) (s .mid) (u .val) (u .mid) (s .first) (u .first))
+        ∙ ap (viewOr rowsOf noRows) (rows-read (s .val) (s .mid) (u .val) (u .mid) (renumbered-ok 20 (cut at) (debugSignature (l .debug) m at) (s .val) (s .mid) (s .first)) (u .first))
         ∙ ap rowsOf c
 
     pub collect-done : (b : Bool) (y : ℕ) (t : ZoomTableRead) → w ≡ ways-read.Value b y → TableIs (rowsRead (l .debug) low high m at) t
@@ -270,5 +270,5 @@ module _ (l : TileLayout) (i : Maybe Interval) (grid : Grid) (number : ℕ) (m :
             subst (λ (x : Res Tile). TileIs x r)
             (ap (λ (x : TilePlace). collectAt l (x .«min_zoom») (x .«max_zoom») (x .at) m) (ok-val d)
             ∙ ap (λ x. answered (mapRes (tileOf l (rowsOfInterval (a .interval .min) (a .interval .max)) m) x))
-            (at-cut (collect-end (formatOf l (rowsOfInterval (a .interval .min) (a .interval .max)) m) (tileHead-end (l .debug) (rowsOfInterval (a .interval .min) (a .interval .max)))) m (a .entry .absolute) small)) b
+            (collect-cuts (formatOf l (rowsOfInterval (a .interval .min) (a .interval .max)) m) (tileHead-cuts (l .debug) (rowsOfInterval (a .interval .min) (a .interval .max))) .at m (a .entry .absolute) small)) b
         go (no k v) d = no-ok (sym d)

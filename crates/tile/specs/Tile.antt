@@ -61,7 +61,7 @@ emptyTile = record {
 abbrev pub collectAt : TileLayout → (low high at : ℕ) → List ℕ → Res Tile
 collectAt l low high at m = answered (mapRes (tileOf l (rowsOfInterval low high) m) (collect (formatOf l (rowsOfInterval low high) m) m at))
 
--- sub file (8), grid (14), tile (8), entry (1), interval (13), then the tile's bytes
+-- sub file (8), grid (14), tile (8), entry (19), interval (13), then the tile's bytes
 unfoldable pub collectTile : TileLayout → Maybe Interval → Grid → (number : ℕ) → List ℕ → Res Tile
 collectTile l i g t m =
     andThen (locate (l .debug) i g t m) (λ a _.

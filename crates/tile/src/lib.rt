@@ -120,7 +120,7 @@ fn collect_at(map: &[u8], place: TilePlace, layout: TileLayout) -> TileRead
     }
 }
 
-// Refused in this order: sub file (8), grid (14), tile (8), entry (1), interval (13), then as the tile's bytes are read.
+// Refused in this order: sub file (8), grid (14), tile (8), entry (19), interval (13), then as the tile's bytes are read.
 pub fn read_tile(
     map: &[u8],
     layout: TileLayout,

@@ -7,6 +7,11 @@ use fields::OptionalSpanRead;
 use types::OptionalSpan;
 ghost use mathlib.Core.Path.{_≡_};
 ghost use Rattle.parsing.specs.Parse.{mapRes};
+ghost use Rattle.byte_source.specs.Answers.{numberRes};
+ghost use Rattle.utils.specs.Vbe.{unsigned};
+ghost use Rattle.fields.specs.Fields.{optionalSpanRes};
+ghost use Rattle.format.specs.CutOff.{whereRead, whereByte, ofHead};
+ghost use Rattle.format.specs.Tile.{debugSignature};
 ghost use Rattle.format.specs.Rows.{intervalHead};
 ghost use Rattle.tile_head.specs.TileHead.{headAt, headRes, headRefusal};
 
@@ -31,6 +36,28 @@ pub fn tile_head_refusal(got: TileHeadRead) -> Refusal
     }
 }
 
+// A tile's signature: 32 bytes at once.
+fn head_signature(map: &[u8], at: usize, debug: bool) -> OptionalSpanRead
+    ensures { λ r. ⌜ optionalSpanRes (now (map .entry)) r ≡ ofHead whereRead (debugSignature debug) (now (map .entry)) at ⌝ }
+{
+    let got = fields::read_signature(map, at, debug);
+    let OptionalSpanRead::Value(_, _) = got else {
+        return OptionalSpanRead::Refused(error::in_tile_head(fields::optional_span_refusal(got), at as u64));
+    };
+    got
+}
+
+// A number of a tile's head.
+fn head_number(map: &[u8], at: usize) -> NumberRead
+    ensures { λ r. ⌜ numberRes r ≡ ofHead whereByte unsigned (now (map .entry)) at ⌝ }
+{
+    let got = utils::read_vbe_u_int(map, at);
+    let NumberRead::Value(_, _) = got else {
+        return NumberRead::Refused(error::in_tile_head(byte_source::number_refusal(got), blocks::missing_byte(map, at)));
+    };
+    got
+}
+
 // The head of a tile of the levels from min to max, with the sums up to a zoom, and the place behind it. A reversed interval is
 // refused before any byte is read.
 pub fn read_tile_head(
@@ -46,7 +73,7 @@ pub fn read_tile_head(
     if max < min {
         return TileHeadRead::Refused(Refusal::ReversedInterval);
     }
-    let got = fields::read_signature(map, at, debug);
+    let got = head_signature(map, at, debug);
     let OptionalSpanRead::Value(signature, at) = got else {
         return TileHeadRead::Refused(fields::optional_span_refusal(got));
     };
@@ -54,7 +81,7 @@ pub fn read_tile_head(
     let SumsRead::Value(sums, at) = got else {
         return TileHeadRead::Refused(blocks::sums_refusal(got));
     };
-    let got = utils::read_vbe_u_int(map, at);
+    let got = head_number(map, at);
     let NumberRead::Value(offset, at) = got else {
         return TileHeadRead::Refused(byte_source::number_refusal(got));
     };

@@ -54,7 +54,7 @@ fn place_in(map: &[u8], debug: bool, interval: ZoomInterval, grid: Grid, tile: u
     })
 }
 
-// Refused in this order: sub file (8), grid (14), tile (8), the map's end (1), interval (13).
+// Refused in this order: sub file (8), grid (14), tile (8), the map's end (19), interval (13).
 pub fn find_tile(map: &[u8], debug: bool, found: IntervalRead, grid: Grid, tile: usize) -> PlaceRead
     ensures { λ r. ⌜ placeRes r ≡ mapRes placeOf (locate debug (intervalFound found) (gridOf grid) tile (now (map .entry))) ⌝ }
 {

@@ -10,7 +10,6 @@ use Rattle.parsing.specs.Good.{ok-val, no-ok}
 use Rattle.error.specs.Refusals.{refused}
 use Rattle.error.specs.declared.Refusal.{Refusal}
 use Rattle.arithmetic.specs.Cut.{cut}
-use Rattle.arithmetic.proofs.CutLaws.{at-cut}
 use Rattle.format.specs.Header.{Interval}
 use Rattle.format.specs.Index.{answer, answered, Grid, Located, locate}
 use Rattle.format.specs.Rows.{rowsOfInterval, rowsUpto, intervalHead}
@@ -26,7 +25,7 @@ use Rattle.tile_place.specs.declared.PlaceRead.the-variants as place
 use Rattle.tile_place.proofs.PlaceLaws.{located-ordered}
 use Rattle.agreement.specs.Stream.{State, openStream, freshStream}
 use Rattle.agreement.specs.TileFormat as tile
-use Rattle.agreement.proofs.TileFormatLaws.{tileHead-end}
+use Rattle.agreement.proofs.TileFormatLaws.{tileHead-cuts}
 use Rattle.tile_layout.specs.TileLayout.{formatOf}
 use Rattle.tile_layout.specs.declared.TileLayout.{TileLayout}
 use Rattle.visit.specs.Visit.{stateOf, openTile, openRes, freshAt, openedAt}
@@ -50,7 +49,7 @@ module _ (t : TileLayout) (i : Maybe Interval) (s : ℕ) (zoom : ℕ) (m : List 
   opened-is : (l : Located) → l .interval .min ≤ l .interval .max → openedAt (t .debug) s zoom (placeOf l) m ≡ opened l
   unfolding intervalHead
   opened-is l o =
-      rw (le-leb (l .interval .min) (l .interval .max) o, at-cut (tileHead-end (t .debug) (rowsOfInterval (l .interval .min) (l .interval .max))) m (l .entry .absolute) small)
+      rw (le-leb (l .interval .min) (l .interval .max) o, tileHead-cuts (t .debug) (rowsOfInterval (l .interval .min) (l .interval .max)) .at m (l .entry .absolute) small)
       (go (tileHead (t .debug) (rowsOfInterval (l .interval .min) (l .interval .max)) m (l .entry .absolute)))
     where
       go : (r : Res format.TileHead) → andThen r (λ a e. answer (freshAt s zoom (placeOf l) a e))

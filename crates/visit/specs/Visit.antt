@@ -58,7 +58,7 @@ turnState (turn.Waits w) z = waits (w .ways) (w .past) (w .body) z
 abbrev pub stateOf : Stream → State tile.TileEnd
 stateOf s = turnState (s .turn) (endOf (s .end))
 
--- opening: sub file (8), grid (14), tile (8), entry (1), interval (13), then the tile's head
+-- opening: sub file (8), grid (14), tile (8), entry (19), interval (13), then the tile's head
 unfoldable pub openTile : TileLayout → Maybe Interval → (subFile : ℕ) → Grid → (number zoom : ℕ) → List ℕ → Res (State tile.TileEnd)
 openTile l i s g t zoom m =
     andThen (locate (l .debug) i g t m) (λ a _.

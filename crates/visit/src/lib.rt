@@ -349,7 +349,7 @@ fn open_at(map: &[u8], place: TilePlace, debug: bool, sub_file: usize, zoom: u8)
 }
 
 // A stream of a tile at a zoom, which is clamped into the sub file's interval. Refused in this order: sub file (8), grid (14), tile (8),
-// entry (1), interval (13), then as the tile's head is read.
+// entry (19), interval (13), then as the tile's head is read.
 pub fn open(
     map: &[u8],
     layout: TileLayout,

@@ -8,7 +8,7 @@ use lib.ListN.{getD}
 use Rattle.error.specs.Refusals.{numberOf}
 use Rattle.error.specs.declared.Lengths.{Lengths}
 use Rattle.error.specs.declared.Refusal.{Refusal}
-use Rattle.error.specs.declared.Refusal.the-variants.{Source, InvalidMagic, UnsupportedVersion, InvalidBoundingBox, InvalidHeaderSize, InvalidIndexSignature, InvalidTagId, InvalidTileIndex, TextTooLong, TooManyNodes, NumberTooLong, CoordinateTooLarge, ReversedInterval, InvalidGrid, TooShort, OutOfTurn, InvalidFeature, ZoomTooLarge}
+use Rattle.error.specs.declared.Refusal.the-variants.{Source, InvalidMagic, UnsupportedVersion, InvalidBoundingBox, InvalidHeaderSize, InvalidIndexSignature, InvalidTagId, InvalidTileIndex, TextTooLong, TooManyNodes, NumberTooLong, CoordinateTooLarge, ReversedInterval, InvalidGrid, TooShort, OutOfTurn, InvalidFeature, ZoomTooLarge, IndexCutOff, TileHeadCutOff}
 use Rattle.types.specs.declared.OptionalSpan.{OptionalSpan}
 use Rattle.types.specs.declared.OptionalSpan.the-variants as span
 use Rattle.types.specs.declared.OptionalPosition.{OptionalPosition}
@@ -21,7 +21,7 @@ abbrev pub refusals : Lengths → List Refusal
 refusals v =
     Source ∷ InvalidMagic ∷ UnsupportedVersion (v .list1) ∷ InvalidBoundingBox ∷ InvalidHeaderSize ∷ InvalidIndexSignature ∷ InvalidTagId (v .list1) ∷
     InvalidTileIndex ∷ TextTooLong ∷ TooManyNodes ∷ NumberTooLong ∷ CoordinateTooLarge ∷ ReversedInterval ∷ InvalidGrid ∷ TooShort v ∷ OutOfTurn ∷
-    InvalidFeature ∷ ZoomTooLarge ∷ []
+    InvalidFeature ∷ ZoomTooLarge ∷ IndexCutOff (v .list1) ∷ TileHeadCutOff (v .list1) ∷ []
 
 abbrev pub refusalIn : ℕ → Lengths → Refusal
 refusalIn n v = getD (refusals v) (n - 1) Source
@@ -52,6 +52,8 @@ settled f a (TooShort l) = refl
 settled f a OutOfTurn = refl
 settled f a InvalidFeature = refl
 settled f a ZoomTooLarge = refl
+settled f a (IndexCutOff i) = refl
+settled f a (TileHeadCutOff i) = refl
 
 pub truth-back : (b : Bool) → truth (cond b 1 0) ≡ b
 truth-back true = refl

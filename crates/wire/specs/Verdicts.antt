@@ -6,7 +6,7 @@ use lib.IntN.{pos}
 use lib.Ieee.{Float, fin}
 use Rattle.error.specs.declared.Lengths.{Lengths}
 use Rattle.error.specs.declared.Refusal.{Refusal}
-use Rattle.error.specs.declared.Refusal.the-variants.{Source, InvalidMagic, UnsupportedVersion, InvalidBoundingBox, InvalidHeaderSize, InvalidIndexSignature, InvalidTagId, InvalidTileIndex, TextTooLong, TooManyNodes, NumberTooLong, CoordinateTooLarge, ReversedInterval, InvalidGrid, TooShort, OutOfTurn, InvalidFeature, ZoomTooLarge}
+use Rattle.error.specs.declared.Refusal.the-variants.{Source, InvalidMagic, UnsupportedVersion, InvalidBoundingBox, InvalidHeaderSize, InvalidIndexSignature, InvalidTagId, InvalidTileIndex, TextTooLong, TooManyNodes, NumberTooLong, CoordinateTooLarge, ReversedInterval, InvalidGrid, TooShort, OutOfTurn, InvalidFeature, ZoomTooLarge, IndexCutOff, TileHeadCutOff}
 use Rattle.types.specs.declared.OptionalSpan.{OptionalSpan}
 use Rattle.types.specs.declared.OptionalSpan.the-variants as span
 use Rattle.types.specs.declared.OptionalPosition.{OptionalPosition}
@@ -40,6 +40,8 @@ valuesIn (TooShort l) = l
 valuesIn OutOfTurn = noValues
 valuesIn InvalidFeature = noValues
 valuesIn ZoomTooLarge = noValues
+valuesIn (IndexCutOff i) = oneValue i
+valuesIn (TileHeadCutOff i) = oneValue i
 
 -- six values in front of an answer's words
 abbrev pub behind : Lengths → List ℕ → List ℕ

@@ -56,6 +56,8 @@ pub fn values_of(refusal: Refusal) -> Lengths
     match refusal {
         Refusal::UnsupportedVersion(version) => one_value(version as u64),
         Refusal::InvalidTagId(id) => one_value(id),
+        Refusal::IndexCutOff(place) => one_value(place),
+        Refusal::TileHeadCutOff(place) => one_value(place),
         Refusal::TooShort(lengths) => lengths,
         Refusal::Source => no_values(),
         Refusal::InvalidMagic => no_values(),

@@ -1,5 +1,4 @@
-use Rattle.types.proofs.BesideLaws.{beside-no}
-use Rattle.blocks.proofs.BlockLaws.{table-reversed, table-known, tables}
+use Rattle.blocks.proofs.CutOffLaws.{rows-in, rows-cut-off}
 use Rattle.blocks.proofs.read_zoom_table.Statement.{statement}
 use Rattle.blocks.proofs.read_zoom_table.Tie as tie
 
@@ -8,8 +7,11 @@ read-zoom-table-spec =
     tie.close
     (tie.spec
     (λ c κs. tt)
-    (λ c. beside-no _ _ _ _ _ _ (c .refused-table .ensures .0) (c .refused-table .ensures .1) (table-reversed _ _ _ _ (c .before .if1 .taken)))
-    (search tables)
-    (search tables)
-    (search tables)
-    (λ c. table-known _ _ _ _ _ (c .fill-rows .ensures) (c .before .if1 .left)))
+    (λ c. c .match .keys1)
+    (λ c. c .match .keys2)
+    (λ c κs. tt)
+    (λ c κs. tt)
+    (λ c κs. tt)
+    (λ c κs. tt)
+    (λ c. rows-cut-off _ _ _ _ _ (c .before .before .before .before .before .before .read-table-numbers .ensures) _ _ _ _ _ (c .before .before .before .before .enum-told2 .given .1) (c .before .before .before .end-refusal .ensures) (c .before .before .missing-byte .ensures) (c .before .in-tile-head .ensures) (c .refused-table .ensures .0) (c .refused-table .ensures .1))
+    (λ c. rows-in _ _ _ _ _ (c .before .before .read-table-numbers .ensures) _ (c .enum-told .given .1)))

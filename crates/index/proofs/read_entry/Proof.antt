@@ -1,3 +1,4 @@
+use native.Mathlib.Omega.{arith}
 use Rattle.index.proofs.EntryLaws.{read-refused, read-value}
 use Rattle.index.proofs.read_entry.Statement.{statement}
 use Rattle.index.proofs.read_entry.Tie as tie
@@ -10,6 +11,7 @@ read-entry-spec =
     (λ c. c .match .keys1)
     (λ c. c .match .keys2)
     (λ c κs. tt)
-    (λ c. read-refused _ _ _ _ (c .before .before .before .read-u40-be .ensures) _ _ (c .before .enum-told .given .1) (c .number-refusal .ensures))
+    (λ c κs. tt)
+    (λ c. read-refused _ _ _ _ (c .before .before .before .before .read-u40-be .ensures) _ _ _ (omega arith) (c .before .before .enum-told .given .1) (c .before .number-refusal .ensures) (c .in-index .ensures))
     (λ c κs. tt)
     (λ c. read-value _ _ _ _ (c .before .before .before .before .read-u40-be .ensures) _ _ _ (c .before .before .got .given .1) (c .saturating-add-usize .ensures)))

@@ -1,0 +1,19 @@
+use mathlib.Core.Path.{refl, ap}
+use Rattle.byte_source.specs.Answers.{numberRes, numberRefusal}
+use Rattle.byte_source.specs.declared.NumberRead.the-variants as number
+use Rattle.byte_source.proofs.CutOffLaws.{head-no, head-ok}
+use Rattle.tile_head.proofs.head_number.Statement.{statement}
+use Rattle.tile_head.proofs.head_number.Tie as tie
+
+pub head-number-spec : {M : Type 1} → statement M
+head-number-spec =
+    tie.close
+    (tie.spec
+    (λ c κs. tt)
+    (λ c. c .match .keys1)
+    (λ c. c .match .keys2)
+    (λ c κs. tt)
+    (λ c κs. tt)
+    (λ c κs. tt)
+    (λ c. head-no numberRes numberRefusal number.Refused (λ e. refl) (λ e. refl) _ _ _ _ _ _ _ (c .before .before .before .before .before .read-vbe-u-int .ensures) (c .before .before .before .enum-told2 .given .1) (c .before .before .number-refusal .ensures) (c .before .missing-byte .ensures) (c .in-tile-head .ensures))
+    (λ c. head-ok numberRes numberRefusal number.Refused (λ e. refl) (λ e. refl) _ _ (c .before .before .read-vbe-u-int .result) _ (c .before .before .read-vbe-u-int .ensures) (c .enum-told .given .1) refl))
