@@ -3,7 +3,7 @@
 
 mod calls;
 
-use crate::answer::Fold;
+use crate::answer::{rust_number, Fold};
 use crate::map::{Map, SubFile};
 use crate::tally::{self, Tally};
 use crate::work::{Side, Work};
@@ -48,7 +48,7 @@ impl Side for Ours<'_> {
                     Work::Fetch => self.fetch(&address, tally),
                     _ => self.stream(&address, zoom, work != Work::Decline, tally),
                 };
-                done.unwrap_or_else(|refusal| tally.refuse(|| refusal));
+                done.unwrap_or_else(|refusal| tally.refuse(|| rust_number(refusal)));
             }
         }
     }

@@ -30,6 +30,23 @@ pub fn refused(error: &MapforgeError) -> Answer {
     }
 }
 
+/// The number by which a refusal is compared with the Rust's. A map that ends in an index entry (19) or in a
+/// tile's head (20) is one that ends too early there.
+pub fn rust_number(number: u64) -> u64 {
+    match number {
+        19 | 20 => 1,
+        other => other,
+    }
+}
+
+/// The same of an answer: the Rust's `Source` has no place.
+pub fn as_the_rust(answer: &[u64]) -> Answer {
+    match answer {
+        [19 | 20, _] => vec![rust_number(answer[0])],
+        _ => answer.to_vec(),
+    }
+}
+
 /// The sign of a number, 1 if it is negative, and its magnitude.
 pub fn signed(value: i64) -> [u64; 2] {
     [u64::from(value < 0), value.unsigned_abs()]

@@ -91,12 +91,17 @@ pub fn tile_index(grid: &Grid, x: i32, y: i32) -> Option<Answer> {
     (!held(columns) || !held(index)).then(|| vec![0, 1, index as u64])
 }
 
-/// "Sums past 64 bits [...] are read as far as the map goes: 1": the place of an index entry, whose
-/// tile is in the grid. The sum of an entry's offset and the sub file's start needs no guard: the
-/// entry is behind the start, so where it can be read the start is inside the map.
+/// "Sums past 64 bits [...] are read as far as the map goes": the place of an index entry, whose tile is
+/// in the grid. Nothing is there, which counts as the Rust's `Source`. The sum of an entry's offset and
+/// the sub file's start needs no guard: the entry is behind the start, so where it can be read the start
+/// is inside the map.
 pub fn entry(start: u64, signature: u64, tile: u64) -> Option<Answer> {
-    let place = u128::from(start) + u128::from(signature) + u128::from(tile) * ENTRY_BYTES;
-    u64::try_from(place).is_err().then(|| vec![1])
+    u64::try_from(entry_place(start, signature, tile)).is_err().then(|| vec![1])
+}
+
+/// Where an index entry stands; places never wrap.
+fn entry_place(start: u64, signature: u64, tile: u64) -> u128 {
+    u128::from(start) + u128::from(signature) + u128::from(tile) * ENTRY_BYTES
 }
 
 /// Row 18: "zoom above 63 in column or longitude arithmetic".

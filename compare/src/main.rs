@@ -29,9 +29,10 @@ compare/run [--rust FOLDER] COMMAND ARGS...
                       the same two files for one map
   scale [--cases N] [--seed S] [--threads T] [--quick] [--only K] [MAP...]
                       our library and the Rust in one process: crafted maps, those of maps/ and the maps named, first whole
-                      and undamaged, then N damaged copies, by the words of their own headers and by others; every answer,
-                      word and lent entry; fails on a difference.
-                      --quick is a fixed run of less than a minute, --only looks at case K alone
+                      and undamaged, then cut off at each length, then N damaged copies, by the words of their own headers
+                      and by others; every answer, word and lent entry; fails on a difference.
+                      --quick is a fixed run of about a minute with fewer cuts; it, and any run of as many cases, also fails
+                      if a refusal does not come at all. --only looks at case K alone
   book [--cases N] [MAP...]
                       our library's stream against document 01's book, on all tiles of the same maps; at least N long lists
   zooming [--cases N] [--seed S] [--quick] [--only K] [MAP...]

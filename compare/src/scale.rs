@@ -1,5 +1,5 @@
-//! Both readers in one process: every answer of our library against the Rust's, on whole maps and on
-//! damaged ones.
+//! Both readers in one process: every answer of our library against the Rust's, on whole maps, on maps that
+//! are cut off and on damaged ones.
 
 mod asked;
 mod bases;
@@ -9,6 +9,7 @@ mod check;
 mod choices;
 mod collected;
 mod crafted;
+mod cuts;
 mod damage;
 mod foreign;
 mod held;
@@ -32,11 +33,16 @@ use crate::random::Random;
 use bases::Base;
 use cases::Cases;
 use check::{caught, Check};
+use cuts::Cuts;
 use lent::Lent;
 
 const CASES: u64 = 100_000;
 const QUICK_CASES: u64 = 1_200_000;
 const SEED: u64 = 1;
+/// Of a map with so many lengths and tiles all cuts are tried: those of all crafted and shipped maps, and in a quick run
+/// those of the small ones.
+const CUTS: usize = 2_000_000;
+const QUICK_CUTS: usize = 10_000;
 
 /// What is asked for on the command line.
 struct Options {
@@ -108,10 +114,13 @@ pub fn run(arguments: &[&str]) -> io::Result<Option<ExitCode>> {
     let start = Instant::now();
     let mut all = Check::default();
     // a single case is asked for to be looked at again
-    let whole = options.only.is_some() || whole_maps(&bases, &mut all);
+    let once = options.only.is_some();
+    let whole = once || whole_maps(&bases, &mut all) && cut_maps(&bases, &options, &mut all);
     let good = whole && damaged_maps(&bases, &options, &mut all);
     println!();
     all.print();
+    let long = options.cases(CASES, QUICK_CASES) >= QUICK_CASES;
+    let good = good && (!long || once || all_came(&all));
     println!("time: {:.1} s", start.elapsed().as_secs_f64());
     Ok(Some(if good { ExitCode::SUCCESS } else { ExitCode::FAILURE }))
 }
@@ -145,6 +154,47 @@ fn whole_maps(bases: &[Base], all: &mut Check) -> bool {
         start.elapsed().as_secs_f64()
     );
     differences == 0
+}
+
+/// The maps cut off, shared out among threads by their numbers.
+fn cut_maps(bases: &[Base], options: &Options, all: &mut Check) -> bool {
+    let start = Instant::now();
+    let most = if options.quick { QUICK_CUTS } else { CUTS };
+    let of_thread = |thread: u64| {
+        let mut cuts = Cuts::default();
+        for base in bases.iter().skip(thread as usize).step_by(options.threads as usize) {
+            cuts.compare(base, most);
+            if cuts.differences >= ENOUGH {
+                break;
+            }
+        }
+        cuts
+    };
+    let ended: Vec<_> = thread::scope(|scope| {
+        let run = |thread| scope.spawn(move || of_thread(thread));
+        let running: Vec<_> = (0..options.threads).map(run).collect();
+        running.into_iter().map(|thread| thread.join()).collect()
+    });
+    let mut cuts = Cuts::default();
+    for thread in ended {
+        match thread {
+            Ok(thread) => cuts.add(thread),
+            Err(_) => cuts.differences += 1,
+        }
+    }
+    cuts.print(start.elapsed().as_secs_f64());
+    let good = cuts.differences == 0;
+    all.add(cuts.check);
+    good
+}
+
+/// Whether each refusal of the table came at least once: else a run of so many cases has lost what it is for.
+fn all_came(all: &Check) -> bool {
+    let missing = all.missing();
+    if !missing.is_empty() {
+        println!("UNEXPLAINED: no call was refused with {missing:?}");
+    }
+    missing.is_empty()
 }
 
 /// The cases, shared out among threads by their numbers.

@@ -21,11 +21,16 @@ use crate::tiles::delivery::Delivery;
 use crate::tiles::feature::Block;
 use crate::tiles::feature::{Collected, Text, Tile};
 use crate::tiles::Address;
-use reader::{Read, Reader, View};
+use reader::{cut, cut_off, Read, Reader, View};
 
 /// The sizes of the signatures of an index, and of a tile, point or way.
 const INDEX_SIGNATURE: u64 = 16;
 const SIGNATURE: u64 = 32;
+
+/// Wish 2: "19 when the five bytes of the index entry run past the map", "20 when the tile's signature,
+/// zoom table or first-way offset does".
+const INDEX_CUT_OFF: u64 = 19;
+const HEAD_CUT_OFF: u64 = 20;
 
 /// The port's answer, and where the Rust first parts from it.
 pub struct Port {
@@ -109,6 +114,26 @@ impl<'a> Opened<'a> {
         head.map_or(true, |head| head.table.as_flattened().iter().all(fair))
     }
 
+    /// `tile_index_entry`: 0, water mark, offset and place, or the refusal.
+    pub fn entry(self, address: &Address) -> Answer {
+        let mut reader = Reader::new(self, View::Collected);
+        let entry = reader.entry(address);
+        let words =
+            |Entry { water, offset, place, .. }| vec![0, u64::from(water), offset, cut(place)];
+        entry.map_or_else(|refusal| refusal, words)
+    }
+
+    /// Where a tile's entry and its head are read, each from its start to where reading ends.
+    #[cfg(feature = "both")]
+    pub fn head_parts(self, address: &Address) -> Vec<Range<u128>> {
+        let mut reader = Reader::new(self, View::Collected);
+        // a refused head has places too
+        drop(reader.head(address));
+        let entry = reader.entry_start.map(|start| start..start + 5);
+        let head = reader.tile_start.map(|start| start..reader.at());
+        entry.into_iter().chain(head).collect()
+    }
+
     /// The refusal by which a stream of the tile does not open.
     #[cfg(feature = "both")]
     pub fn unopened(self, address: &Address) -> Option<Answer> {
@@ -176,6 +201,15 @@ impl<'a> Opened<'a> {
     }
 }
 
+/// An index entry, and the interval of its sub file.
+struct Entry<'a> {
+    interval: &'a ZoomInterval,
+    water: bool,
+    offset: u64,
+    /// Where the tile stands in the map.
+    place: u128,
+}
+
 /// What stands before a tile's features.
 struct Head {
     water: bool,
@@ -196,7 +230,7 @@ impl Head {
     }
 }
 
-impl Reader<'_> {
+impl<'a> Reader<'a> {
     /// "Collecting decodes every row".
     fn tile(&mut self, address: &Address) -> Read<Tile> {
         let Head { signature, table, first_way, ways: place, .. } = self.head(address)?;
@@ -235,41 +269,54 @@ impl Reader<'_> {
     }
 
     /// "Order for a tile: sub file (8), grid (14), tile (8), entry (1), interval (13), then bytes in
-    /// file order."
+    /// file order", with 19 "where 1 stood in the order".
     fn head(&mut self, address: &Address) -> Read<Head> {
-        let intervals = &self.opened.header.zoom_interval_configuration;
-        let interval = intervals.get(address.sub_file as usize).ok_or(vec![8])?;
-        let (water, offset) = self.entry(address, interval)?;
+        let Entry { interval, water, place, .. } = self.entry(address)?;
         let (lowest, highest) = (interval.min_zoom_level, interval.max_zoom_level);
         if lowest > highest {
             return Err(self.parted(Cause::Interval, vec![13]));
         }
-        let start = u128::from(interval.sub_file_start) + u128::from(offset);
-        self.seek(start);
-        self.tile_start = Some(start);
-        let signature = self.signature()?;
-        let row = |_| Ok([self.unsigned()?, self.unsigned()?]);
+        self.seek(place);
+        self.tile_start = Some(place);
+        // one read, which begins with its first byte, however many of them are there
+        let signature = self.signature();
+        let signature = signature.map_err(|refusal| cut_off(refusal, HEAD_CUT_OFF, place))?;
+        let row = |_| Ok([self.head_number()?, self.head_number()?]);
         let table = (lowest..=highest).map(row).collect::<Read<_>>()?;
-        let first_way = self.unsigned()?;
+        let first_way = self.head_number()?;
         let ways = self.at() + u128::from(first_way);
         Ok(Head { water, signature, lowest, table, first_way, ways })
     }
 
+    /// "in a number of 7-bit groups, that of its missing byte".
+    fn head_number(&mut self) -> Read<u64> {
+        let missing = self.missing_byte();
+        self.unsigned().map_err(|refusal| cut_off(refusal, HEAD_CUT_OFF, missing))
+    }
+
     /// "An index entry is 5 bytes: top bit water, 39 bits offset".
-    fn entry(&mut self, address: &Address, interval: &ZoomInterval) -> Read<(bool, u64)> {
+    fn entry(&mut self, address: &Address) -> Read<Entry<'a>> {
+        let intervals = &self.opened.header.zoom_interval_configuration;
+        let interval = intervals.get(address.sub_file as usize).ok_or(vec![8])?;
         let Some(tiles) = address.grid.tiles() else {
             return Err(self.parted(Cause::Grid, vec![14]));
         };
         if address.tile >= u64::from(tiles) {
             return Err(vec![8]);
         }
+        let start = interval.sub_file_start;
         let signature = if self.opened.debug() { INDEX_SIGNATURE } else { 0 };
-        if let Some(refusal) = super::entry(interval.sub_file_start, signature, address.tile) {
-            return Err(self.parted(Cause::Entry, refusal));
+        if super::entry(start, signature, address.tile).is_some() {
+            self.note(Cause::Entry);
         }
-        self.seek(u128::from(interval.sub_file_start + signature + 5 * address.tile));
-        let word = self.bytes(5)?.iter().fold(0, |word, &byte| word << 8 | u64::from(byte));
-        Ok((word >> 39 == 1, word & ((1 << 39) - 1)))
+        let entry = super::entry_place(start, signature, address.tile);
+        self.seek(entry);
+        self.entry_start = Some(entry);
+        let bytes = self.bytes(5).map_err(|refusal| cut_off(refusal, INDEX_CUT_OFF, entry))?;
+        let word = bytes.iter().fold(0, |word, &byte| word << 8 | u64::from(byte));
+        let offset = word & ((1 << 39) - 1);
+        let place = u128::from(start) + u128::from(offset);
+        Ok(Entry { interval, water: word >> 39 == 1, offset, place })
     }
 
     /// "Sums past 64 bits and counts too large to reserve are read as far as the map goes".

@@ -6,11 +6,11 @@ use mapsforge_rs::types::MapFile;
 
 use super::calls::Calls;
 use super::Tally;
-use crate::answer::Answer;
+use crate::answer::{as_the_rust, Answer};
 use crate::differences::tile::{Cause, Opened, Port};
 use crate::leaves::sample::{signed, unsigned};
 use crate::maps::open;
-use crate::maps::writer::{entry, tags, text, Header};
+use crate::maps::writer::{entry, tags, text, Header, DEBUG, INDEX_SIGNATURE};
 use crate::source::Source;
 use crate::tiles::delivery::{Delivery, Unread};
 use crate::tiles::{rust, Address};
@@ -29,6 +29,7 @@ const DOUBLE: u8 = 0x04;
 pub fn check(tally: &mut Tally) {
     nodes(tally);
     refusals(tally);
+    cut_off(tally);
     counts(tally);
     limits(tally);
     overlap(tally);
@@ -66,9 +67,9 @@ fn asked(
         let Port { answer, parting, .. } = model(Opened::of(&file));
         grid::lend(FIRST.grid);
         let Some(parting) = parting else {
-            let rust = rust(&mut file);
-            assert_eq!(rust, answer, "the Rust (left) and document 01 part");
-            return rust;
+            let known = as_the_rust(&answer);
+            assert_eq!(rust(&mut file), known, "the Rust (left) and document 01 part");
+            return answer;
         };
         // the Rust reads up to a bad number too: it is refused there, by 1, if the map ends there
         if parting.untouched && matches!(parting.cause, Cause::Number | Cause::Coordinate) {
@@ -140,6 +141,37 @@ fn refusals(tally: &mut Tally) {
     tally.equal("zooms 9 and 8", collected_of(&map([9, 9, 8], &[])), vec![13]);
     let empty = map([0; 3], &[0, 0, 0]);
     tally.equal("feature 0 of no features", feature(&empty, 0), vec![17]);
+}
+
+/// Rows 19 and 20, which joined the table: the map ends in a tile's entry or in its head.
+fn cut_off(tally: &mut Tally) {
+    let mut refused = |name: &str, map: &[u8], number: u64, place: usize| {
+        tally.equal(name, collected_of(map), vec![number, place as u64]);
+    };
+    let whole = map([0; 3], &[]);
+    let start = whole.len() - INDEX as usize;
+    refused("no entry", &whole[..start], 19, start);
+    refused("four bytes of an entry", &whole[..start + 4], 19, start);
+    refused("no tile", &whole, 20, whole.len());
+    for tile in [&[0][..], &[0x80], &[0, 0x80, 0x80], &[0, 0], &[0, 0, 0x80]] {
+        let map = map([0; 3], tile);
+        refused(&format!("head {tile:02x?}"), &map, 20, map.len());
+    }
+    let header = Header { flags: DEBUG, ..Header::tiny() }.with_interval([0; 3], 0);
+    let index = [&INDEX_SIGNATURE[..], &entry(false, 21)].concat();
+    let tile = header.length() as usize + index.len();
+    for (there, number, place) in [(31, 20, tile), (32, 20, tile + 32)] {
+        let sub_file = [&index[..], &vec![b' '; there]].concat();
+        let map = header.clone().before_all(&[sub_file]);
+        refused(&format!("{there} bytes of a signature"), &map, number, place);
+    }
+    // behind the map's end a number's first byte is missing
+    let far = [&Header::tiny().with_interval([0; 3], 88).bytes()[..], &entry(false, 1000)].concat();
+    refused("a tile behind the map", &far, 20, 1088);
+    let map = Header::tiny().with_interval([0; 3], u64::MAX).bytes();
+    let second = Address { grid: Grid { x_max: 2, y_max: 1, ..ONE }, tile: 1, ..FIRST };
+    let past = open::with_map(&map, |file| Opened::of(&file).entry(&second));
+    tally.equal("an entry past all places", past, Ok(vec![19, u64::MAX]));
 }
 
 /// Counts that cannot be reserved, and sums past 64 bits: 1, unless a feature is refused earlier.

@@ -80,14 +80,14 @@ const REASONS: [(Reason, &str); 10] = [
 /// Nothing, or what differs.
 pub type Checked<T = ()> = Result<T, String>;
 
-/// Rows of document 01's table, and 0.
-const ANSWERS: usize = 19;
+/// Rows of document 01's table with those that joined it, and 0.
+pub const ANSWERS: usize = 21;
 
 #[derive(Default)]
 pub struct Check {
-    /// By the numbers of the calls.
+    /// By the numbers of the calls, and of each by its answers.
     calls: [u64; CALLS.len()],
-    pub answers: [u64; ANSWERS],
+    answers: [[u64; ANSWERS]; CALLS.len()],
     pub values: u64,
     /// Answers that document 01's model gave in place of the Rust, by reason, and the cases with such.
     answers_settled: [u64; REASONS.len()],
@@ -101,9 +101,24 @@ impl Check {
     pub fn call(&mut self, call: Call, number: u64) {
         self.calls[call as usize] += 1;
         // a number that no row has differs from every answer, and is not counted
-        if let Some(count) = self.answers.get_mut(number as usize) {
+        if let Some(count) = self.answers[call as usize].get_mut(number as usize) {
             *count += 1;
         }
+    }
+
+    /// How often a call answered with a number.
+    pub fn answered(&self, call: Call, number: usize) -> u64 {
+        self.answers[call as usize][number]
+    }
+
+    /// The same of all calls.
+    fn answered_by_any(&self, number: usize) -> u64 {
+        self.answers.iter().map(|answers| answers[number]).sum()
+    }
+
+    /// The refusals of the table that no call answered with.
+    pub fn missing(&self) -> Vec<usize> {
+        (1..ANSWERS).filter(|&number| self.answered_by_any(number) == 0).collect()
     }
 
     /// Counts an answer of the model.
@@ -178,19 +193,23 @@ impl Check {
         let add = |sums: &mut [u64], counts: &[u64]| {
             sums.iter_mut().zip(counts).for_each(|(sum, count)| *sum += count);
         };
-        add(&mut self.answers, &other.answers);
+        add(self.answers.as_flattened_mut(), other.answers.as_flattened());
         add(&mut self.answers_settled, &other.answers_settled);
         add(&mut self.cases_settled, &other.cases_settled);
         self.values += other.values;
     }
 
     pub fn print(&self) {
-        println!("calls compared: {}", self.calls.iter().sum::<u64>());
-        for (call, count) in CALLS.iter().zip(self.calls) {
-            println!("  {:<16} {count:>14}", format!("{call:?}"));
+        println!("calls compared: {}, each with its answers", self.calls.iter().sum::<u64>());
+        for (&call, count) in CALLS.iter().zip(self.calls) {
+            let came = |number: &usize| self.answered(call, *number) > 0;
+            let numbers: Vec<String> =
+                (0..ANSWERS).filter(came).map(|number| number.to_string()).collect();
+            println!("  {:<16} {count:>14}  {}", format!("{call:?}"), numbers.join(" "));
         }
         println!("answers by number (0 is a result)");
-        for (number, count) in self.answers.iter().enumerate().filter(|(_, count)| **count > 0) {
+        let counts = (0..ANSWERS).map(|number| (number, self.answered_by_any(number)));
+        for (number, count) in counts.filter(|(_, count)| *count > 0) {
             println!("  {number:<16} {count:>14}");
         }
         println!(

@@ -4,7 +4,7 @@
 use mapsforge_rs::header::DEBUG_INFO_MASK;
 use mapsforge_rs::types::{BoundingBox, MapFile, MapHeader, ZoomInterval};
 
-use super::check::{Call, Check, Checked};
+use super::check::{Call, Check, Checked, ANSWERS};
 use super::lent::{Fronts, Lent};
 use super::library::{self, Ask, Got, Interval, Layout, State, WORD};
 use super::{asked, indexed, known};
@@ -75,14 +75,30 @@ fn taken(interval: &Interval) -> Option<ZoomInterval> {
 /// A tile by words that are the map's own or were so once, some of them changed.
 pub fn compare(check: &mut Check, lent: &mut Lent, own: &Ask, random: &mut Random) -> Checked {
     let ask = random.foreign(own);
-    let Ask { map, layout, interval, .. } = &ask;
-    let mut file = file(map, layout, interval);
-    let has_tags = layout[2].max(layout[4]) <= TAGS;
-    let compared = asked::grid(check, &file, &ask, random).and_then(|()| match has_tags {
-        true => asked::tile(check, lent, &mut file, &ask, random),
-        false => many_tags(check, lent, &mut file, &ask, random),
-    });
-    compared.map_err(|why| format!("layout {layout:x?}, interval {interval:x?}: {why}"))
+    let file = file(ask.map, &ask.layout, &ask.interval);
+    let place = |why| format!("layout {:x?}, interval {:x?}: {why}", ask.layout, ask.interval);
+    asked::grid(check, &file, &ask, random).map_err(place)?;
+    by_words(check, lent, file, &ask, random).map_err(place)
+}
+
+/// A tile by the whole map's words, where the map is cut off before them.
+pub fn cut_off(check: &mut Check, lent: &mut Lent, ask: &Ask, random: &mut Random) -> Checked {
+    let ask = Ask { at: Address { sub_file: 0, ..ask.at }, ..*ask };
+    by_words(check, lent, file(ask.map, &ask.layout, &ask.interval), &ask, random)
+}
+
+/// The sub file is the first one of the header that the words say.
+fn by_words(
+    check: &mut Check,
+    lent: &mut Lent,
+    mut file: MapFile<Source>,
+    ask: &Ask,
+    random: &mut Random,
+) -> Checked {
+    if ask.layout[2].max(ask.layout[4]) <= TAGS {
+        return asked::tile(check, lent, &mut file, ask, random);
+    }
+    many_tags(check, lent, &mut file, ask, random)
 }
 
 /// With more tags than the Rust is given: what it says of a tile that has none of the others.
@@ -170,7 +186,7 @@ fn refused<const N: usize>(check: &mut Check, call: Call, ours: &Got<N>) -> Chec
         check.words("the values of no refusal", &ours.words[..6], &[0; 6])?;
         return Ok(false);
     }
-    check.same("a number of the table", ours.number <= 18, true)?;
+    check.same("a number of the table", ours.number < ANSWERS as u64, true)?;
     check.words("words of a refused call", &ours.words[6..], &vec![0; N - 6])?;
     Ok(true)
 }

@@ -3,12 +3,13 @@
 use mapsforge_rs::types::MapFile;
 
 use super::check::{front, Call, Check, Checked, Reason};
+use super::known::told;
 use super::lent::{Fronts, Lent};
 use super::library::{self, Ask};
 use super::opening::maybe;
 use crate::answer::Answer;
 use crate::differences;
-use crate::differences::tile::Cause;
+use crate::differences::tile::{Cause, Opened};
 use crate::maps::calls::on_grid;
 use crate::maps::index;
 use crate::random::Random;
@@ -54,13 +55,14 @@ fn one(check: &mut Check, call: Call, ours: &library::Got<8>, rust: &Answer) -> 
 pub fn entry(check: &mut Check, file: &mut MapFile<Source>, ask: &Ask) -> Checked {
     let input = input(&ask.at, &ask.at.tile.to_be_bytes());
     let rust = index::entry(file, &mut Source::new(&input));
+    let known = told(rust, Opened::of(file).entry(&ask.at))?;
     let ours = library::index_entry(ask);
-    match rust[..] {
+    match known[..] {
         [0, water, offset, place] => {
             let words = [0, 0, 0, 0, 0, 0, water, offset, place];
             check.got(Call::IndexEntry, &ours, 0, &words)
         }
-        _ => check.refused(Call::IndexEntry, &ours, &rust),
+        _ => check.refused(Call::IndexEntry, &ours, &known),
     }
 }
 

@@ -5,7 +5,7 @@ use mapsforge_rs::grid;
 use mapsforge_rs::types::MapFile;
 
 use super::check::{caught, Check, Checked, Reason};
-use crate::answer::Answer;
+use crate::answer::{as_the_rust, Answer};
 use crate::differences::tile::{Cause, Opened, Parting, Port};
 use crate::random::Random;
 use crate::source::Source;
@@ -23,12 +23,26 @@ pub fn tile(check: &mut Check, file: &mut MapFile<Source>, at: &Address) -> Chec
         return Ok(model);
     }
     grid::lend(at.grid);
-    let mut rust = caught(|| rust::fetched(file, at))?;
-    if let (Ok(rust), Ok(model)) = (&mut rust, model) {
+    let mut rust = match (caught(|| rust::fetched(file, at))?, &model) {
+        (Ok(rust), Ok(_)) => rust,
+        (Err(rust), Err(model)) => return told(rust, model.clone()).map(Err),
+        (Ok(_), Err(model)) => return Err(format!("the Rust collects, the model: {model:x?}")),
+        (Err(rust), Ok(_)) => return Err(format!("the model collects, the Rust: {rust:x?}")),
+    };
+    if let Ok(model) = model {
         rust.signatures = model.signatures;
         said_by_the_model(&mut rust.tile, model.tile)?;
     }
-    Ok(rust)
+    Ok(Ok(rust))
+}
+
+/// What must come where the Rust answers and the model too. "In comparing, both new ones count as the
+/// Rust's `Source`": whether it is 1, 19 or 20, and at which place, the model says.
+pub fn told(rust: Answer, model: Answer) -> Checked<Answer> {
+    if rust == as_the_rust(&model) {
+        return Ok(model);
+    }
+    Err(format!("the Rust answers {rust:x?}, the model {model:x?}"))
 }
 
 /// The Rust does not compare sizes, and trims signatures: these two are the model's.
@@ -135,6 +149,7 @@ impl Script {
         }
         let mut rust = Script::new(plan);
         rust.visit(file, at, zoom)?;
+        rust.end = told(rust.end, model.end)?;
         (rust.opens, rust.texts) = (model.opens, model.texts);
         rust.events.iter_mut().zip(model.events).for_each(|(rust, model)| rust.complete(model));
         Ok(rust)

@@ -44,11 +44,26 @@ pub enum Cause {
     Interval,
 }
 
+/// "2^64 − 1 stands for any larger position".
+pub fn cut(place: u128) -> u64 {
+    u64::try_from(place).unwrap_or(u64::MAX)
+}
+
+/// Where the map ends too early, the number that is told there, with "the position where the missing read
+/// began"; any other refusal as it is.
+pub fn cut_off(refusal: Answer, number: u64, place: u128) -> Answer {
+    if refusal != [1] {
+        return refusal;
+    }
+    vec![number, cut(place)]
+}
+
 /// A place in a map. Places are whole numbers and never wrap.
 pub struct Reader<'a> {
     pub opened: Opened<'a>,
     pub parting: Option<Parting>,
-    /// Where the tile's bytes start, once its entry is read.
+    /// Where the tile's entry starts, once its place is known, and its bytes, once the entry is read.
+    pub entry_start: Option<u128>,
     pub tile_start: Option<u128>,
     /// The places of the signatures and of the texts that were read, in their order.
     pub signatures: Vec<u64>,
@@ -67,6 +82,7 @@ impl<'a> Reader<'a> {
         Reader {
             opened,
             parting: None,
+            entry_start: None,
             tile_start: None,
             signatures: Vec::new(),
             texts: Vec::new(),
@@ -111,6 +127,12 @@ impl<'a> Reader<'a> {
         let bytes = bytes.ok_or(vec![1])?;
         self.pass(bytes.len());
         Ok(bytes)
+    }
+
+    /// The first byte from here on that the map does not have. A number that the map ends in has all the
+    /// bytes before it.
+    pub fn missing_byte(&self) -> u128 {
+        self.at + self.left().len() as u128
     }
 
     pub fn byte(&mut self) -> Read<u8> {
