@@ -7,8 +7,9 @@
  * must not be null (any aligned address will do), and no two arguments of a call may overlap where one of them is written.
  *
  * Words 0 to 5 of `words` are the refusal's values, zeros behind them and where nothing is refused: 3 has the map's version, 7 the tag
- * id, 15 the lengths needed of the lists, in the order in which the call takes them (words 0 to 4), and of the buffer (word 5). On a
- * refusal the words behind them are 0, but where a call says otherwise.
+ * id, 15 the lengths needed of the lists, in the order in which the call takes them (words 0 to 4), and of the buffer (word 5), 19 and 20
+ * the place in the map where the missing read began. On a refusal the words behind them are 0, but where a call says otherwise.
+ * docs/REFUSALS.md has every refusal with its smallest example, and what each call can answer.
  *
  * A part of the map, or of nothing, is three words: 1 if it is there, its place in the map, its size in bytes; else 0, 0, 0.
  * A text of a stream that is not valid UTF-8 is there with size 0.
@@ -26,7 +27,7 @@
 
 /* Refusals. */
 enum {
-    MAPSFORGE_SOURCE = 1,                 /* the map ends too early */
+    MAPSFORGE_SOURCE = 1,                 /* the map ends too early: in its header, a sub file's signature or a feature */
     MAPSFORGE_INVALID_MAGIC = 2,
     MAPSFORGE_UNSUPPORTED_VERSION = 3,
     MAPSFORGE_INVALID_BOUNDING_BOX = 4,
@@ -43,7 +44,11 @@ enum {
     MAPSFORGE_TOO_SHORT = 15,             /* a lent list or buffer is shorter than the result */
     MAPSFORGE_OUT_OF_TURN = 16,           /* next while a way waits, accept or decline while none does */
     MAPSFORGE_INVALID_FEATURE = 17,       /* a feature number at or above the count */
-    MAPSFORGE_ZOOM_TOO_LARGE = 18         /* a zoom above 63 in column or longitude arithmetic */
+    MAPSFORGE_ZOOM_TOO_LARGE = 18,        /* a zoom above 63 in column or longitude arithmetic */
+    MAPSFORGE_INDEX_CUT_OFF = 19,         /* the map ends before the five bytes of an index entry do; word 0: the entry's place */
+    MAPSFORGE_TILE_HEAD_CUT_OFF = 20      /* the map ends in a tile's signature (word 0: its place), or in the zoom table or the
+                                             first-way offset (word 0: the place of the missing byte). For any place of 2^64 or
+                                             more, 19 and 20 have 2^64 - 1 */
 };
 
 /* Opens a map. words: 6 the place behind the header, 7 header size, 8 version, 9 file size, 10 date (milliseconds), 11 tile size,
@@ -76,7 +81,9 @@ uint64_t mapsforge_tile_count(const uint64_t interval[6], int32_t x_min, int32_t
 /* The number of the tile x, y of the sub file. words: 6 whether there is one, 7 its number. */
 uint64_t mapsforge_tile_index(const uint64_t interval[6], int32_t x_min, int32_t y_min, int32_t x_max, int32_t y_max, int32_t x, int32_t y, uint64_t words[8]);
 
-/* A tile's entry in the index. words: 6 water, 7 its place from the sub file's start, 8 from the map's. */
+/* A tile's entry in the index. words: 6 water, 7 the tile's place from the sub file's start, 8 from the map's. The calls about a tile
+ * refuse in this order: no such sub file (8), a bad grid (14), no such tile (8), no entry (19), a reversed interval (13); then comes the
+ * tile, its bytes in file order. This one stops behind 19. */
 uint64_t mapsforge_index_entry(const uint8_t *map, size_t map_len, const uint64_t layout[5], const uint64_t interval[6], int32_t x_min, int32_t y_min, int32_t x_max, int32_t y_max, size_t tile, uint64_t words[9]);
 
 /* The column that a longitude lies in, and the longitude at which a column starts; 0 on a refusal. */

@@ -35,6 +35,8 @@ pub enum Spot {
 pub enum Finding {
     /// The tile does not collect.
     Refused {
+        /// The tile.
+        tile: usize,
         /// Why.
         refusal: Refusal,
         /// At what.
@@ -103,6 +105,8 @@ pub enum MapFinding {
         tiles: u64,
         /// How many entries the map has room for.
         room: u64,
+        /// The place of the first one that it has no room for; 2^64 - 1 stands for any larger place.
+        cut_off: u64,
     },
 }
 
@@ -120,14 +124,16 @@ pub fn map(map: &Map<'_>) -> Vec<MapFinding> {
 /// Whether a sub file's tiles can be walked.
 fn index(map: &Map<'_>, sub_file: usize) -> Option<MapFinding> {
     let counted = map.sub_file(sub_file).and_then(|found| Ok((found.tile_count()?, found)));
-    match counted {
-        Err(refusal) => Some(MapFinding::Grid { sub_file, refusal }),
-        Ok((tiles, found)) if tiles > found.index_room() => {
-            let start = found.interval().start;
-            Some(MapFinding::Index { sub_file, start, tiles, room: found.index_room() })
-        }
-        Ok(_) => None,
+    let (tiles, found) = match counted {
+        Ok(counted) => counted,
+        Err(refusal) => return Some(MapFinding::Grid { sub_file, refusal }),
+    };
+    let room = found.index_room();
+    if tiles <= room {
+        return None;
     }
+    let cut_off = found.entry_place(room as usize).unwrap_or(u64::MAX);
+    Some(MapFinding::Index { sub_file, start: found.interval().start, tiles, room, cut_off })
 }
 
 /// Checks a tile.
@@ -136,8 +142,8 @@ pub fn tile(sub_file: &SubFile<'_, '_>, place: TilePlace) -> Report {
     let entry = match sub_file.entry(place.number) {
         Ok(entry) => entry,
         Err(refusal) => {
-            let at = sub_file.entry_place(place.number);
-            report.findings.push(Finding::Refused { refusal, spot: Spot::Entry, at });
+            let (tile, at) = (place.number, sub_file.entry_place(place.number));
+            report.findings.push(Finding::Refused { tile, refusal, spot: Spot::Entry, at });
             return report;
         }
     };
@@ -159,7 +165,7 @@ fn of_tile(tile: &Tile<'_, '_>, place: u64) -> Vec<Finding> {
     if tile.way_count() == 0 {
         return findings;
     }
-    let Ok(mut walk) = Walk::open(&tile.sub_file(), tile.number(), place) else {
+    let Some(mut walk) = Walk::open(&tile.sub_file(), tile.number(), place) else {
         return findings;
     };
     let leads_to = walk.first_way;
@@ -175,11 +181,10 @@ fn of_tile(tile: &Tile<'_, '_>, place: u64) -> Vec<Finding> {
 
 /// Where a tile that does not collect is refused: a stream that accepts everything meets the same.
 fn refused(sub_file: &SubFile<'_, '_>, tile: TilePlace, place: u64, refusal: Refusal) -> Finding {
-    let (spot, at) = match Walk::open(sub_file, tile.number, place) {
-        Ok(mut walk) => walk.refused_at().unwrap_or((Spot::Head, place)),
-        Err(_) => (Spot::Head, place),
-    };
-    Finding::Refused { refusal, spot, at: Some(at) }
+    let tile = tile.number;
+    let walk = Walk::open(sub_file, tile, place);
+    let (spot, at) = walk.and_then(|mut walk| walk.refused_at()).unwrap_or((Spot::Head, place));
+    Finding::Refused { tile, refusal, spot, at: Some(at) }
 }
 
 /// A walk through a tile by its stream at the highest zoom, and the places that it comes to.
@@ -202,25 +207,25 @@ struct Walk<'m, 'a> {
 }
 
 impl<'m, 'a> Walk<'m, 'a> {
-    /// The walk of a tile whose head can be read.
-    fn open(sub_file: &SubFile<'m, 'a>, tile: usize, place: u64) -> Result<Self, Refusal> {
+    /// The walk of a tile, if its head can be read.
+    fn open(sub_file: &SubFile<'m, 'a>, tile: usize, place: u64) -> Option<Self> {
         let interval = sub_file.interval();
-        let stream = sub_file.stream(tile, interval.max_zoom)?;
+        let stream = sub_file.stream(tile, interval.max_zoom).ok()?;
         let map = sub_file.map().bytes();
         let debug = sub_file.map().header().debug();
         let rows = u64::from(interval.max_zoom.saturating_sub(interval.min_zoom)) + 1;
         let mut at = place.saturating_add(if debug { 32 } else { 0 });
         let mut points = 0u64;
         for k in 0..2 * rows {
-            let (count, end) = number(map, at).ok_or(Refusal::Source)?;
+            let (count, end) = number(map, at)?;
             // Each row has its number of points first, then that of its ways.
             points = points.saturating_add(if k % 2 == 0 { count } else { 0 });
             at = end;
         }
-        let (offset, head_end) = number(map, at).ok_or(Refusal::Source)?;
+        let (offset, head_end) = number(map, at)?;
         let first_way = head_end.saturating_add(offset);
         let lists = Lists::default();
-        Ok(Walk { map, debug, stream, lists, points, head_end, first_way, at: first_way })
+        Some(Walk { map, debug, stream, lists, points, head_end, first_way, at: first_way })
     }
 
     /// Goes past all points, and gives the place behind the last one.
@@ -338,20 +343,28 @@ fn number(map: &[u8], at: u64) -> Option<(u64, u64)> {
     None
 }
 
+impl fmt::Display for Spot {
+    fn fmt(&self, f: &mut fmt::Formatter<'_>) -> fmt::Result {
+        match self {
+            Spot::Entry => write!(f, "its entry in the index"),
+            Spot::Head => write!(f, "its head"),
+            Spot::Point(k) => write!(f, "point {k}"),
+            Spot::Way(k) => write!(f, "way {k}"),
+        }
+    }
+}
+
 impl fmt::Display for Finding {
     fn fmt(&self, f: &mut fmt::Formatter<'_>) -> fmt::Result {
         match *self {
-            Finding::Refused { refusal, spot, at } => {
-                match spot {
-                    Spot::Entry => write!(f, "its entry in the index")?,
-                    Spot::Head => write!(f, "its head")?,
-                    Spot::Point(k) => write!(f, "point {k}")?,
-                    Spot::Way(k) => write!(f, "way {k}")?,
+            Finding::Refused { tile, refusal, spot, at } => {
+                // These two say themselves what is refused, and where.
+                if !matches!(refusal, Refusal::IndexCutOff(_) | Refusal::TileHeadCutOff(_)) {
+                    write!(f, "{spot}")?;
+                    at.map_or(Ok(()), |at| write!(f, ", byte {at}"))?;
+                    write!(f, ": ")?;
                 }
-                if let Some(at) = at {
-                    write!(f, ", byte {at}")?;
-                }
-                write!(f, ": refused with {}: {refusal}", refusal.number())
+                write!(f, "refused with {}: {}", refusal.number(), refusal.of_tile(tile))
             }
             Finding::Size { way, at, stored, decoded } => {
                 let by = stored.abs_diff(decoded);
@@ -384,11 +397,16 @@ impl fmt::Display for MapFinding {
             MapFinding::Grid { sub_file, refusal } => {
                 write!(f, "sub file {sub_file}: refused with {}: {refusal}", refusal.number())
             }
-            MapFinding::Index { sub_file, start, tiles, room } => write!(
-                f,
-                "sub file {sub_file}: its grid has {tiles} tiles, but from its start at byte \
-                 {start} on the map has room for {room} index entries: its tiles are not read"
-            ),
+            MapFinding::Index { sub_file, start, tiles, room, cut_off } => {
+                let refusal = Refusal::IndexCutOff(cut_off);
+                write!(
+                    f,
+                    "sub file {sub_file}: refused with {}: {refusal}. Its grid has {tiles} tiles, \
+                     but from its start at byte {start} on the map has room for {room} index \
+                     entries: its tiles are not read",
+                    refusal.number()
+                )
+            }
         }
     }
 }

@@ -66,7 +66,7 @@ pub use grid::{latitude_of_row, row_of_latitude, Grid, LATITUDE_LIMIT};
 pub use header::{BoundingBox, Header, Position, ZoomInterval};
 pub use map::Map;
 pub use part::Part;
-pub use refusal::{Lengths, Refusal};
+pub use refusal::{Lengths, Refusal, TileRefusal};
 pub use stream::{Lists, Step, Stream, StreamEnd, StreamedBody, StreamedPoint, WayHead};
 pub use sub_file::{IndexEntry, SubFile, TilePlace, TilePlaces};
 pub use tags::{InlineKind, TagName, TagNames};

@@ -26,7 +26,7 @@ pub struct Lengths {
 #[derive(Clone, Copy, Debug, PartialEq, Eq, Hash)]
 #[non_exhaustive]
 pub enum Refusal {
-    /// 1: the map ends too early.
+    /// 1: the map ends too early: in its header, in a sub file's signature or in a feature.
     Source,
     /// 2: the file does not start as a Mapsforge map does.
     InvalidMagic,
@@ -62,6 +62,12 @@ pub enum Refusal {
     InvalidFeature,
     /// 18: a zoom above 63 in the arithmetic of columns.
     ZoomTooLarge,
+    /// 19: the map ends before a tile's index entry does, with the entry's place. 2^64 - 1 stands for any larger place,
+    /// here and below.
+    IndexCutOff(u64),
+    /// 20: the map ends in a tile's head, with the place of what is missing: of the signature's first byte, or of the
+    /// byte of the zoom table or the first-way offset that is not there.
+    TileHeadCutOff(u64),
     /// A number that this crate does not know, of a later library.
     Other(u64),
 }
@@ -100,6 +106,8 @@ impl Refusal {
             16 => Refusal::OutOfTurn,
             17 => Refusal::InvalidFeature,
             18 => Refusal::ZoomTooLarge,
+            19 => Refusal::IndexCutOff(value(0)),
+            20 => Refusal::TileHeadCutOff(value(0)),
             other => Refusal::Other(other),
         }
     }
@@ -125,6 +133,8 @@ impl Refusal {
             Refusal::OutOfTurn => 16,
             Refusal::InvalidFeature => 17,
             Refusal::ZoomTooLarge => 18,
+            Refusal::IndexCutOff(_) => 19,
+            Refusal::TileHeadCutOff(_) => 20,
             Refusal::Other(number) => number,
         }
     }
@@ -132,15 +142,58 @@ impl Refusal {
     /// The values that come with it, zeros behind them.
     pub fn values(self) -> [u64; 6] {
         match self {
-            Refusal::UnsupportedVersion(value) | Refusal::InvalidTagId(value) => {
-                [value, 0, 0, 0, 0, 0]
-            }
+            Refusal::UnsupportedVersion(value)
+            | Refusal::InvalidTagId(value)
+            | Refusal::IndexCutOff(value)
+            | Refusal::TileHeadCutOff(value) => [value, 0, 0, 0, 0, 0],
             Refusal::TooShort(Lengths { lists: [a, b, c, d, e], buffer }) => {
                 [a, b, c, d, e, buffer]
             }
             _ => [0; 6],
         }
     }
+
+    /// The same refusal in a sentence that names the tile that was asked for.
+    ///
+    /// ```
+    /// use mapsforge::Refusal;
+    ///
+    /// let told = Refusal::TileHeadCutOff(12300).of_tile(10).to_string();
+    /// assert!(told.starts_with("the head of tile 10 is cut off at byte 12300"));
+    /// ```
+    pub fn of_tile(self, tile: usize) -> TileRefusal {
+        TileRefusal { refusal: self, tile }
+    }
+}
+
+/// A refusal of a call about a tile; see [`Refusal::of_tile`].
+#[derive(Clone, Copy, Debug, PartialEq, Eq, Hash)]
+pub struct TileRefusal {
+    /// Why it was refused.
+    pub refusal: Refusal,
+    /// The tile's number.
+    pub tile: usize,
+}
+
+impl fmt::Display for TileRefusal {
+    fn fmt(&self, f: &mut fmt::Formatter<'_>) -> fmt::Result {
+        match self.refusal {
+            Refusal::TileHeadCutOff(place) => {
+                head_cut_off(f, format_args!("the head of tile {}", self.tile), place)
+            }
+            other => other.fmt(f),
+        }
+    }
+}
+
+impl std::error::Error for TileRefusal {}
+
+fn head_cut_off(f: &mut fmt::Formatter<'_>, head: fmt::Arguments<'_>, place: u64) -> fmt::Result {
+    write!(
+        f,
+        "{head} is cut off at byte {place}: the file is incomplete, or the tile's entry is \
+         damaged; copy or fetch the map anew"
+    )
 }
 
 impl fmt::Display for Refusal {
@@ -217,6 +270,14 @@ impl fmt::Display for Refusal {
             Refusal::InvalidFeature => write!(f, "the tile has no feature of this number"),
             Refusal::ZoomTooLarge => {
                 write!(f, "a zoom is above 63, for which columns cannot be computed")
+            }
+            Refusal::IndexCutOff(place) => write!(
+                f,
+                "the index is cut off at byte {place}: the file is incomplete, or its header is \
+                 damaged; copy or fetch the map anew"
+            ),
+            Refusal::TileHeadCutOff(place) => {
+                head_cut_off(f, format_args!("the tile's head"), *place)
             }
             Refusal::Other(number) => write!(
                 f,

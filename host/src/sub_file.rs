@@ -145,7 +145,7 @@ impl<'m, 'a> SubFile<'m, 'a> {
         Ok(Position { latitude: latitude_of_row(place.y as u32, zoom)?, longitude: longitude[0] })
     }
 
-    /// A tile's entry in the index.
+    /// A tile's entry in the index. Refusal 19 if the map ends before it does.
     pub fn entry(&self, tile: usize) -> Result<IndexEntry, Refusal> {
         let mut words = [0; 9];
         let (map, corners) = (self.map, self.grid.corners());
@@ -168,12 +168,14 @@ impl<'m, 'a> SubFile<'m, 'a> {
         Ok(self.entry(tile + 1)?.offset == offset)
     }
 
-    /// Collects a tile: decodes every feature of it.
+    /// Collects a tile: decodes every feature of it. If the map is cut off, refusal 19 is for the tile's entry, 20 for its
+    /// head, 1 for a feature.
     pub fn collect(&self, tile: usize) -> Result<Tile<'m, 'a>, Refusal> {
         Tile::collect(*self, tile)
     }
 
-    /// Opens a stream of a tile at a zoom, which is clamped into the interval.
+    /// Opens a stream of a tile at a zoom, which is clamped into the interval. Refusal 19 or 20 if the map is cut off in the
+    /// tile's entry or head.
     pub fn stream(&self, tile: usize, zoom: u8) -> Result<Stream<'m, 'a>, Refusal> {
         Stream::open(*self, tile, zoom)
     }

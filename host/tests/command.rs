@@ -153,8 +153,8 @@ fn check_reads_tiles_that_are_marked_empty() {
     map[entry(11)].copy_from_slice(&size.to_be_bytes()[3..]);
     let path = text(&written("marked-last.map", &map));
     let checked = answer(&["check", &path], 1);
-    let refused =
-        "sub file 2, tile 11 (13/4097/2272), marked empty: its head, byte 29815: refused with 1:";
+    let refused = "sub file 2, tile 11 (13/4097/2272), marked empty: refused with 20: the head of \
+                   tile 11 is cut off at byte 29815:";
     assert!(checked.contains(refused), "{checked}");
     assert!(checked.ends_with(": 1 finding\n"), "{checked}");
     let skipped = answer(&["check", "--skip-empty", &path], 0);
@@ -167,16 +167,69 @@ fn check_stays_quick_on_absurd_maps() {
     let world = with_box(map_bytes("islands.map"), [-90000000, -180000000, 90000000, 180000000]);
     let path = text(&written("world.map", &world));
     let checked = answer(&["check", &path], 1);
-    assert!(checked.contains("sub file 2: its grid has 67108864 tiles"), "{checked}");
-    assert!(answer(&["tiles", &path], 0).contains("sub file 2: its grid has 67108864 tiles"));
-
-    // Cut off behind the index: every finding has a line, the last the count.
-    let cut = text(&written("cut.map", &map_bytes("islands.map")[..12300]));
-    let checked = answer(&["check", &cut], 1);
-    assert!(checked.starts_with("the header says that the file has 29815 bytes, but it has 12300"));
-    assert!(checked.contains("sub file 2, tile 0 (13/4094/2270): its head, byte"), "{checked}");
-    assert!(checked.ends_with(": 13 findings\n"), "{checked}");
+    assert!(checked.contains("sub file 2: refused with 19: the index is cut off at byte 29813:"));
+    assert!(checked.contains(". Its grid has 67108864 tiles, but from its start at byte 12233 on"));
+    assert!(answer(&["tiles", &path], 0).contains(". Its grid has 67108864 tiles, but from"));
     assert!(start.elapsed() < Duration::from_secs(5));
+}
+
+/// A shipped map without its end, in a file of the test's own, since tests run at once.
+fn cut(test: &str, name: &str, length: usize) -> String {
+    text(&written(&format!("{test}-{length}-{name}"), &map_bytes(name)[..length]))
+}
+
+/// Cut off behind the index: every finding has a line, the last the count.
+#[test]
+fn check_tells_of_heads_that_are_cut_off() {
+    let checked = answer(&["check", &cut("head", "islands.map", 12300)], 1);
+    assert!(checked.starts_with("the header says that the file has 29815 bytes, but it has 12300"));
+    // The map ends in tile 0's zoom table, and before tile 1.
+    for refused in [
+        "sub file 2, tile 0 (13/4094/2270): refused with 20: the head of tile 0 is cut off at byte 12300: the file is incomplete",
+        "sub file 2, tile 1 (13/4095/2270): refused with 20: the head of tile 1 is cut off at byte 12312: the file is incomplete",
+    ] {
+        assert!(checked.contains(refused), "{refused:?} is missing in {checked}");
+    }
+    assert!(checked.ends_with(": 13 findings\n"), "{checked}");
+
+    // The signature of tile 0 of the debug map lacks its last byte: all of it is missing.
+    let debug = map_bytes("islands-debug.map");
+    let map = mapsforge::Map::open(&debug).unwrap();
+    let place = map.sub_file(2).unwrap().entry(0).unwrap().place;
+    let path = cut("head", "islands-debug.map", place as usize + 31);
+    let refused = format!("refused with 20: the head of tile 0 is cut off at byte {place}: ");
+    for command in ["check", "tiles"] {
+        let told = answer(&[command, &path], i32::from(command == "check"));
+        assert!(told.contains(&refused), "{refused:?} is missing in {told}");
+    }
+}
+
+/// Cut off in an index: a line for the sub file, whose tiles are not read.
+#[test]
+fn check_and_tiles_tell_of_an_index_that_is_cut_off() {
+    let path = cut("index", "islands.map", 12250);
+    let refused = "sub file 2: refused with 19: the index is cut off at byte 12248: the file is incomplete, or its \
+                   header is damaged; copy or fetch the map anew. Its grid has 12 tiles, but from its start at byte \
+                   12233 on the map has room for 3 index entries: its tiles are not read\n";
+    let checked = answer(&["check", &path], 1);
+    assert!(checked.contains(refused), "{checked}");
+    assert!(
+        checked.ends_with("8 tiles in 3 sub files, 16 points, 78 ways: 2 findings\n"),
+        "{checked}"
+    );
+    assert!(answer(&["tiles", &path], 0).ends_with(refused));
+}
+
+/// Cut off in a feature: that is 1, at the feature.
+#[test]
+fn check_tells_a_feature_that_is_cut_off_from_a_head() {
+    let checked = answer(&["check", &cut("feature", "islands.map", 20000)], 1);
+    for refused in [
+        "sub file 2, tile 6 (13/4096/2271): way 49, byte 19999: refused with 1: the map ends",
+        "sub file 2, tile 7 (13/4097/2271): refused with 20: the head of tile 7 is cut off at byte 20320: ",
+    ] {
+        assert!(checked.contains(refused), "{refused:?} is missing in {checked}");
+    }
 }
 
 #[test]
@@ -249,10 +302,20 @@ fn a_full_disk_is_told() {
 
 #[test]
 fn a_tile_that_is_refused_is_told() {
-    let cut = text(&written("cut-tile.map", &map_bytes("islands.map")[..12300]));
-    let told = complaint(&["show", &cut, "2:10"], 1);
-    assert!(told.starts_with("mapsforge: refused with 1: the map ends"));
-    complaint(&["svg", &cut, "2:10"], 1);
+    let words = [&["show"][..], &["show", "--zoom", "13"], &["svg"]];
+    for (length, refused) in [
+        (12250, "refused with 19: the index is cut off at byte 12283: the file is incomplete"),
+        (12300, "refused with 20: the head of tile 10 is cut off at byte 21740: the file is"),
+        (21745, "refused with 20: the head of tile 10 is cut off at byte 21745: the file is"),
+        (22000, "refused with 1: the map ends in the middle of what is read"),
+    ] {
+        let path = cut("told", "islands.map", length);
+        for words in words {
+            let told = complaint(&[words, &[path.as_str(), "2:10"]].concat(), 1);
+            assert!(told.starts_with(&format!("mapsforge: {refused}")), "{told}");
+            assert!(length == 22000 || told.ends_with("copy or fetch the map anew\n"), "{told}");
+        }
+    }
 }
 
 #[test]

@@ -287,7 +287,7 @@ fn refusals_have_the_wrappers_names() {
             (name.to_string(), number.parse().expect("it is a number"))
         })
         .collect();
-    assert_eq!(names.len(), 18);
+    assert_eq!(names.len(), 20);
     for (k, (name, number)) in names.iter().enumerate() {
         assert_eq!(*number, k as u64 + 1);
         let refusal = format!("{:?}", Refusal::check(*number, &[]).unwrap_err());

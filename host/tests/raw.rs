@@ -177,7 +177,7 @@ fn any_layout_and_any_interval_will_do() {
     let map = map_bytes("islands-debug.map");
     let known = opened(&map);
     let mut random = Random(7);
-    let mut seen = [0; 19];
+    let mut seen = [0; 21];
     for _ in 0..10_000 {
         let (mut layout, mut interval) = known;
         // Most words stay the map's, or little would be read.
@@ -201,8 +201,9 @@ fn any_layout_and_any_interval_will_do() {
             assert_eq!(numbers, [8; 4]);
         }
     }
-    // Results, ends too early, missing tags, sub files and tiles, reversed intervals, lists too short, no such feature.
-    assert!([0, 1, 7, 8, 13, 15, 17].iter().all(|&number| seen[number] > 0), "{seen:?}");
+    // Results, ends too early, missing tags, sub files and tiles, reversed intervals, lists too short, no such feature,
+    // entries and heads that are cut off.
+    assert!([0, 1, 7, 8, 13, 15, 17, 19, 20].iter().all(|&number| seen[number] > 0), "{seen:?}");
 }
 
 /// A sub file is there by any word but 0, a zoom is the last byte of its word, and base zoom and size say nothing.
@@ -237,7 +238,7 @@ fn words_that_say_the_same_are_taken_alike() {
 fn any_state_and_any_layout_will_do() {
     let map = map_bytes("islands-debug.map");
     let mut random = Random(1);
-    let mut seen = [0; 19];
+    let mut seen = [0; 21];
     for _ in 0..20_000 {
         let mut state = Guarded::new([0; 7]);
         let mut layout = [0; 5];

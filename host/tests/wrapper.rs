@@ -306,19 +306,31 @@ fn calls_take_turns() {
 #[test]
 fn each_refusal_has_its_number_and_a_sentence() {
     let mut sentences = std::collections::HashSet::new();
-    for number in 1..=19 {
+    for number in 1..=21 {
         let refusal = Refusal::check(number, &[2, 3, 4, 5, 6, 7]).unwrap_err();
         assert_eq!(refusal.number(), number);
         let values = match number {
-            3 | 7 => [2, 0, 0, 0, 0, 0],
+            3 | 7 | 19 | 20 => [2, 0, 0, 0, 0, 0],
             15 => [2, 3, 4, 5, 6, 7],
             _ => [0; 6],
         };
         assert_eq!(refusal.values(), values);
         assert!(refusal.to_string().len() > 30);
         assert!(sentences.insert(refusal.to_string()));
+        // Only one of them is told otherwise of a tile.
+        let of_tile = refusal.of_tile(10).to_string();
+        assert_eq!(of_tile != refusal.to_string(), number == 20, "{of_tile}");
     }
     assert_eq!(Refusal::check(0, &[1; 6]), Ok(()));
+    let told = |refusal: Refusal, start: &str| {
+        let text = refusal.of_tile(10).to_string();
+        assert!(text.starts_with(start) && text.ends_with("copy or fetch the map anew"), "{text}");
+    };
+    told(Refusal::IndexCutOff(7), "the index is cut off at byte 7: the file is incomplete");
+    told(Refusal::TileHeadCutOff(8), "the head of tile 10 is cut off at byte 8: the file is");
+    assert!(Refusal::TileHeadCutOff(8)
+        .to_string()
+        .starts_with("the tile's head is cut off at byte 8:"));
 }
 
 /// islands.map with a change.
@@ -375,6 +387,71 @@ fn tiles_refuse_what_is_not_there() {
     assert_eq!(refused, Refusal::ReversedInterval);
     let deep = changed(|map| map[place] = 64);
     assert_eq!(Map::open(&deep).unwrap().sub_file(2).unwrap_err(), Refusal::ZoomTooLarge);
+}
+
+/// A map that is cut off in the entry or the head of a tile, or right behind it: all that reads the tile refuses it alike.
+#[test]
+fn a_cut_map_is_refused_where_something_is_missing() {
+    for (name, signature) in [("islands.map", 0), ("islands-debug.map", 32)] {
+        let whole = map_bytes(name);
+        let map = Map::open(&whole).unwrap();
+        let sub_file = map.sub_file(2).unwrap();
+        let entry = sub_file.entry_place(10).unwrap() as usize;
+        let head = sub_file.entry(10).unwrap().place as usize;
+        let (_, end) = stored(&whole, offset_place(&sub_file, 10));
+        let refused = |length: usize, entry: Option<Refusal>, tile: Refusal| {
+            assert_eq!(refused_when_cut(&whole, length), (entry, [tile; 3]), "{name} {length}");
+        };
+        for length in entry..entry + 5 {
+            let cut_off = Refusal::IndexCutOff(entry as u64);
+            refused(length, Some(cut_off), cut_off);
+        }
+        // The tile is not there at all, or the map ends in its signature.
+        for length in (entry + 5..head).step_by(7).chain(head..head + signature) {
+            refused(length, None, Refusal::TileHeadCutOff(head as u64));
+        }
+        // A number is read byte by byte.
+        for length in head + signature..end {
+            refused(length, None, Refusal::TileHeadCutOff(length as u64));
+        }
+        let map = Map::open(&whole[..end]).unwrap();
+        let sub_file = map.sub_file(2).unwrap();
+        assert_eq!(sub_file.collect(10).unwrap_err(), Refusal::Source);
+        assert_eq!(sub_file.stream(10, 13).unwrap().next().unwrap_err(), Refusal::Source);
+    }
+}
+
+/// How tile 10 of sub file 2 of a cut map is refused: its entry, if that is, then a stream, collecting and a fetch.
+fn refused_when_cut(whole: &[u8], length: usize) -> (Option<Refusal>, [Refusal; 3]) {
+    let map = Map::open(&whole[..length]).unwrap();
+    let sub_file = map.sub_file(2).unwrap();
+    let (stream, tile) = (sub_file.stream(10, 13), sub_file.collect(10));
+    let refused = [stream.unwrap_err(), tile.unwrap_err(), fetch_refused(&sub_file, 10)];
+    (sub_file.entry(10).err(), refused)
+}
+
+/// How a fetch of feature 0 is refused, for which the tile need not be collected before.
+fn fetch_refused(sub_file: &SubFile<'_, '_>, tile: usize) -> Refusal {
+    let (map, corners) = (sub_file.map(), sub_file.grid().corners());
+    let interval = interval_words(map, sub_file.number());
+    let lists = raw::FetchLists {
+        node_counts: &mut [],
+        latitudes: &mut [],
+        longitudes: &mut [],
+        initial_latitudes: &mut [],
+        initial_longitudes: &mut [],
+        buffer: &mut [],
+    };
+    let mut got = raw::FetchWords::default();
+    let number =
+        raw::fetch(map.bytes(), map.layout(), &interval, corners, tile, 0, lists, &mut got);
+    Refusal::check(number, &got.words).unwrap_err()
+}
+
+fn interval_words(map: &Map<'_>, sub_file: usize) -> [u64; 6] {
+    let mut interval = [0; 6];
+    assert_eq!(raw::interval(map.bytes(), sub_file, &mut [0; 6], &mut interval), 0);
+    interval
 }
 
 #[test]
@@ -507,25 +584,34 @@ fn check_names_the_place_of_a_refusal() {
     let size = MapFinding::FileSize { stored: 29815, actual: 29814 };
     assert_eq!(check::map(&map), [size]);
     let found = findings(&map);
-    let [(2, 11, Finding::Refused { refusal: Refusal::Source, spot: Spot::Way(52), at: Some(way) })] =
+    let [(2, 11, Finding::Refused { tile: 11, refusal, spot: Spot::Way(52), at: Some(way) })] =
         found[..]
     else {
         panic!("{found:?}");
     };
+    assert_eq!(refusal, Refusal::Source);
     assert_eq!(way + 1 + u64::from(whole[way as usize]), whole.len() as u64);
+
+    // Cut in the last tile's head.
+    let cut = &whole[..at(11) as usize + 3];
+    let found = findings(&Map::open(cut).unwrap());
+    let refusal = Refusal::TileHeadCutOff(at(11) + 3);
+    let head = Finding::Refused { tile: 11, refusal, spot: Spot::Head, at: Some(at(11)) };
+    assert_eq!(found, [(2, 11, head)]);
+    let told = format!("refused with 20: the head of tile 11 is cut off at byte {}: ", at(11) + 3);
+    assert!(head.to_string().starts_with(&told), "{head}");
 
     // Cut behind the header: each tile's entry.
     let end = Map::open(&whole).unwrap().header().end as usize;
     let map = Map::open(&whole[..end]).unwrap();
-    assert!(matches!(
-        check::map(&map)[1],
-        MapFinding::Index { sub_file: 0, tiles: 4, room: 0, .. }
-    ));
+    let index = MapFinding::Index { sub_file: 0, start: 1852, tiles: 4, room: 0, cut_off: 1852 };
+    assert_eq!(check::map(&map)[1], index);
     let found = findings(&map);
     assert_eq!(found.len(), 20);
-    let (refusal, entry) = (Refusal::Source, Some(12233 + 5 * 11));
-    let last = Finding::Refused { refusal, spot: Spot::Entry, at: entry };
+    let (refusal, entry) = (Refusal::IndexCutOff(12288), Some(12233 + 5 * 11));
+    let last = Finding::Refused { tile: 11, refusal, spot: Spot::Entry, at: entry };
     assert_eq!(found[19], (2, 11, last));
+    assert!(last.to_string().starts_with("refused with 19: the index is cut off at byte 12288: "));
 
     // A point with a tag that the header does not have.
     let map = Map::open(&whole).unwrap();
@@ -537,8 +623,30 @@ fn check_names_the_place_of_a_refusal() {
     tagged[place] = 0x7f;
     let found = findings(&Map::open(&tagged).unwrap());
     let refusal = Refusal::InvalidTagId(0x7f);
-    let spot = Finding::Refused { refusal, spot: Spot::Point(0), at: Some(head as u64) };
+    let spot = Finding::Refused { tile: 8, refusal, spot: Spot::Point(0), at: Some(head as u64) };
     assert_eq!(found, [(2, 8, spot)]);
+}
+
+/// The place that is told of a cut index is the one by which the library refuses the first entry that is missing.
+#[test]
+fn check_names_the_place_of_a_cut_index() {
+    for (name, signature) in [("islands.map", 0), ("islands-debug.map", 16)] {
+        let whole = map_bytes(name);
+        let start = Map::open(&whole).unwrap().intervals()[2].start;
+        let entries = start + signature;
+        for length in entries..entries + 60 {
+            let map = Map::open(&whole[..length as usize]).unwrap();
+            let room = (length - entries) / 5;
+            let cut_off = entries + 5 * room;
+            let index = MapFinding::Index { sub_file: 2, start, tiles: 12, room, cut_off };
+            assert_eq!(check::map(&map)[1..], [index]);
+            let refused = map.sub_file(2).unwrap().entry(room as usize).unwrap_err();
+            assert_eq!(refused, Refusal::IndexCutOff(cut_off));
+            let told =
+                format!("sub file 2: refused with 19: the index is cut off at byte {cut_off}: ");
+            assert!(index.to_string().starts_with(&told), "{index}");
+        }
+    }
 }
 
 /// An unsigned number and the place behind it.
@@ -616,7 +724,8 @@ fn an_absurd_grid_is_a_finding() {
     let found = check::map(&map);
     assert_eq!(found.len(), 3);
     let (tiles, room) = (1 << 26, (29815 - 12233) / 5);
-    assert_eq!(found[2], MapFinding::Index { sub_file: 2, start: 12233, tiles, room });
+    let cut_off = 12233 + 5 * room;
+    assert_eq!(found[2], MapFinding::Index { sub_file: 2, start: 12233, tiles, room, cut_off });
 }
 
 /// Whatever a map's bytes are, every call ends, and nothing panics.

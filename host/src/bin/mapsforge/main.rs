@@ -13,7 +13,7 @@ mod target;
 mod tiles;
 
 use args::Args;
-use mapsforge::{MapFile, Refusal};
+use mapsforge::{MapFile, Refusal, TilePlace};
 use std::io::{self, Write};
 use std::process::ExitCode;
 
@@ -49,6 +49,14 @@ impl From<io::Error> for Failure {
 impl From<Refusal> for Failure {
     fn from(refusal: Refusal) -> Failure {
         Failure::Refused(format!("refused with {}: {refusal}", refusal.number()))
+    }
+}
+
+/// The refusal of a call about a tile, which is named where that helps.
+pub fn of_tile(place: TilePlace) -> impl Fn(Refusal) -> Failure {
+    move |refusal| {
+        let told = refusal.of_tile(place.number);
+        Failure::Refused(format!("refused with {}: {told}", refusal.number()))
     }
 }
 

@@ -2,7 +2,7 @@
 
 use crate::args::{Args, Choice};
 use crate::output::{clean, count, name, position, tile as named};
-use crate::{open, open_map, target, Failure, Outcome};
+use crate::{of_tile, open, open_map, target, Failure, Outcome};
 use mapsforge::{closed, Feature, Position, Step, SubFile, TilePlace};
 use std::io::{self, Write};
 
@@ -58,7 +58,7 @@ fn collected<W: Write>(
     place: TilePlace,
     shown: &mut Shown<'_, W>,
 ) -> Result<(), Failure> {
-    let tile = sub_file.collect(place.number)?;
+    let tile = sub_file.collect(place.number).map_err(of_tile(place))?;
     let (points, ways) = (tile.point_count(), tile.way_count());
     write!(shown.out, "{}, {}", count(points, "point"), count(ways, "way"))?;
     if let Some(signature) = tile.signature() {
@@ -108,7 +108,7 @@ fn streamed<W: Write>(
     zoom: u8,
     shown: &mut Shown<'_, W>,
 ) -> Result<(), Failure> {
-    let mut stream = sub_file.stream(place.number, zoom)?;
+    let mut stream = sub_file.stream(place.number, zoom).map_err(of_tile(place))?;
     let interval = sub_file.interval();
     let clamped = zoom.clamp(interval.min_zoom, interval.max_zoom);
     writeln!(shown.out, "streamed at zoom {clamped}, all ways accepted")?;

@@ -3,7 +3,7 @@
 use crate::args::{Args, Choice};
 use crate::output::{first_name, tile as named};
 use crate::style::{self, Mark, Style, Tags};
-use crate::{open, open_map, target, Failure, Outcome};
+use crate::{of_tile, open, open_map, target, Failure, Outcome};
 use mapsforge::{closed, Part, Position, Refusal, Step, SubFile, TagName, TilePlace};
 use std::f64::consts::PI;
 use std::fmt::Write as _;
@@ -37,7 +37,8 @@ pub fn run(args: &Args, out: &mut impl Write) -> Outcome {
     let map = open_map(path, &file)?;
     let (sub_file, place) = target::find(&map, tile)?;
     let zoom = zoom.unwrap_or(sub_file.interval().max_zoom);
-    let drawing = Scene::read(&sub_file, place, zoom)?.draw(&named(&sub_file, place));
+    let scene = Scene::read(&sub_file, place, zoom).map_err(of_tile(place))?;
+    let drawing = scene.draw(&named(&sub_file, place));
     match args.value("--output") {
         None | Some("-") => out.write_all(drawing.as_bytes())?,
         Some(to) => std::fs::write(to, drawing).map_err(|error| {

@@ -71,6 +71,8 @@ fn line(sub_file: &SubFile<'_, '_>, place: TilePlace, out: &mut impl Write) -> i
             let note = if tile.exact() { "" } else { "  a stored size is wrong: see check" };
             writeln!(out, "{note}")
         }
-        Err(refusal) => writeln!(out, "refused with {}: {refusal}", refusal.number()),
+        Err(refusal) => {
+            writeln!(out, "refused with {}: {}", refusal.number(), refusal.of_tile(number))
+        }
     }
 }
