@@ -7,7 +7,7 @@ use mathlib.Core.List.{List, [], _∷_}
 use lib.Dec.{ltb}
 use lib.ListN.{length}
 use borrow.Author.Tests.{lt-ltb, ltb-true, ltb-false}
-use Rattle.parsing.specs.Parse.{Res, ok, no, Parser, andThen, bind, renumbered, instead}
+use Rattle.parsing.specs.Parse.{no, Parser, bind, instead}
 use Rattle.parsing.proofs.Ends.{PastEnd}
 use Rattle.arithmetic.specs.Cut.{cut}
 

@@ -14,7 +14,7 @@ use Rattle.error.specs.declared.Refusal.{Refusal}
 use Rattle.error.specs.declared.Refusal.the-variants.{ReversedInterval}
 use Rattle.byte_source.proofs.ReadLaws.{Taken, taken, loop-no, number-ok, number-no}
 use Rattle.utils.proofs.NumberLaws as numbers
-use Rattle.format.specs.Tile.{Row, row, zoomTable}
+use Rattle.format.specs.Tile.{Row, row}
 use Rattle.format.specs.Rows.{numbersOfTable}
 use Rattle.types.specs.Types.{endRefusal}
 use Rattle.types.specs.declared.End.the-variants as end

@@ -13,16 +13,14 @@ use Rattle.error.specs.Refusals.{refused, numberOf, valuesOf, inTileHead}
 use Rattle.error.proofs.RefusalLaws.{in-tile-head}
 use Rattle.types.specs.Beside.{viewOr}
 use Rattle.error.specs.declared.Refusal.{Refusal}
-use Rattle.arithmetic.specs.Cut.{cut}
 use Rattle.arithmetic.proofs.CutLaws.{cut-fits}
 use Rattle.byte_source.proofs.CutOffLaws.{renumbered-value, head-refusal}
 use Rattle.format.specs.CutOff.{whereByte}
 use Rattle.format.specs.Tile.{Row, row, zoomTable}
 use Rattle.format.specs.Rows.{rowsOfInterval, numbersOfTable, intervalTable}
 use Rattle.types.specs.Types.{endRes, endRefusal}
-use Rattle.types.specs.declared.End.{End}
 use Rattle.types.specs.declared.End.the-variants as end
-use Rattle.types.proofs.BesideLaws.{beside-done, beside-no}
+use Rattle.types.proofs.BesideLaws.{beside-no}
 use Rattle.blocks.specs.Blocks.{rowsOf, noRows, shownRows, TableIs, zoomSums, sumsRes, sumsRefusal}
 use Rattle.blocks.specs.declared.ZoomTableRead.{ZoomTableRead}
 use Rattle.blocks.specs.declared.SumsRead.{SumsRead}

@@ -2,9 +2,9 @@
 use Prim.Native.Nat.{ℕ}
 use mathlib.Core.Path.{_≡_, refl, sym, ap, _∙_}
 use mathlib.Core.Bool.{Bool, true, false, cond}
-use mathlib.Core.List.{List, [], _∷_}
+use mathlib.Core.List.{[], _∷_}
 use lib.Dec.{eqb}
-use Rattle.parsing.specs.Parse.{Res, ok, no, andThen, mapRes, renumbered}
+use Rattle.parsing.specs.Parse.{Res, ok, no, mapRes, renumbered}
 use Rattle.parsing.specs.Good.{no-ok}
 use Rattle.error.specs.Refusals.{refused, numberOf, valuesOf, inTileHead}
 use Rattle.error.specs.declared.Refusal.{Refusal}

@@ -2,13 +2,12 @@
 use Prim.Native.Nat.{ℕ}
 use mathlib.Core.Path.{_≡_, refl, sym, ap, _∙_}
 use mathlib.Core.Bool.{Bool, true, false, cond}
-use mathlib.Core.List.{List, [], _∷_}
 use borrow.Author.Needs.{needs}
 use borrow.Author.Tests.{eq-eqb, ne-eqb}
 use lib.Dec.{eqb}
-use Rattle.parsing.specs.Parse.{Res, ok, no, renumbered}
+use Rattle.parsing.specs.Parse.{renumbered}
 use Rattle.error.specs.declared.Refusal.{Refusal}
-use Rattle.error.specs.Refusals.{numberOf, valuesOf, refused, inIndex, inTileHead}
+use Rattle.error.specs.Refusals.{numberOf, refused, inIndex, inTileHead}
 use Rattle.error.specs.declared.Refusal.the-variants.{IndexCutOff, TileHeadCutOff}
 
 pub number-at : (r r′ : Refusal) (k : ℕ) → r ≡ r′ → k ≡ numberOf r′ → k ≡ numberOf r

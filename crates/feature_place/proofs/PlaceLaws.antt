@@ -14,7 +14,7 @@ use Rattle.error.specs.Refusals.{refused}
 use Rattle.error.specs.declared.Refusal.{Refusal}
 use Rattle.error.specs.declared.Refusal.the-variants.{InvalidFeature}
 use Rattle.arithmetic.specs.Cut.{cut}
-use Rattle.arithmetic.proofs.CutLaws.{cut-fits, at-cut}
+use Rattle.arithmetic.proofs.CutLaws.{cut-fits}
 use Rattle.byte_source.proofs.ReadLaws.{Taken, taken}
 use Rattle.format.specs.Header.{Interval}
 use Rattle.format.specs.Index.{answer, answered, Grid, Located, locate}

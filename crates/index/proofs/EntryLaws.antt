@@ -8,9 +8,8 @@ use mathlib.Core.List.{List, [], _∷_}
 use lib.Dec.{leb, ltb, eqb, lit≤}
 use lib.ListN.{length}
 use borrow.Author.Tests.{lt-ltb, le-ltb}
-use Rattle.parsing.specs.Parse.{Res, ok, no, Parser, andThen}
-use Rattle.parsing.specs.Good.{ok-val, no-ok}
-use Rattle.parsing.specs.Parse.{renumbered}
+use Rattle.parsing.specs.Parse.{Res, ok, no, andThen, renumbered}
+use Rattle.parsing.specs.Good.{no-ok}
 use Rattle.error.specs.Refusals.{refused, numberOf, inIndex}
 use Rattle.error.proofs.RefusalLaws.{in-index}
 use Rattle.error.specs.declared.Refusal.{Refusal}

@@ -1,4 +1,4 @@
-use mathlib.Core.Path.{refl, ap}
+use mathlib.Core.Path.{refl}
 use Rattle.byte_source.specs.Answers.{numberRes, numberRefusal}
 use Rattle.byte_source.specs.declared.NumberRead.the-variants as number
 use Rattle.byte_source.proofs.CutOffLaws.{head-no, head-ok}

@@ -1,5 +1,5 @@
 use native.Mathlib.Omega.{arith}
-use mathlib.Core.Path.{refl, sym, ap}
+use mathlib.Core.Path.{refl, sym}
 use Rattle.arithmetic.proofs.CutLaws.{cut-fits}
 use Rattle.byte_source.proofs.CutOffLaws.{head-no, head-ok}
 use Rattle.fields.specs.Fields.{optionalSpanRes, optionalSpanRefusal}
