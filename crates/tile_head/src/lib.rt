@@ -42,7 +42,10 @@ fn head_signature(map: &[u8], at: usize, debug: bool) -> OptionalSpanRead
 {
     let got = fields::read_signature(map, at, debug);
     let OptionalSpanRead::Value(_, _) = got else {
-        return OptionalSpanRead::Refused(error::in_tile_head(fields::optional_span_refusal(got), at as u64));
+        return OptionalSpanRead::Refused(error::in_tile_head(
+            fields::optional_span_refusal(got),
+            at as u64,
+        ));
     };
     got
 }
@@ -53,7 +56,10 @@ fn head_number(map: &[u8], at: usize) -> NumberRead
 {
     let got = utils::read_vbe_u_int(map, at);
     let NumberRead::Value(_, _) = got else {
-        return NumberRead::Refused(error::in_tile_head(byte_source::number_refusal(got), blocks::missing_byte(map, at)));
+        return NumberRead::Refused(error::in_tile_head(
+            byte_source::number_refusal(got),
+            blocks::missing_byte(map, at),
+        ));
     };
     got
 }
