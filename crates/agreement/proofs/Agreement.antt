@@ -58,7 +58,7 @@ module _ (C : MapLayout) (L : MapLaws C) (m : List ℕ) (h : C .Header) (n : C .
     shown = ap (streamedReplies (C .view h)) (a .replies) ∙ view-book (C .view h) (L .view h) t (C .end h n) (rowsAt C h zoom) bookStart cs;
   }
 
-  altered : (zoom : ℕ) (cs : List Call) (m′ : List ℕ) → DifferOnly m m′ (MapAlterable C m h t cs (mapReplies C h n t zoom cs)) → MapAgrees C m′ h n t zoom cs
+  altered : (zoom : ℕ) (cs : List Call) (m′ : List ℕ) → DifferOnly m m′ (MapAlterable C m h t zoom cs (mapReplies C h n t zoom cs)) → MapAgrees C m′ h n t zoom cs
   altered zoom cs m′ D =
       let o = c .map in
       let s : (j : ℕ) → LiesIn j (openedBytes C m h) → getD m j 0 ≡ getD m′ j 0 = λ j k. decided _ _ (λ e. D .only j e .only .opened k) in

@@ -1,4 +1,4 @@
--- Bytes that lie only in ways declined untried, and in no point that was delivered, do not matter: call by call.
+-- Bytes that lie only in ways declined untried, and in no point up to the zoom, do not matter: call by call.
 use mathlib.Core.Path.{_≡_, refl, sym}
 use mathlib.Core.Bool.{Bool, true, false}
 use mathlib.Core.List.{List, [], _∷_, _++_}
@@ -6,16 +6,16 @@ use Prim.Native.Nat.{ℕ, zero, suc, _+_, _≤_, _<_}
 use native.Mathlib.Nat.{le-refl, le-trans}
 use native.Mathlib.Omega.{arith}
 use lib.ListN.{length, getD}
-use Rattle.parsing.specs.Parse.{ok, many, Maybe, none, some}
-use Rattle.parsing.specs.Good.{Agree, narrow, many-good, split, ok-at}
+use Rattle.parsing.specs.Parse.{ok, Maybe, none, some}
+use Rattle.parsing.specs.Good.{Agree, narrow}
 use Rattle.arithmetic.specs.Cut.{cut}
 use Rattle.format.specs.Lent.{LentLists, fits}
 use Rattle.agreement.specs.Calls.{Call, next, accept, decline, Step, run}
 use Rattle.agreement.specs.Format.{Format, Laws, dataEnd}
 use Rattle.agreement.specs.Stream.{StreamAnswer, State, idle, waits, stream}
 use Rattle.agreement.specs.Collected.{Way}
-use Rattle.agreement.specs.Declined.{Bytes, LiesIn, this, later, untried, bytesAdded, declinedFrom, isPoint, pointsDelivered}
-use Rattle.agreement.proofs.Chain.{Chain, stop, link}
+use Rattle.agreement.specs.Declined.{Bytes, LiesIn, this, later, untried, bytesAdded, declinedFrom}
+use Rattle.agreement.proofs.Chain.{Chain, stop, link, forth}
 use Rattle.agreement.proofs.Remaining.{Body, Ways, nil, cons}
 
 -- in one part of a list of bytes, or in the other
@@ -36,190 +36,152 @@ single e d (this a b) = (omega arith, omega arith)
 single e d (later h) = nowhere h
 
 module _ (F : Format) (L : Laws F) (m m′ : List ℕ) (long : length m ≡ length m′) (z : F .End) where
-  -- points from i on, of which the first n are read alike from both maps
-  pub data Points : (n i : ℕ) → List (F .Point) → Type 0 where
-    no-points : {n i : ℕ} → Points n i []
-    near : {n i x : ℕ} {p : F .Point} {ps : List (F .Point)} → F .point m i ≡ ok p x → F .point m′ i ≡ ok p x → Points n x ps → Points (suc n) i (p ∷ ps)
-    far : {i x : ℕ} {p : F .Point} {ps : List (F .Point)} → F .point m i ≡ ok p x → Points 0 x ps → Points 0 i (p ∷ ps)
+  -- points from i on, read alike from both maps
+  pub data Points : ℕ → List (F .Point) → Type 0 where
+    no-points : {i : ℕ} → Points i []
+    alike-point : {i x : ℕ} {p : F .Point} {ps : List (F .Point)} → F .point m i ≡ ok p x → F .point m′ i ≡ ok p x → Points x ps → Points i (p ∷ ps)
 
-  pub far-points : {i e : ℕ} {ps : List (F .Point)} → Chain (F .point) m i ps e → Points 0 i ps
-  far-points stop = no-points
-  far-points (link h c) = far h (far-points c)
-
-  pub near-points : (n i : ℕ) {e x : ℕ} {ps qs : List (F .Point)} → Chain (F .point) m i ps e → many (F .point) n m i ≡ ok qs x → Agree m m′ i x → Points n i ps
-  near-points zero i c h a = far-points c
-  near-points (suc n) i stop h a = no-points
-  near-points (suc n) i {x = x} {qs = qs} (link {x = y} {a = p} k c) h a =
-      let t = split (many (F .point) n m y) (λ l u. ok (p ∷ l) u) qs x (rw k at h) in
-      let u = many-good (L .point-good) n .forth m y (t .val) (t .mid) (t .first) in
-      let q : t .mid ≡ x = ok-at (t .second) in
-      let b = narrow {t′ = y} (le-refl i) (omega arith) a in
-      let f = L .point-good .forth m i p y k in
-      near k (L .point-good .near m m′ i p y b k) (near-points n y c (t .first) (narrow f (omega arith) a))
+  pub near-points : {i e : ℕ} {ps : List (F .Point)} → Chain (F .point) m i ps e → Agree m m′ i e → Points i ps
+  near-points stop a = no-points
+  near-points {i = i} (link {x = y} {a = p} k c) a =
+      let g = L .point-good in
+      let b = narrow {t′ = y} (le-refl i) (forth g c) a in
+      alike-point k (g .near m m′ i p y b k) (near-points c (narrow (g .forth m i p y k) (le-refl _) a))
 
   -- a state of the stream of a tile that collects; the way declined next, if it is untried; a place behind which only declined bytes
-  -- were altered, and one before which none lies; and how many points are read alike
-  pub data Sound : State (F .End) → Maybe (F .Head) → (low high n : ℕ) → Type 0 where
-    s-idle : {n i v : ℕ} {ps : List (F .Point)} {ws : List (Way F)} → Points n i ps → Ways F m v ws
-        → Sound (idle (length ps) (length ws) i v z) none v v n
-    s-untried : {n b : ℕ} {w : Way F} {ws : List (Way F)} → F .behind (w .head) ≡ b → Body F m b w → Ways F m (cut (dataEnd F (w .head))) ws
-        → Sound (waits (length ws) (cut (dataEnd F (w .head))) b z) (some (w .head)) b b n
-    s-tried : {n b : ℕ} {w : Way F} {ws : List (Way F)} → Body F m b w → Ways F m (cut (dataEnd F (w .head))) ws
-        → Sound (waits (length ws) (cut (dataEnd F (w .head))) b z) none b (cut (dataEnd F (w .head))) n
+  -- were altered, and one before which none lies
+  pub data Sound : State (F .End) → Maybe (F .Head) → (low high : ℕ) → Type 0 where
+    s-idle : {i v : ℕ} {ps : List (F .Point)} {ws : List (Way F)} → Points i ps → Ways F m v ws
+        → Sound (idle (length ps) (length ws) i v z) none v v
+    s-untried : {b : ℕ} {w : Way F} {ws : List (Way F)} → F .behind (w .head) ≡ b → Body F m b w → Ways F m (cut (dataEnd F (w .head))) ws
+        → Sound (waits (length ws) (cut (dataEnd F (w .head))) b z) (some (w .head)) b b
+    s-tried : {b : ℕ} {w : Way F} {ws : List (Way F)} → Body F m b w → Ways F m (cut (dataEnd F (w .head))) ws
+        → Sound (waits (length ws) (cut (dataEnd F (w .head))) b z) none b (cut (dataEnd F (w .head)))
 
   -- what one call does to that, and what it needs to be answered alike from both maps
-  record Onward (s : State (F .End)) (w : Maybe (F .Head)) (lo hi n : ℕ) (c : Call) (st : Step (StreamAnswer F) (State (F .End))) : Type 0 where
+  record Onward (s : State (F .End)) (w : Maybe (F .Head)) (lo hi : ℕ) (c : Call) (st : Step (StreamAnswer F) (State (F .End))) : Type 0 where
     low : ℕ
     high : ℕ
-    points : ℕ
     lows : lo ≤ low
     highs : hi ≤ high
-    sound : Sound (st .left) (untried w c (st .reply .answer)) low high points
-    counts : (k : ℕ) → isPoint (st .reply .answer) + k ≤ n → k ≤ points
+    sound : Sound (st .left) (untried w c (st .reply .answer)) low high
     declined : (j : ℕ) → LiesIn j (bytesAdded F w c) → (hi ≤ j) × (j < low)
-    reads : isPoint (st .reply .answer) ≤ n
-        → ((j : ℕ) → lo ≤ j → j < high → (LiesIn j (bytesAdded F w c) → ⊥) → getD m j 0 ≡ getD m′ j 0) → stream F m′ s c ≡ st
+    reads : ((j : ℕ) → lo ≤ j → j < high → (LiesIn j (bytesAdded F w c) → ⊥) → getD m j 0 ≡ getD m′ j 0) → stream F m′ s c ≡ st
 
   -- a call that reads nothing and leaves the state
-  stays : {s : State (F .End)} {w : Maybe (F .Head)} {lo hi n : ℕ} {c : Call} {st : Step (StreamAnswer F) (State (F .End))} → Sound (st .left) (untried w c (st .reply .answer)) lo hi n
-      → isPoint (st .reply .answer) ≡ 0 → ((j : ℕ) → LiesIn j (bytesAdded F w c) → ⊥) → stream F m′ s c ≡ st → Onward s w lo hi n c st
-  stays g p d r = record {
+  stays : {s : State (F .End)} {w : Maybe (F .Head)} {lo hi : ℕ} {c : Call} {st : Step (StreamAnswer F) (State (F .End))} → Sound (st .left) (untried w c (st .reply .answer)) lo hi
+      → ((j : ℕ) → LiesIn j (bytesAdded F w c) → ⊥) → stream F m′ s c ≡ st → Onward s w lo hi c st
+  stays g d r = record {
     low = _;
     high = _;
-    points = _;
     lows = le-refl _;
     highs = le-refl _;
     sound = g;
-    counts = λ k h. omega arith;
     declined = λ j k. absurd (d j k);
-    reads = λ _ _. r;
+    reads = λ _. r;
   }
 
   -- accept reads the body, whether or not the lists fit
-  accepts : {w : Maybe (F .Head)} {hi n b : ℕ} (y : Way F) (ws : List (Way F)) (l : LentLists) → hi ≤ cut (dataEnd F (y .head)) → Body F m b y → Ways F m (cut (dataEnd F (y .head))) ws
+  accepts : {w : Maybe (F .Head)} {hi b : ℕ} (y : Way F) (ws : List (Way F)) (l : LentLists) → hi ≤ cut (dataEnd F (y .head)) → Body F m b y → Ways F m (cut (dataEnd F (y .head))) ws
       → (c : Bool) → fits (F .lists (y .body)) l ≡ c
-      → Onward (waits (length ws) (cut (dataEnd F (y .head))) b z) w b hi n (accept l) (stream F m (waits (length ws) (cut (dataEnd F (y .head))) b z) (accept l))
-  accepts {n = n} {b = b} y ws l up d x true e =
+      → Onward (waits (length ws) (cut (dataEnd F (y .head))) b z) w b hi (accept l) (stream F m (waits (length ws) (cut (dataEnd F (y .head))) b z) (accept l))
+  accepts {b = b} y ws l up d x true e =
       let f = L .body-good .forth m b (y .body) (cut (dataEnd F (y .head))) (d .reads) in
       rw (d .reads, e) record {
         low = cut (dataEnd F (y .head));
         high = cut (dataEnd F (y .head));
-        points = n;
         lows = f;
         highs = up;
         sound = s-idle no-points x;
-        counts = λ k h. omega arith;
         declined = λ j k. nowhere k;
-        reads = λ _ g. rw (L .body-good .near m m′ b (y .body) _ (record { long = long; same = λ j p q. g j p q nowhere }) (d .reads), e);
+        reads = λ g. rw (L .body-good .near m m′ b (y .body) _ (record { long = long; same = λ j p q. g j p q nowhere }) (d .reads), e);
       }
-  accepts {n = n} {b = b} y ws l up d x false e =
+  accepts {b = b} y ws l up d x false e =
       rw (d .reads, e) record {
         low = b;
         high = cut (dataEnd F (y .head));
-        points = n;
         lows = le-refl _;
         highs = up;
         sound = s-tried d x;
-        counts = λ k h. omega arith;
         declined = λ j k. nowhere k;
-        reads = λ _ g. rw (L .body-good .near m m′ b (y .body) _ (record { long = long; same = λ j p q. g j p q nowhere }) (d .reads), e);
+        reads = λ g. rw (L .body-good .near m m′ b (y .body) _ (record { long = long; same = λ j p q. g j p q nowhere }) (d .reads), e);
       }
 
-  onward : (s : State (F .End)) (w : Maybe (F .Head)) (lo hi n : ℕ) (c : Call) → Sound s w lo hi n → Onward s w lo hi n c (stream F m s c)
-  onward s u lo hi n next (s-idle (near {n = k} h h′ y) x) =
+  onward : (s : State (F .End)) (w : Maybe (F .Head)) (lo hi : ℕ) (c : Call) → Sound s w lo hi → Onward s w lo hi c (stream F m s c)
+  onward s u lo hi next (s-idle (alike-point h h′ y) x) =
       rw h record {
         low = lo;
         high = lo;
-        points = k;
         lows = le-refl lo;
         highs = le-refl lo;
         sound = s-idle y x;
-        counts = λ j q. omega arith;
         declined = λ j q. nowhere q;
-        reads = λ _ _. rw h′;
+        reads = λ _. rw h′;
       }
-  onward s u lo hi n next (s-idle (far h y) x) =
-      rw h record {
-        low = lo;
-        high = lo;
-        points = 0;
-        lows = le-refl lo;
-        highs = le-refl lo;
-        sound = s-idle y x;
-        counts = λ j q. omega arith;
-        declined = λ j q. nowhere q;
-        reads = λ q _. absurd (omega arith);
-      }
-  onward s u lo hi n next (s-idle {i = i} {v = v} no-points (cons {b = b} {w = w} h d x)) =
+  onward s u lo hi next (s-idle {i = i} {v = v} no-points (cons {b = b} {w = w} h d x)) =
       let f = L .head-good .forth m v (w .head) b h in
       rw h record {
         low = b;
         high = b;
-        points = n;
         lows = f;
         highs = f;
         sound = s-untried (L .head-post .holds m v (w .head) b h .1) d x;
-        counts = λ j q. omega arith;
         declined = λ j q. nowhere q;
-        reads = λ _ g. rw (L .head-good .near m m′ v (w .head) b (record { long = long; same = λ j p q. g j p q nowhere }) h);
+        reads = λ g. rw (L .head-good .near m m′ v (w .head) b (record { long = long; same = λ j p q. g j p q nowhere }) h);
       }
-  onward s u lo hi n next (s-idle no-points nil) = stays (s-idle no-points nil) refl (λ j q. nowhere q) refl
-  onward s u lo hi n next (s-untried e d x) = stays (s-untried e d x) refl (λ j q. nowhere q) refl
-  onward s u lo hi n next (s-tried d x) = stays (s-tried d x) refl (λ j q. nowhere q) refl
-  onward s u lo hi n (accept l) (s-idle y x) = stays (s-idle y x) refl (λ j q. nowhere q) refl
-  onward s u lo hi n (accept l) (s-untried {b = b} {w = w} {ws = ws} e d x) =
+  onward s u lo hi next (s-idle no-points nil) = stays (s-idle no-points nil) (λ j q. nowhere q) refl
+  onward s u lo hi next (s-untried e d x) = stays (s-untried e d x) (λ j q. nowhere q) refl
+  onward s u lo hi next (s-tried d x) = stays (s-tried d x) (λ j q. nowhere q) refl
+  onward s u lo hi (accept l) (s-idle y x) = stays (s-idle y x) (λ j q. nowhere q) refl
+  onward s u lo hi (accept l) (s-untried {b = b} {w = w} {ws = ws} e d x) =
       accepts w ws l (L .body-good .forth m b (w .body) _ (d .reads)) d x (fits (F .lists (w .body)) l) refl
-  onward s u lo hi n (accept l) (s-tried {w = w} {ws = ws} d x) = accepts w ws l (le-refl _) d x (fits (F .lists (w .body)) l) refl
-  onward s u lo hi n decline (s-idle y x) = stays (s-idle y x) refl (λ j q. nowhere q) refl
-  onward s u lo hi n decline (s-untried {b = b} {w = w} e d x) =
+  onward s u lo hi (accept l) (s-tried {w = w} {ws = ws} d x) = accepts w ws l (le-refl _) d x (fits (F .lists (w .body)) l) refl
+  onward s u lo hi decline (s-idle y x) = stays (s-idle y x) (λ j q. nowhere q) refl
+  onward s u lo hi decline (s-untried {b = b} {w = w} e d x) =
       let f = L .body-good .forth m b (w .body) (cut (dataEnd F (w .head))) (d .reads) in
       record {
         low = cut (dataEnd F (w .head));
         high = cut (dataEnd F (w .head));
-        points = n;
         lows = f;
         highs = f;
         sound = s-idle no-points x;
-        counts = λ j q. omega arith;
         declined = λ j q. single e (sym (d .uncut)) q;
-        reads = λ _ _. refl;
+        reads = λ _. refl;
       }
-  onward s u lo hi n decline (s-tried {b = b} {w = w} d x) =
+  onward s u lo hi decline (s-tried {b = b} {w = w} d x) =
       let f = L .body-good .forth m b (w .body) (cut (dataEnd F (w .head))) (d .reads) in
       record {
         low = cut (dataEnd F (w .head));
         high = cut (dataEnd F (w .head));
-        points = n;
         lows = f;
         highs = le-refl _;
         sound = s-idle no-points x;
-        counts = λ j q. omega arith;
         declined = λ j q. nowhere q;
-        reads = λ _ _. refl;
+        reads = λ _. refl;
       }
 
   -- no declined byte lies before the second place
-  pub above : (cs : List Call) (s : State (F .End)) (w : Maybe (F .Head)) (lo hi n : ℕ) → Sound s w lo hi n
+  pub above : (cs : List Call) (s : State (F .End)) (w : Maybe (F .Head)) (lo hi : ℕ) → Sound s w lo hi
       → (j : ℕ) → LiesIn j (declinedFrom F w cs (run (stream F m) s cs)) → hi ≤ j
-  above [] s w lo hi n g j h = nowhere h
-  above (c ∷ cs) s w lo hi n g j h =
-      let o = onward s w lo hi n c g in
+  above [] s w lo hi g j h = nowhere h
+  above (c ∷ cs) s w lo hi g j h =
+      let o = onward s w lo hi c g in
       lies-split (bytesAdded F w c) (declinedFrom F (untried w c (stream F m s c .reply .answer)) cs (run (stream F m) (stream F m s c .left) cs)) h
       (λ k. o .declined j k .0)
-      (λ k. le-trans (o .highs) (above cs _ _ _ _ _ (o .sound) j k))
+      (λ k. le-trans (o .highs) (above cs _ _ _ _ (o .sound) j k))
 
   -- altered only there: the same replies
-  pub alike : (cs : List Call) (s : State (F .End)) (w : Maybe (F .Head)) (lo hi n : ℕ) → Sound s w lo hi n → pointsDelivered (run (stream F m) s cs) ≤ n
+  pub alike : (cs : List Call) (s : State (F .End)) (w : Maybe (F .Head)) (lo hi : ℕ) → Sound s w lo hi
       → ((j : ℕ) → lo ≤ j → (LiesIn j (declinedFrom F w cs (run (stream F m) s cs)) → ⊥) → getD m j 0 ≡ getD m′ j 0)
       → run (stream F m′) s cs ≡ run (stream F m) s cs
-  alike [] s w lo hi n g b d = refl
-  alike (c ∷ cs) s w lo hi n g b d =
-      let o = onward s w lo hi n c g in
+  alike [] s w lo hi g d = refl
+  alike (c ∷ cs) s w lo hi g d =
+      let o = onward s w lo hi c g in
       let r = declinedFrom F (untried w c (stream F m s c .reply .answer)) cs (run (stream F m) (stream F m s c .left) cs) in
       let e : stream F m′ s c ≡ stream F m s c =
-      o .reads (omega arith)
-      (λ j p q k. d j p (λ y. lies-split (bytesAdded F w c) r y k (λ i. let u = above cs _ _ _ _ _ (o .sound) j i in omega arith))) in
+      o .reads
+      (λ j p q k. d j p (λ y. lies-split (bytesAdded F w c) r y k (λ i. let u = above cs _ _ _ _ (o .sound) j i in omega arith))) in
       let h =
-      alike cs _ _ _ _ _ (o .sound) (o .counts _ b)
+      alike cs _ _ _ _ (o .sound)
       (λ j p k. d j (le-trans (o .lows) p) (λ y. lies-split (bytesAdded F w c) r y (λ i. let u = o .declined j i in omega arith) k)) in
       rw (e, h)

@@ -3,7 +3,6 @@ pub mod CutCounts
 pub mod Remaining
 pub mod BookLaws
 pub mod TileAgrees
-pub mod Delivered
 pub mod Altered
 pub mod TileAltered
 pub mod Views

@@ -1,13 +1,12 @@
 -- The second sentence of demand 3, of a tile: in a map of the same length that differs only in bytes of ways declined untried, and in no
--- point that was delivered, the same list has the same answers and lent lists.
+-- point up to the zoom, the same list has the same answers and lent lists.
 use mathlib.Core.Path.{_≡_, refl, ap, _∙_}
 use mathlib.Core.Logic.{_≢_}
 use mathlib.Core.List.{List}
 use Prim.Native.Nat.{ℕ, _+_, _^_, _≤_, _<_}
-use native.Mathlib.Nat.{le-refl}
 use native.Mathlib.Decide.{ℕ-discrete}
 use native.Mathlib.Omega.{arith}
-use lib.ListN.{length, take}
+use lib.ListN.{length}
 use Rattle.parsing.specs.Parse.{ok, endOf, none}
 use Rattle.parsing.specs.Good.{Agree}
 use Rattle.arithmetic.specs.Cut.{cut}
@@ -15,13 +14,12 @@ use Rattle.agreement.specs.Calls.{Call, run}
 use Rattle.agreement.specs.Format.{Format, Laws, pointsUpTo}
 use Rattle.agreement.specs.Stream.{idle, stream}
 use Rattle.agreement.specs.Collected.{Way, StoredTile}
-use Rattle.agreement.specs.Declined.{LiesIn, this, DifferOnly, declinedBytes, pointsDelivered}
+use Rattle.agreement.specs.Declined.{LiesIn, this, DifferOnly, declinedBytes}
 use Rattle.agreement.specs.Demand3.{Collects, Agrees, storedReplies, freshOf, pointBytes, Alterable, WaysBehind}
-use Rattle.agreement.proofs.Chain.{bound, Front, front}
+use Rattle.agreement.proofs.Chain.{bound}
 use Rattle.agreement.proofs.Remaining.{Ways}
 use Rattle.agreement.proofs.CutCounts.{below-cut}
-use Rattle.agreement.proofs.Delivered.{delivered-le}
-use Rattle.agreement.proofs.Altered.{Points, single, far-points, near-points, Sound, s-idle, above, alike}
+use Rattle.agreement.proofs.Altered.{Points, single, near-points, Sound, s-idle, above, alike}
 use Rattle.agreement.proofs.TileAgrees.{Supposed, supposed, points-counted, ways-counted, points-up-to, ways-up-to, replies}
 
 pub decided : (a b : ℕ) → (a ≢ b → ⊥) → a ≡ b
@@ -32,16 +30,16 @@ decided a b h = go (ℕ-discrete a b)
     go (no n) = absurd (h n)
 
 -- the counts under other names
-sound-by : (F : Format) (L : Laws F) (m m′ : List ℕ) (long : length m ≡ length m′) (z : F .End) {ps : List (F .Point)} {ws : List (Way F)} {a b n i v : ℕ}
-    → Points F L m m′ long z n i ps → Ways F m v ws → length ps ≡ a → length ws ≡ b → Sound F L m m′ long z (idle a b i v z) none v v n
+sound-by : (F : Format) (L : Laws F) (m m′ : List ℕ) (long : length m ≡ length m′) (z : F .End) {ps : List (F .Point)} {ws : List (Way F)} {a b i v : ℕ}
+    → Points F L m m′ long z i ps → Ways F m v ws → length ps ≡ a → length ws ≡ b → Sound F L m m′ long z (idle a b i v z) none v v
 sound-by F L m m′ long z y x p q = rw (← p, ← q) (s-idle y x)
 
 module _ {F : Format} {m : List ℕ} {i : ℕ} {t : StoredTile F} (C : Supposed F m i t) (z : F .End) (rows : ℕ) (cs : List Call) where
   -- no declined byte lies before the place where the ways start
   pub declined-low : (j : ℕ) → LiesIn j (declinedBytes F cs (storedReplies F t z rows cs)) → cut (t .start + F .offset (t .head)) ≤ j
   declined-low j h =
-      above F (C .laws) m m refl z cs _ _ _ _ _
-      (sound-by F (C .laws) m m refl z (far-points F (C .laws) m m refl z (points-up-to C rows .chain)) (ways-up-to C rows) (points-counted C rows) (ways-counted C rows))
+      above F (C .laws) m m refl z cs _ _ _ _
+      (sound-by F (C .laws) m m refl z (near-points F (C .laws) m m refl z (points-up-to C rows .chain) (record { long = refl; same = λ i a b. refl })) (ways-up-to C rows) (points-counted C rows) (ways-counted C rows))
       j (rw (replies C rows z cs) h)
 
   start-fits : t .start < 2 ^ 64
@@ -50,27 +48,21 @@ module _ {F : Format} {m : List ℕ} {i : ℕ} {t : StoredTile F} (C : Supposed 
       let v = C .laws .tileHead-good .bound m i (t .head) (t .start) (C .read .head) in
       omega (arith, C .small)
 
-  -- the points that were delivered, of those up to the zoom
-  delivered : Front (F .point) m (pointsDelivered (storedReplies F t z rows cs)) (t .start) (take (pointsUpTo (F .table (t .head)) rows) (t .points)) (points-up-to C rows .last)
-  delivered =
-      let d = delivered-le F m cs (freshOf F t z rows) in
-      front (C .laws .point-good) _ (rw (← replies C rows z cs) (omega (arith, points-counted C rows))) (points-up-to C rows .chain)
-
   -- where the first-way offset leads behind the points, a declined byte lies in no point
-  in-no-point : WaysBehind F m t rows → (j : ℕ) → LiesIn j (declinedBytes F cs (storedReplies F t z rows cs)) → Alterable F m t cs (storedReplies F t z rows cs) j
+  in-no-point : WaysBehind F m t rows → (j : ℕ) → LiesIn j (declinedBytes F cs (storedReplies F t z rows cs)) → Alterable F m t rows cs (storedReplies F t z rows cs) j
   in-no-point b j k = record {
     declined = k;
     points = λ q.
         let l = points-up-to C rows .last in
-        let u = single refl (ap endOf (delivered .reads)) q in
         let e : pointBytes F m t (pointsUpTo (F .table (t .head)) rows) .to ≡ l = ap endOf (points-up-to C rows .reads) in
+        let u = single refl e q in
         let v = bound (C .laws .point-good) (points-up-to C rows .chain) in
         let f : l < 2 ^ 64 = omega (arith, start-fits, C .small) in
         let w = below-cut (t .start + F .offset (t .head)) l (omega (arith, b .behind)) f in
-        omega (arith, delivered .within, declined-low j k);
+        omega (arith, declined-low j k);
   }
 
-  module _ (m′ : List ℕ) (D : DifferOnly m m′ (Alterable F m t cs (storedReplies F t z rows cs))) where
+  module _ (m′ : List ℕ) (D : DifferOnly m m′ (Alterable F m t rows cs (storedReplies F t z rows cs))) where
     head-near : F .tileHead m′ i ≡ ok (t .head) (t .start)
     head-near =
         C .laws .tileHead-good .near m m′ i (t .head) (t .start)
@@ -83,24 +75,23 @@ module _ {F : Format} {m : List ℕ} {i : ℕ} {t : StoredTile F} (C : Supposed 
         })
         (C .read .head)
 
-    points-near : Agree m m′ (t .start) (delivered .last)
+    points-near : Agree m m′ (t .start) (points-up-to C rows .last)
     points-near = record {
       long = D .long;
-      same = λ j a b. decided _ _ (λ n. D .only j n .points (this a (rw (delivered .reads) b)));
+      same = λ j a b. decided _ _ (λ n. D .only j n .points (this a (rw (points-up-to C rows .reads) b)));
     }
 
     replies-near : run (stream F m′) (freshOf F t z rows) cs ≡ storedReplies F t z rows cs
     replies-near =
-        alike F (C .laws) m m′ (D .long) z cs _ _ _ _ (pointsDelivered (storedReplies F t z rows cs))
+        alike F (C .laws) m m′ (D .long) z cs _ _ _ _
         (sound-by F (C .laws) m m′ (D .long) z
-        (near-points F (C .laws) m m′ (D .long) z _ (t .start) (points-up-to C rows .chain) (delivered .reads) points-near)
+        (near-points F (C .laws) m m′ (D .long) z (points-up-to C rows .chain) points-near)
         (ways-up-to C rows) (points-counted C rows) (ways-counted C rows))
-        (rw (replies C rows z cs) (le-refl _))
         (λ j l k. decided _ _ (λ e. k (rw (replies C rows z cs) (D .only j e .declined))))
         ∙ replies C rows z cs
 
 pub tile-altered : (F : Format) (m : List ℕ) (i : ℕ) (t : StoredTile F) → Laws F → Collects F m i t
-    → (z : F .End) (rows : ℕ) (cs : List Call) (m′ : List ℕ) → DifferOnly m m′ (Alterable F m t cs (storedReplies F t z rows cs))
+    → (z : F .End) (rows : ℕ) (cs : List Call) (m′ : List ℕ) → DifferOnly m m′ (Alterable F m t rows cs (storedReplies F t z rows cs))
     → Agrees F m′ i t z rows cs
 tile-altered F m i t L c z rows cs m′ D =
     let C = supposed F m i t L c in
@@ -108,7 +99,7 @@ tile-altered F m i t L c z rows cs m′ D =
 
 pub declined-alterable : (F : Format) (m : List ℕ) (i : ℕ) (t : StoredTile F) → Laws F → Collects F m i t
     → (z : F .End) (rows : ℕ) (cs : List Call) → WaysBehind F m t rows → (j : ℕ) → LiesIn j (declinedBytes F cs (storedReplies F t z rows cs))
-    → Alterable F m t cs (storedReplies F t z rows cs) j
+    → Alterable F m t rows cs (storedReplies F t z rows cs) j
 declined-alterable F m i t L c z rows cs b j k = in-no-point (supposed F m i t L c) z rows cs b j k
 
 -- the sentence as literally written, where the first-way offset leads behind the points

@@ -7,7 +7,6 @@ use mathlib.Core.List.{List, [], _∷_, _++_}
 use Prim.Native.Nat.{ℕ, _≤_, _<_}
 use lib.ListN.{length, getD}
 use Rattle.parsing.specs.Parse.{Parser, endOf, Maybe, none, some}
-use Rattle.parsing.specs.Good.{total}
 use Rattle.format.specs.Lent.{Reply}
 use Rattle.agreement.specs.Calls.{Call, next, accept, decline, Answer, gotPoint, gotHead, gotBody, declined, ended, refused}
 use Rattle.agreement.specs.Format.{Format, dataEnd}
@@ -62,15 +61,3 @@ declinedFrom F w (c ∷ cs) (r ∷ rs) = bytesAdded F w c ++ declinedFrom F (unt
 -- of a list of calls and their replies; at first no way waits
 abbrev pub declinedBytes : (F : Format) → List Call → List (Reply (StreamAnswer F)) → List Bytes
 declinedBytes F cs rs = declinedFrom F none cs rs
-
--- how many points these replies delivered
-abbrev pub isPoint : {P H B E : Type 0} → Answer P H B E → ℕ
-isPoint (gotPoint p) = 1
-isPoint (gotHead h) = 0
-isPoint (gotBody b) = 0
-isPoint declined = 0
-isPoint (ended z) = 0
-isPoint (refused n v) = 0
-
-abbrev pub pointsDelivered : {P H B E : Type 0} → List (Reply (Answer P H B E)) → ℕ
-pointsDelivered rs = total (λ r. isPoint (r .answer)) rs

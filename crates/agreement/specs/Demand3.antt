@@ -11,7 +11,7 @@ use Rattle.agreement.specs.Format.{Format, pointsUpTo}
 use Rattle.agreement.specs.Stream.{StreamAnswer, State, stream, freshStream, openStream}
 use Rattle.agreement.specs.Collected.{StoredTile, allExact, collect, storedCollection, storedTile}
 use Rattle.agreement.specs.Book.{bookReplies}
-use Rattle.agreement.specs.Declined.{Bytes, LiesIn, bytesOf, DifferOnly, declinedBytes, pointsDelivered}
+use Rattle.agreement.specs.Declined.{Bytes, LiesIn, bytesOf, DifferOnly, declinedBytes}
 use Rattle.agreement.specs.View.{collectedTile, streamedReplies}
 use Rattle.agreement.specs.MapLayout.{MapLayout, openMap, openedBytes, rowsAt, openTile, collectTile}
 
@@ -40,10 +40,10 @@ pub record Agrees (F : Format) (m : List ℕ) (i : ℕ) (t : StoredTile F) (z : 
 abbrev pub pointBytes : (F : Format) → List ℕ → StoredTile F → ℕ → Bytes
 pointBytes F m t n = bytesOf (many (F .point) n) m (t .start)
 
--- a byte that may be altered: it lies in a way declined untried, and in no point that was delivered
-pub record Alterable (F : Format) (m : List ℕ) (t : StoredTile F) (cs : List Call) (rs : List (Reply (StreamAnswer F))) (j : ℕ) : Type 0 where
+-- a byte that may be altered: it lies in a way declined untried, and in no point up to the zoom (these were all delivered, if a way was)
+pub record Alterable (F : Format) (m : List ℕ) (t : StoredTile F) (rows : ℕ) (cs : List Call) (rs : List (Reply (StreamAnswer F))) (j : ℕ) : Type 0 where
   pub declined : LiesIn j (declinedBytes F cs rs)
-  pub points : LiesIn j (pointBytes F m t (pointsDelivered rs) ∷ []) → ⊥
+  pub points : LiesIn j (pointBytes F m t (pointsUpTo (F .table (t .head)) rows) ∷ []) → ⊥
 
 -- the first-way offset leads to the end of the points up to the zoom, or beyond
 pub record WaysBehind (F : Format) (m : List ℕ) (t : StoredTile F) (rows : ℕ) : Type 0 where
@@ -85,10 +85,10 @@ pub record OnlyDeclined (C : MapLayout) (m : List ℕ) (h : C .Header) (cs : Lis
   pub declined : LiesIn j (declinedBytes (C .format h) cs rs)
   pub opened : LiesIn j (openedBytes C m h) → ⊥
 
--- and in no point that was delivered
-pub record MapAlterable (C : MapLayout) (m : List ℕ) (h : C .Header) (t : StoredTile (C .format h)) (cs : List Call) (rs : List (Reply (StreamAnswer (C .format h)))) (j : ℕ) : Type 0 where
+-- and in no point up to the zoom
+pub record MapAlterable (C : MapLayout) (m : List ℕ) (h : C .Header) (t : StoredTile (C .format h)) (zoom : ℕ) (cs : List Call) (rs : List (Reply (StreamAnswer (C .format h)))) (j : ℕ) : Type 0 where
   pub only : OnlyDeclined C m h cs rs j
-  pub points : LiesIn j (pointBytes (C .format h) m t (pointsDelivered rs) ∷ []) → ⊥
+  pub points : LiesIn j (pointBytes (C .format h) m t (pointsUpTo (C .format h .table (t .head)) (rowsAt C h zoom)) ∷ []) → ⊥
 
 -- Both sentences of demand 3, for every zoom and every list of calls. The altered map's replies are the same ones: `mapReplies` knows
 -- nothing of the map. The second sentence is false as literally written, since the first-way offset may lead into the points
@@ -96,6 +96,6 @@ pub record MapAlterable (C : MapLayout) (m : List ℕ) (h : C .Header) (t : Stor
 pub record Demand3 (C : MapLayout) (m : List ℕ) (h : C .Header) (n : C .Entry) (t : StoredTile (C .format h)) : Type 0 where
   pub agrees : (zoom : ℕ) (cs : List Call) → MapAgrees C m h n t zoom cs
   pub altered : (zoom : ℕ) (cs : List Call) (m′ : List ℕ)
-      → DifferOnly m m′ (MapAlterable C m h t cs (mapReplies C h n t zoom cs)) → MapAgrees C m′ h n t zoom cs
+      → DifferOnly m m′ (MapAlterable C m h t zoom cs (mapReplies C h n t zoom cs)) → MapAgrees C m′ h n t zoom cs
   pub literal : (zoom : ℕ) (cs : List Call) (m′ : List ℕ) → WaysBehind (C .format h) m t (rowsAt C h zoom)
       → DifferOnly m m′ (OnlyDeclined C m h cs (mapReplies C h n t zoom cs)) → MapAgrees C m′ h n t zoom cs

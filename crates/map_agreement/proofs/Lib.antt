@@ -1,7 +1,9 @@
 pub mod ViewLaws
 pub mod FetchGives
 pub mod Chain
+pub mod TextLaws
 pub mod MapLaws
 pub mod HeaderFacts
+pub mod Opened
 pub mod Theorem
 pub mod ZoomingLaws

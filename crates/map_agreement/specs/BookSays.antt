@@ -1,28 +1,31 @@
 -- Demand 3, from the functions' contracts: what a program that opened a map, collected a tile and opened its stream knows, and what then
--- holds of every list of calls.
+-- holds of every list of calls, on that map and on one that is altered in ways declined untried.
 use Prim.Native.Nat.{ℕ, _^_, _<_}
 use mathlib.Core.Path.{_≡_}
 use mathlib.Core.Bool.{true}
 use mathlib.Core.List.{List}
 use lib.ListN.{length}
-use Rattle.parsing.specs.Parse.{Maybe, nth}
+use Rattle.parsing.specs.Parse.{Part, Maybe, nth}
 use Rattle.format.specs.Header.{Interval, Header, opened}
-use Rattle.format.specs.Index.{Grid, Located}
+use Rattle.format.specs.Index.{Grid, Located, tileIndexEntry}
 use Rattle.format.specs.Lent.{Reply}
 use Rattle.types.specs.declared.End.the-variants as end
 use Rattle.types.specs.Types.{intervalsOf}
 use Rattle.header.specs.HeaderView.{HeaderIs}
 use Rattle.header.specs.declared.HeaderRead.{HeaderRead}
-use Rattle.index.specs.Answers.{intervalFound}
+use Rattle.index.specs.Answers.{intervalFound, heldEntry, heldRes, entryRes}
 use Rattle.index.specs.declared.IntervalRead.{IntervalRead}
+use Rattle.index.specs.declared.EntryRead.{EntryRead}
+use Rattle.index.specs.declared.EntryRead.the-variants as entry-read
 use Rattle.tile_layout.specs.TileLayout.{layoutOf}
 use Rattle.tile_layout.specs.declared.TileLayout.{TileLayout}
 use Rattle.agreement.specs.Calls.{Call}
 use Rattle.agreement.specs.Book.{bookReplies}
-use Rattle.agreement.specs.Collected.{StoredTile, fetch}
+use Rattle.agreement.specs.Collected.{CollectedTile, StoredTile, fetch}
+use Rattle.agreement.specs.Declined.{DifferOnly}
 use Rattle.agreement.specs.MapLayout.{rowsAt}
 use Rattle.agreement.specs.View.{collectedTile}
-use Rattle.agreement.specs.Demand3.{Demand3, MapCollects}
+use Rattle.agreement.specs.Demand3.{Demand3, MapCollects, mapReplies, WaysBehind, OnlyDeclined, MapAlterable}
 use Rattle.visit.specs.Visit.{openTile, openRes, ShownAnswer}
 use Rattle.visit.specs.declared.Stream.{Stream}
 use Rattle.visit.specs.declared.OpenRead.{OpenRead}
@@ -34,37 +37,77 @@ use Rattle.fetched.specs.Fetched.{FetchLists}
 use Rattle.fetch.specs.Fetch.{fetchTile, FeatureIs}
 use Rattle.fetched.specs.declared.Fetch.{Fetch}
 use Rattle.map_agreement.specs.TileView.{tileCollection, fetchGives}
-use Rattle.map_agreement.specs.MapsforgeMap.{mapsforge}
+use Rattle.map_agreement.specs.MapsforgeMap.{shownIn, mapsforge}
 use Rattle.map_agreement.specs.Called.{Called}
+use Rattle.map_agreement.specs.Texts.{textsFound, textsStored}
 
--- the contracts of `from_source`, `layout_of`, `interval_of` and `read_tile`: the map opened, the tile collected, and collecting said that
--- every stored size is the decoded length. (No lent map has 2 ^ 64 bytes.)
+-- the contracts of `from_source`, `layout_of` and `interval_of`: what they answer of a map
+pub record Answers (m : List ℕ) (subFile : ℕ) (h : HeaderRead) (l : TileLayout) (i : Maybe Interval) : Type 0 where
+  pub header : HeaderIs (opened m) h
+  pub layout : l ≡ layoutOf (h .header)
+  pub interval : i ≡ nth (intervalsOf (h .header)) subFile
+
+-- and that of `read_tile`: the map opened, the tile collected, and collecting said that every stored size is the decoded length. (No
+-- lent map has 2 ^ 64 bytes.)
 pub record Collected (m : List ℕ) (subFile : ℕ) (grid : Grid) (number : ℕ) (h : HeaderRead) (l : TileLayout) (i : IntervalRead) (t : TileRead) : Type 0 where
   pub small : length m < 2 ^ 64
-  pub header : HeaderIs (opened m) h
+  pub answers : Answers m subFile h l (intervalFound i)
   pub headerEnd : ℕ
   pub opens : h .end ≡ end.At headerEnd
-  pub layout : l ≡ layoutOf (h .header)
-  pub interval : intervalFound i ≡ nth (intervalsOf (h .header)) subFile
   pub tile : TileIs (collectTile l (intervalFound i) grid number m) t
   pub collects : t .answer ≡ tile-answer.Collected
   pub exact : t .tile .exact ≡ true
 
--- a stream opens at every zoom
+-- a stream opens
 pub data Opens : OpenRead → Type 0 where
   opens : (s : Stream) → Opens (open-read.Stream s)
 
--- The map's stored header and the tile as stored, of which demand 3 holds; what the book is fed is what the fetches give; the stream
--- opens; and whatever a program calls, it sees the book's replies.
-pub record BookSays (m : List ℕ) (subFile : ℕ) (grid : Grid) (number : ℕ) (l : TileLayout) (i : Maybe Interval) : Type 0 where
+-- What a program sees of a map at a zoom, when it makes the calls cs. However it opens the map, it is answered h, l and i. The tile's
+-- stream opens; the calls get these replies, in answers and lent lists; and where the replies give texts, these stand in the map.
+pub record Sees (m : List ℕ) (subFile : ℕ) (grid : Grid) (number zoom : ℕ) (h : HeaderRead) (l : TileLayout) (i : Maybe Interval) (cs : List Call)
+    (replied : List (Reply ShownAnswer)) (spelled : List (List (Maybe Part))) : Type 0 where
+  pub answers : (h′ : HeaderRead) (l′ : TileLayout) (i′ : Maybe Interval) → Answers m subFile h′ l′ i′ → (h′ ≡ h) × (l′ ≡ l) × (i′ ≡ i)
+  pub streams : (o : OpenRead) → openRes o ≡ openTile l i subFile grid number zoom m → Opens o
+  pub replies : (s : Stream) → openRes (open-read.Stream s) ≡ openTile l i subFile grid number zoom m
+      → (rs : List (Reply ShownAnswer)) → Called m l s cs rs → rs ≡ replied
+  pub texts : textsFound m replied ≡ spelled
+
+-- the book, by the map's stored header, the tile's place and the tile as stored: it knows nothing of the map's bytes
+module _ (subFile : ℕ) (grid : Grid) (number : ℕ) (stored : Header) (place : Located) (tile : StoredTile (mapsforge subFile grid number .format stored)) where
+  -- the collected tile that the book is fed
+  abbrev pub fedTile : CollectedTile tileCollection
+  fedTile = collectedTile (mapsforge subFile grid number .view stored) tile (mapsforge subFile grid number .end stored place)
+
+  abbrev pub bookAt : (zoom : ℕ) → List Call → List (Reply ShownAnswer)
+  bookAt zoom cs = bookReplies tileCollection fedTile (rowsAt (mapsforge subFile grid number) stored zoom) cs
+
+  -- the texts of the features that it delivers
+  abbrev pub textsAt : (zoom : ℕ) → List Call → List (List (Maybe Part))
+  textsAt zoom cs = textsStored (mapReplies (mapsforge subFile grid number) stored place tile zoom cs)
+
+  -- what a program is to see of the map x
+  abbrev pub SeesBook : (x : List ℕ) → HeaderRead → TileLayout → Maybe Interval → (zoom : ℕ) → List Call → Type 0
+  SeesBook x h l i zoom cs = Sees x subFile grid number zoom h l i cs (bookAt zoom cs) (textsAt zoom cs)
+
+-- The map's stored header and the tile as stored, of which demand 3 holds. `shows`, `entry`, `fetches`: what the book is fed is what
+-- collecting answers, what `tile_index_entry` answers, and what the fetches give. `sees`: whatever a program calls, it sees the book's
+-- replies. `altered`, `literal`: so it does on a map of the same length that is altered in ways declined untried, though the tile need
+-- not collect there (agreement, Demand3.antt, says why there are two).
+pub record BookSays (m : List ℕ) (subFile : ℕ) (grid : Grid) (number : ℕ) (h : HeaderRead) (l : TileLayout) (i : Maybe Interval) : Type 0 where
   pub stored : Header
   pub place : Located
   pub tile : StoredTile (mapsforge subFile grid number .format stored)
   pub collects : MapCollects (mapsforge subFile grid number) m stored place tile
   pub demand-3 : Demand3 (mapsforge subFile grid number) m stored place tile
+  pub shows : (t : TileRead) → TileIs (collectTile l i grid number m) t → t .tile ≡ shownIn subFile grid number stored tile
+  pub entry : (r : EntryRead) → entryRes r ≡ heldRes (tileIndexEntry (l .debug) i grid number m) → r ≡ entry-read.Entry (heldEntry (place .entry))
   pub fetches : (k : ℕ) (lent left : FetchLists) (r : Fetch) → FeatureIs (fetchTile l i grid number k m) lent r left
-      → FeatureIs (fetchGives (fetch (collectedTile (mapsforge subFile grid number .view stored) tile (mapsforge subFile grid number .end stored place)) k)) lent r left
-  pub streams : (zoom : ℕ) (o : OpenRead) → openRes o ≡ openTile l i subFile grid number zoom m → Opens o
-  pub replies : (zoom : ℕ) (s : Stream) → openRes (open-read.Stream s) ≡ openTile l i subFile grid number zoom m
-      → (cs : List Call) (rs : List (Reply ShownAnswer)) → Called m l s cs rs
-      → rs ≡ bookReplies tileCollection (collectedTile (mapsforge subFile grid number .view stored) tile (mapsforge subFile grid number .end stored place)) (rowsAt (mapsforge subFile grid number) stored zoom) cs
+      → FeatureIs (fetchGives (fetch (fedTile subFile grid number stored place tile) k)) lent r left
+  pub sees : (zoom : ℕ) (cs : List Call) → SeesBook subFile grid number stored place tile m h l i zoom cs
+  pub altered : (zoom : ℕ) (cs : List Call) (m′ : List ℕ)
+      → DifferOnly m m′ (MapAlterable (mapsforge subFile grid number) m stored tile zoom cs (mapReplies (mapsforge subFile grid number) stored place tile zoom cs))
+      → SeesBook subFile grid number stored place tile m′ h l i zoom cs
+  pub literal : (zoom : ℕ) (cs : List Call) (m′ : List ℕ)
+      → WaysBehind (mapsforge subFile grid number .format stored) m tile (rowsAt (mapsforge subFile grid number) stored zoom)
+      → DifferOnly m m′ (OnlyDeclined (mapsforge subFile grid number) m stored cs (mapReplies (mapsforge subFile grid number) stored place tile zoom cs))
+      → SeesBook subFile grid number stored place tile m′ h l i zoom cs

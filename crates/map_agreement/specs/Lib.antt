@@ -1,5 +1,6 @@
 pub mod TileView
 pub mod MapsforgeMap
 pub mod Called
+pub mod Texts
 pub mod BookSays
 pub mod ZoomingIn

@@ -13,6 +13,9 @@ use Rattle.format.specs.Rows.{rowsOfInterval}
 use Rattle.agreement.specs.Format.{Format}
 use Rattle.agreement.specs.MapLayout.{MapLayout}
 use Rattle.agreement.specs.TileFormat.{tileFormat}
+use Rattle.agreement.specs.Collected.{StoredTile}
+use Rattle.tile.specs.Tile.{shownTile}
+use Rattle.tile.specs.declared.Tile.{Tile}
 use Rattle.map_agreement.specs.TileView.{tileView}
 
 -- the tile's entry in its sub file: grid (14), tile (8), entry (19), interval (13)
@@ -51,6 +54,10 @@ module _ (subFile : ℕ) (grid : Grid) (number : ℕ) where
 
   abbrev pub formatIn : Header → Format
   formatIn h = tileFormat (debug h) (rowsOfInterval (lowest h) (highest h)) (map kindOfText (h .poiTags .texts)) (map kindOfText (h .wayTags .texts))
+
+  -- what collecting shows of a tile as stored
+  abbrev pub shownIn : (h : Header) → StoredTile (formatIn h) → Tile
+  shownIn h t = shownTile (debug h) (rowsOfInterval (lowest h) (highest h)) (map kindOfText (h .poiTags .texts)) (map kindOfText (h .wayTags .texts)) t
 
   abbrev pub mapsforge : MapLayout
   mapsforge = record {

@@ -1,0 +1,226 @@
+-- Any map that opens with the stored header h: what locating, opening, collecting and fetching a tile read of it, by the header's value;
+-- and what a program sees of such a map, where the machine's replies are the book's.
+use Prim.Native.Nat.{ℕ}
+use mathlib.Core.Path.{_≡_, refl, sym, ap, _∙_, subst}
+use mathlib.Core.Bool.{Bool, true, false, cond}
+use mathlib.Core.List.{List, [], _∷_, map}
+use lib.Dec.{leb, ltb}
+use Rattle.parsing.specs.Parse.{Res, ok, no, andThen, mapRes, Part, Maybe, none, some, nth}
+use Rattle.parsing.specs.Good.{ok-val, ok-at, no-ok}
+use Rattle.format.specs.Header.{Interval, Header, header, opened, debug}
+use Rattle.format.specs.Index.{answer, answered, Grid, Entry, Located, locate, locateIn, inSubFile}
+use Rattle.format.specs.Index as index
+use Rattle.format.specs.Kinds.{kindOfText, tagKinds}
+use Rattle.format.specs.TagTable.{tableOf}
+use Rattle.format.specs.Lent.{Reply}
+use Rattle.format.specs.Rows.{rowsOfInterval, rowsUpto}
+use Rattle.format.specs.Tile.{Point, Head, Body}
+use Rattle.tag.specs.declared.Kind.{Kind}
+use Rattle.types.specs.Types.{endRes, intervalsOf}
+use Rattle.types.specs.declared.End.the-variants as end
+use Rattle.header.specs.HeaderView.{mapHeader, HeaderIs}
+use Rattle.header.specs.declared.HeaderRead.{HeaderRead}
+use Rattle.header.proofs.HeaderLaws.{intervals-back}
+use Rattle.tile_layout.specs.TileLayout.{layoutOf, formatOf}
+use Rattle.tile_layout.specs.declared.TileLayout.{TileLayout}
+use Rattle.agreement.specs.Calls.{Answer, Call, run}
+use Rattle.agreement.specs.Collected.{StoredTile, collect}
+use Rattle.agreement.specs.MapLayout.{MapLayout, rowsAt}
+use Rattle.agreement.specs.MapLayout as layout
+use Rattle.agreement.specs.Stream.{State, stream, openStream}
+use Rattle.agreement.specs.View.{streamedReplies}
+use Rattle.agreement.specs.TileFormat.{TileEnd, tileFormat}
+use Rattle.agreement.specs.Demand3.{MapAgrees, freshTile}
+use Rattle.visit.specs.Visit.{stateOf, openTile, openRes, ShownAnswer, shown}
+use Rattle.visit.specs.declared.Stream.{Stream}
+use Rattle.visit.specs.declared.OpenRead.{OpenRead}
+use Rattle.visit.specs.declared.OpenRead.the-variants as open-read
+use Rattle.tile.specs.Tile.{shownTile, collectAt, collectTile}
+use Rattle.tile.specs.declared.Tile.{Tile}
+use Rattle.agreement.specs.Collected as collected
+use Rattle.fetched.specs.Fetched.{walkedName, Fetched}
+use Rattle.fetch.specs.Fetch as fetch
+use Rattle.map_agreement.specs.TileView.{tileView}
+use Rattle.map_agreement.specs.MapsforgeMap.{entryIn, valueOf, interval, lowest, highest, mapsforge}
+use Rattle.map_agreement.specs.BookSays.{Opens, opens, bookAt, SeesBook}
+use Rattle.map_agreement.proofs.Chain.{shownReplies, called-run}
+use Rattle.map_agreement.proofs.MapLaws.{located}
+use Rattle.map_agreement.proofs.HeaderFacts.{HeaderKinds, header-kinds, header-of}
+use Rattle.types.specs.declared.MapHeader.{MapHeader}
+use Rattle.types.specs.declared.End.{End}
+use Rattle.index.specs.Answers.{heldEntry, heldRes, entryRes}
+use Rattle.index.specs.declared.TileIndexEntry.{TileIndexEntry}
+use Rattle.index.specs.declared.EntryRead.{EntryRead}
+use Rattle.index.specs.declared.EntryRead.the-variants as entry-read
+use Rattle.map_agreement.specs.Texts.{textsFound, textsStored}
+use Rattle.map_agreement.proofs.TextLaws.{texts-found}
+
+-- the tile's interval is that of its entry
+entry-interval : (g : Grid) (number : ℕ) (r : Maybe Interval) (m : List ℕ) (i : ℕ) (l : Located) (e : ℕ) → entryIn g number r m i ≡ ok l e → r ≡ some (l .interval)
+entry-interval g number none m i l e q = no-ok q
+entry-interval g number (some z) m i l e q = grid-tested (index.goodGrid g) q
+  where
+    last : (x : Entry) (j : ℕ) (c : Bool) → cond c (ok (record { interval = z; entry = x }) j) (no 13 []) ≡ ok l e → some z ≡ some (l .interval)
+    last x j true d = ap (λ (y : Located). some (y .interval)) (ok-val d)
+    last x j false d = no-ok d
+
+    read : (r : Res Entry) → andThen {B = Located} r (λ x j. cond (leb (z .min) (z .max)) (ok (record { interval = z; entry = x }) j) (no 13 [])) ≡ ok l e → some z ≡ some (l .interval)
+    read (ok x j) d = last x j (leb (z .min) (z .max)) d
+    read (no k v) d = no-ok d
+
+    tile-tested : (c : Bool) → cond c (andThen {B = Located} (index.entry (z .start) m i) (λ x j. cond (leb (z .min) (z .max)) (ok (record { interval = z; entry = x }) j) (no 13 []))) (no 8 []) ≡ ok l e → some z ≡ some (l .interval)
+    tile-tested true d = read (index.entry (z .start) m i) d
+    tile-tested false d = no-ok d
+
+    grid-tested : (c : Bool) → cond c (cond (ltb number (index.tilesOf g)) (andThen {B = Located} (index.entry (z .start) m i) (λ x j. cond (leb (z .min) (z .max)) (ok (record { interval = z; entry = x }) j) (no 13 []))) (no 8 [])) (no 14 []) ≡ ok l e → some z ≡ some (l .interval)
+    grid-tested true d = tile-tested (ltb number (index.tilesOf g)) d
+    grid-tested false d = no-ok d
+
+-- the machine's replies, shown
+shown-same : (debug : Bool) (rows : ℕ) (p w : List Kind) (a b : List Part) (rs : List (Reply (Answer Point Head Body TileEnd))) → shownReplies rs ≡ streamedReplies (tileView debug rows p w a b) rs
+shown-same debug rows p w a b [] = refl
+shown-same debug rows p w a b (r ∷ rs) = ap (λ l. record { answer = shown (r .answer); lists = r .lists } ∷ l) (shown-same debug rows p w a b rs)
+
+-- `tile_index_entry` answers the entry by which the tile is located
+entry-held : (d : Bool) (i : Maybe Interval) (g : Grid) (number : ℕ) (m : List ℕ) (l : Located) → locate d i g number m ≡ answer l → heldRes (index.tileIndexEntry d i g number m) ≡ answer (heldEntry (l .entry))
+unfolding locate locateIn index.tileIndexEntry
+entry-held d none g number m l q = no-ok q
+entry-held d (some z) g number m l q = read (index.entryIn d (z .start) g number m) q
+  where
+    tested : (n : Entry) (c : Bool) → cond c (answer (record { interval = z; entry = n })) (no 13 []) ≡ answer l → answer (heldEntry n) ≡ answer (heldEntry (l .entry))
+    tested n true e = ap (λ (y : Located). answer (heldEntry (y .entry))) (ok-val e)
+    tested n false e = no-ok e
+
+    read : (r : Res Entry) → andThen {B = Located} r (λ n _. cond (leb (z .min) (z .max)) (answer (record { interval = z; entry = n })) (no 13 [])) ≡ answer l → heldRes r ≡ answer (heldEntry (l .entry))
+    read (ok n x) e = tested n (leb (z .min) (z .max)) e
+    read (no k v) e = no-ok e
+
+entry-answer : (r : EntryRead) {a : TileIndexEntry} → entryRes r ≡ answer a → r ≡ entry-read.Entry a
+entry-answer (entry-read.Entry b) q = ap entry-read.Entry (ok-val q)
+entry-answer (entry-read.Refused r) q = no-ok q
+
+-- `from_source` has one answer
+ended-at : (v : MapHeader) (x : End) {w : MapHeader} {e : ℕ} → endRes v x ≡ ok w e → x ≡ end.At e
+ended-at v (end.At n) q = ap end.At (ok-at q)
+ended-at v (end.Refused r) q = no-ok q
+
+header-same : (h : Header) (e : ℕ) (a b : HeaderRead) → HeaderIs (ok h e) a → HeaderIs (ok h e) b → a ≡ b
+header-same h e a b p q =
+    ap (λ v. record { header = v; end = a .end }) (p .whole ∙ sym (q .whole))
+    ∙ ap (λ x. record { header = b .header; end = x }) (ended-at (a .header) (a .end) (p .answer) ∙ sym (ended-at (b .header) (b .end) (q .answer)))
+
+-- a stream that opens is not refused
+never-refused : (q : OpenRead) {a : State TileEnd} → openRes q ≡ answer a → Opens q
+never-refused (open-read.Stream st) d = opens st
+never-refused (open-read.Refused r) d = no-ok d
+
+module _ (s : ℕ) (grid : Grid) (number : ℕ) (h : Header) where
+  abbrev C : MapLayout
+  C = mapsforge s grid number
+
+  abbrev poiKinds : List Kind
+  poiKinds = map kindOfText (h .poiTags .texts)
+
+  abbrev wayKinds : List Kind
+  wayKinds = map kindOfText (h .wayTags .texts)
+
+  abbrev rows : ℕ
+  rows = rowsOfInterval (lowest s grid number h) (highest s grid number h)
+
+  -- what `layout_of` and `interval_of` give of the header
+  abbrev lay : TileLayout
+  lay = layoutOf (mapHeader h)
+
+  abbrev found : Maybe Interval
+  found = nth (intervalsOf (mapHeader h)) s
+
+  module _ (m : List ℕ) (e : ℕ) (o : opened m ≡ ok h e) where
+    pub kinds : HeaderKinds m h
+    kinds = header-kinds m 0 h e (header-of m h e o)
+
+    pub located-as : locate (lay .debug) found grid number m ≡ answered (C .entry h m (C .entryAt h))
+    unfolding locate
+    located-as = ap (λ zs. inSubFile (nth zs s) (no 8 []) (λ z. locateIn (debug h) z grid number m)) (intervals-back h) ∙ located grid number (debug h) m (nth (h .intervals) s)
+
+    module _ (l : Located) (x : ℕ) (en : C .entry h m (C .entryAt h) ≡ ok l x) where
+      low-is : l .interval .min ≡ lowest s grid number h
+      low-is = ap (valueOf 0 (λ z. z .min)) (sym (entry-interval grid number (nth (h .intervals) s) m (C .entryAt h) l x en))
+
+      high-is : l .interval .max ≡ highest s grid number h
+      high-is = ap (valueOf 0 (λ z. z .max)) (sym (entry-interval grid number (nth (h .intervals) s) m (C .entryAt h) l x en))
+
+      abbrev pub collects : (low high : ℕ) (p w : List Kind) → Res Tile
+      collects low high p w = answered (mapRes (shownTile (debug h) (rowsOfInterval low high) p w) (collect (tileFormat (debug h) (rowsOfInterval low high) p w) m (l .entry .absolute)))
+
+      -- collecting, by the header's value
+      pub collected-as : collectTile lay found grid number m ≡ collects (lowest s grid number h) (highest s grid number h) poiKinds wayKinds
+      unfolding collectTile
+      collected-as =
+          ap (λ r. andThen {B = Tile} r (λ l _. collectAt lay (l .interval .min) (l .interval .max) (l .entry .absolute) m)) (located-as ∙ ap answered en)
+          ∙ ap (λ p. collects (l .interval .min) (l .interval .max) p (tagKinds (tableOf (h .wayTags)) m)) (kinds .poi)
+          ∙ ap (λ w. collects (l .interval .min) (l .interval .max) poiKinds w) (kinds .way)
+          ∙ ap (λ a. collects a (l .interval .max) poiKinds wayKinds) low-is
+          ∙ ap (λ a. collects (lowest s grid number h) a poiKinds wayKinds) high-is
+
+      -- fetching, by the header's value
+      abbrev pub fetchesAt : (k low high : ℕ) (p w : List Kind) → Res (Fetched fetch.Feature)
+      fetchesAt k low high p w =
+          andThen (collect (tileFormat (debug h) (rowsOfInterval low high) p w) m (l .entry .absolute)) (λ t _.
+          fetch.givenBy (debug h) (rowsOfInterval low high) p w (walkedName (tableOf (h .poiTags)) m) (walkedName (tableOf (h .wayTags)) m) (collected.fetch (collected.storedTile t (record { subFile = s; water = l .entry .water })) k))
+
+      pub fetched-as : (k : ℕ) → fetch.fetchTile lay found grid number k m ≡ fetchesAt k (lowest s grid number h) (highest s grid number h) poiKinds wayKinds
+      unfolding fetch.fetchTile
+      fetched-as k =
+          ap (λ r. andThen {B = Fetched fetch.Feature} r (λ l _. fetch.fetchAt lay k l m)) (located-as ∙ ap answered en)
+          ∙ ap (λ p. fetchesAt k (l .interval .min) (l .interval .max) p (tagKinds (tableOf (h .wayTags)) m)) (kinds .poi)
+          ∙ ap (λ w. fetchesAt k (l .interval .min) (l .interval .max) poiKinds w) (kinds .way)
+          ∙ ap (λ a. fetchesAt k a (l .interval .max) poiKinds wayKinds) low-is
+          ∙ ap (λ a. fetchesAt k (lowest s grid number h) a poiKinds wayKinds) high-is
+
+      abbrev opensAt : (low high zoom : ℕ) (p w : List Kind) → Res (State TileEnd)
+      opensAt low high zoom p w = answered (openStream (tileFormat (debug h) (rowsOfInterval low high) p w) (rowsUpto low high zoom) (record { subFile = s; water = l .entry .water }) m (l .entry .absolute))
+
+      -- opening a stream, by the header's value
+      pub opened-as : (zoom : ℕ) → openTile lay found s grid number zoom m ≡ answered (layout.openTile C h zoom m)
+      unfolding openTile
+      opened-as zoom =
+          ap (λ r. andThen {B = State TileEnd} r (λ l _. answered (openStream (formatOf lay (rowsOfInterval (l .interval .min) (l .interval .max)) m) (rowsUpto (l .interval .min) (l .interval .max) zoom) (record { subFile = s; water = l .entry .water }) m (l .entry .absolute)))) (located-as ∙ ap answered en)
+          ∙ ap (λ p. opensAt (l .interval .min) (l .interval .max) zoom p (tagKinds (tableOf (h .wayTags)) m)) (kinds .poi)
+          ∙ ap (λ w. opensAt (l .interval .min) (l .interval .max) zoom poiKinds w) (kinds .way)
+          ∙ ap (λ a. opensAt a (l .interval .max) zoom poiKinds wayKinds) low-is
+          ∙ ap (λ a. opensAt (lowest s grid number h) a zoom poiKinds wayKinds) high-is
+          ∙ ap (λ r. answered (andThen {B = State TileEnd} r (λ n _. openStream (C .format h) (rowsAt C h zoom) (C .end h n) m (C .tileAt h n)))) (sym en)
+
+      -- the entry's water mark, as `tile_index_entry` answers it
+      pub entry-is : (r : EntryRead) → entryRes r ≡ heldRes (index.tileIndexEntry (lay .debug) found grid number m) → r ≡ entry-read.Entry (heldEntry (l .entry))
+      entry-is r q = entry-answer r (q ∙ entry-held (lay .debug) found grid number m l (located-as ∙ ap answered en))
+
+    -- where the machine's replies are the book's
+    module _ (n : Located) (t : StoredTile (C .format h)) (zoom : ℕ) (cs : List Call) (a : MapAgrees C m h n t zoom cs) where
+      fresh-opens : openTile lay found s grid number zoom m ≡ answer (freshTile C h n t zoom)
+      fresh-opens = opened-as n (a .map .entryEnd) (a .map .entry) zoom ∙ ap answered (a .opens)
+
+      abbrev machine : (p w : List Kind) → State TileEnd → List (Reply ShownAnswer)
+      machine p w x = shownReplies (run (stream (tileFormat (debug h) rows p w) m) x cs)
+
+      says-book : machine poiKinds wayKinds (freshTile C h n t zoom) ≡ bookAt s grid number h n t zoom cs
+      says-book = shown-same (debug h) rows poiKinds wayKinds (h .poiTags .texts) (h .wayTags .texts) (run (stream (C .format h) m) (freshTile C h n t zoom) cs) ∙ a .shown
+
+      pub sees-book : (b : HeaderRead) → HeaderIs (ok h e) b → SeesBook s grid number h n t m b lay found zoom cs
+      sees-book b d = record {
+        answers = λ h′ l′ i′ k.
+            let p : h′ ≡ b = header-same h e h′ b (subst (λ r. HeaderIs r h′) o (k .header)) d in
+            let q : h′ .header ≡ mapHeader h = ap (λ (x : HeaderRead). x .header) p ∙ d .whole in
+            (p, k .layout ∙ ap layoutOf q, k .interval ∙ ap (λ x. nth (intervalsOf x) s) q);
+        streams = λ q r. never-refused q (r ∙ fresh-opens);
+        replies = λ st r rs k.
+            called-run m lay rows st cs rs k
+            ∙ ap (λ p. machine p (tagKinds (tableOf (h .wayTags)) m) (stateOf st)) (kinds .poi)
+            ∙ ap (λ w. machine poiKinds w (stateOf st)) (kinds .way)
+            ∙ ap (machine poiKinds wayKinds) (ok-val (r ∙ fresh-opens))
+            ∙ says-book;
+        texts =
+            ap (textsFound m) (sym says-book)
+            ∙ texts-found (debug h) rows poiKinds wayKinds m cs (freshTile C h n t zoom)
+            ∙ ap textsStored (a .replies);
+      }

@@ -1,0 +1,2 @@
+pub mod ZoomBytes
+pub mod Words
