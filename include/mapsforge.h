@@ -1,29 +1,55 @@
-/* The Mapsforge tile reader, for programs that link target/staticlib/libexports.a (`rt staticlib exports`; x86-64 Linux).
+/* The Mapsforge tile reader, for programs that link target/staticlib/libexports.a (`rt staticlib exports`; x86-64 Linux). C99 or later, or
+ * C++. mapsforge_grid.h finds the tiles of a map; examples/list_tile.c is a small program with both.
  *
  * Every function takes anything, ends, stays inside what it is lent, and gives 0, or the number of a refusal (below). Each is proved: see
  * crates/exports/src/lib.rt. Nothing is allocated, no state is kept between calls, and calls may run in several threads at once.
  *
  * A slice goes as its address and its number of entries; an array of a given length goes by its address alone. An empty slice's address
- * must not be null (any aligned address will do), and no two arguments of a call may overlap where one of them is written.
+ * must not be null (any aligned address will do), and no two arguments of a call may overlap where one of them is written. Numbers of 64
+ * bits and doubles stand where C puts them, at multiples of 8 bytes; the map, a text and a buffer may start anywhere.
  *
  * Words 0 to 5 of `words` are the refusal's values, zeros behind them and where nothing is refused: 3 has the map's version, 7 the tag
  * id, 15 the lengths needed of the lists, in the order in which the call takes them (words 0 to 4), and of the buffer (word 5), 19 and 20
- * the place in the map where the missing read began. On a refusal the words behind them are 0, but where a call says otherwise.
- * docs/REFUSALS.md has every refusal with its smallest example, and what each call can answer.
+ * the place in the map where the missing read began. docs/REFUSALS.md has every refusal with its smallest example, and what each call can
+ * answer.
+ *
+ * A call writes every entry of its arrays, 0 where there is nothing to say. On a refusal all but the values are 0. Two things a refused
+ * call leaves exactly as they were, whatever they held: lent lists and buffers, and the seven words of a stream's state.
  *
  * A part of the map, or of nothing, is three words: 1 if it is there, its place in the map, its size in bytes; else 0, 0, 0.
  * A text of a stream that is not valid UTF-8 is there with size 0.
  *
  * The caller keeps the map's bytes, the layout that mapsforge_open gave, and of each sub file the interval that mapsforge_interval gave,
  * and hands in what a call needs of them. So nothing is opened again: only mapsforge_open, mapsforge_interval and mapsforge_sub_file open
- * the map, and give the refusal of opening if it does not open. Any words are taken: with words that did not come from this map, the
- * answers are those of a map with such a header. */
+ * the map, and give the refusal of opening if it does not open. Any words are taken: with a layout or an interval that did not come from
+ * this map, a call reads the map by them, and what opening checks is not checked again. So a tag table may stand where the map has no such
+ * names, or behind its end: a name that cannot be read there is an empty one without an inline value, and nothing is refused for it.
+ *
+ * The caller computes the grid. The library takes every grid that is not reversed and not too large (14): with a wrong one it reads wrong
+ * tiles, and nothing tells. A sub file's grid is the tiles of its base zoom that the map's bounding box touches: columns x_min to x_max and
+ * rows y_min to y_max, both ends included, whatever zoom the tiles are shown at. Column 0 starts at 180 degrees west; row 0 is the
+ * northernmost, so that y_min is the row of the box's north. With latitudes in radians, columns and rows are
+ *
+ *     x = floor(2^zoom * (longitude + 180) / 360), clamped to 0 and 2^zoom - 1   (mapsforge_column does not clamp)
+ *     y = floor(2^zoom * (1 - ln(tan(latitude) + 1 / cos(latitude)) / pi) / 2), clamped to 0 and 2^zoom - 1
+ *
+ * Tiles are numbered from 0, row by row from the north-west: tile = (y - y_min) * (x_max - x_min + 1) + (x - x_min).
+ *
+ * The positions of points and nodes are offsets in degrees, to be added to latitude and longitude of the tile's north-western corner; a
+ * label's is an offset from the way's first node.
+ *
+ * Stack: at most 64 KB for mapsforge_open, mapsforge_interval and mapsforge_sub_file, 32 KB for mapsforge_collect and mapsforge_fetch,
+ * 4 KB for the others (measured: 56, 27 and 3 KB). A thread of MAPSFORGE_STACK bytes has room for each of them and for its own start. */
 #ifndef MAPSFORGE_H
 #define MAPSFORGE_H
 
 #include <stdbool.h>
 #include <stddef.h>
 #include <stdint.h>
+
+#ifdef __cplusplus
+extern "C" {
+#endif
 
 /* Refusals. */
 enum {
@@ -51,81 +77,242 @@ enum {
                                              more, 19 and 20 have 2^64 - 1 */
 };
 
-/* Opens a map. words: 6 the place behind the header, 7 header size, 8 version, 9 file size, 10 date (milliseconds), 11 tile size,
- * 12 flags, 13-14 magic (place, size), 15-16 projection (place, size), 17 whether there is a start position, 18-19 start zoom (1 and
- * the zoom, or 0, 0), 20-22 language, 23-25 comment, 26-28 created by (parts), 29-30 point tags (place, count), 31-32 way tags,
- * 33 number of sub files. degrees: the bounding box, south, west, north, east; the start position, latitude, longitude. layout: what
- * other calls take of the header: 0 whether there are signatures for debugging, 1-2 point tags (place, count), 3-4 way tags. Where opening
- * is refused, all of them but the values are those of an empty header: 0. */
+/* The refusal's values, words 0 to 5 of every call. Where a call names no other words, they are all that `words` has. */
+#define MAPSFORGE_VALUE 0                       /* of refusals 3, 7, 19 and 20 */
+#define MAPSFORGE_NEEDED_NODE_COUNTS 0          /* of refusal 15: how many entries each list, and the buffer, must have */
+#define MAPSFORGE_NEEDED_LATITUDES 1
+#define MAPSFORGE_NEEDED_LONGITUDES 2
+#define MAPSFORGE_NEEDED_INITIAL_LATITUDES 3
+#define MAPSFORGE_NEEDED_INITIAL_LONGITUDES 4
+#define MAPSFORGE_NEEDED_BUFFER 5
+#define MAPSFORGE_VALUES 6                      /* how many there are */
+
+/* A part of the map, counted from its first word: words[MAPSFORGE_NEXT_NAME + MAPSFORGE_PART_SIZE]. */
+#define MAPSFORGE_PART_THERE 0
+#define MAPSFORGE_PART_PLACE 1
+#define MAPSFORGE_PART_SIZE 2
+#define MAPSFORGE_PART_WORDS 3
+
+/* The two degrees of a point's position, or of a label's. */
+#define MAPSFORGE_LATITUDE 0
+#define MAPSFORGE_LONGITUDE 1
+#define MAPSFORGE_POSITION_DEGREES 2
+
+/* The signed words of a feature. */
+#define MAPSFORGE_LAYER 0                       /* from -5 to 10 */
+#define MAPSFORGE_ELEVATION 1                   /* a point's, in metres */
+#define MAPSFORGE_SIGNED_WORDS 2
+
+#define MAPSFORGE_MAX_TAGS 15                   /* a feature has no more: the length of ids */
+#define MAPSFORGE_MAX_ROWS 256                  /* a zoom table has no more: the length of points and ways */
+#define MAPSFORGE_STACK 98304                   /* bytes: 96 KB */
+
+/* Opens a map. */
+#define MAPSFORGE_OPEN_END 6                    /* words: the place behind the header */
+#define MAPSFORGE_OPEN_HEADER_SIZE 7            /* as stored */
+#define MAPSFORGE_OPEN_VERSION 8
+#define MAPSFORGE_OPEN_FILE_SIZE 9              /* as stored */
+#define MAPSFORGE_OPEN_DATE 10                  /* milliseconds since 1970 */
+#define MAPSFORGE_OPEN_TILE_SIZE 11             /* pixels */
+#define MAPSFORGE_OPEN_FLAGS 12
+#define MAPSFORGE_OPEN_MAGIC 13                 /* its place in the map */
+#define MAPSFORGE_OPEN_MAGIC_SIZE 14
+#define MAPSFORGE_OPEN_PROJECTION 15            /* its place in the map */
+#define MAPSFORGE_OPEN_PROJECTION_SIZE 16
+#define MAPSFORGE_OPEN_HAS_START_POSITION 17
+#define MAPSFORGE_OPEN_HAS_START_ZOOM 18
+#define MAPSFORGE_OPEN_START_ZOOM 19
+#define MAPSFORGE_OPEN_LANGUAGE 20              /* a part, 20 to 22 */
+#define MAPSFORGE_OPEN_COMMENT 23               /* a part, 23 to 25 */
+#define MAPSFORGE_OPEN_CREATED_BY 26            /* a part, 26 to 28 */
+#define MAPSFORGE_OPEN_POINT_TAGS 29            /* the place of the first name */
+#define MAPSFORGE_OPEN_POINT_TAG_COUNT 30
+#define MAPSFORGE_OPEN_WAY_TAGS 31              /* the place of the first name */
+#define MAPSFORGE_OPEN_WAY_TAG_COUNT 32
+#define MAPSFORGE_OPEN_SUB_FILES 33             /* how many there are */
+#define MAPSFORGE_OPEN_WORDS 34
+#define MAPSFORGE_OPEN_SOUTH 0                  /* degrees: the bounding box */
+#define MAPSFORGE_OPEN_WEST 1
+#define MAPSFORGE_OPEN_NORTH 2
+#define MAPSFORGE_OPEN_EAST 3
+#define MAPSFORGE_OPEN_START_LATITUDE 4         /* and the start position */
+#define MAPSFORGE_OPEN_START_LONGITUDE 5
+#define MAPSFORGE_OPEN_DEGREES 6
+#define MAPSFORGE_LAYOUT_DEBUG 0                /* layout: whether there are signatures for debugging; any word but 0 is taken for yes */
+#define MAPSFORGE_LAYOUT_POINT_TAGS 1           /* as above */
+#define MAPSFORGE_LAYOUT_POINT_TAG_COUNT 2
+#define MAPSFORGE_LAYOUT_WAY_TAGS 3
+#define MAPSFORGE_LAYOUT_WAY_TAG_COUNT 4
+#define MAPSFORGE_LAYOUT_WORDS 5
 uint64_t mapsforge_open(const uint8_t *map, size_t map_len, uint64_t words[34], double degrees[6], uint64_t layout[5]);
 
-/* The zoom interval of a sub file. interval: 0 whether there is one, 1 base zoom, 2 lowest zoom, 3 highest zoom, 4 start, 5 size; all 0
- * if there is none, and on a refusal. It goes as it is to mapsforge_tile_count, mapsforge_tile_index, mapsforge_index_entry,
- * mapsforge_stream_open, mapsforge_collect and mapsforge_fetch, which take any word 0 but 0 for a sub file that is there, and words 1 to
- * 3 modulo 256. words: only the refusal's values. */
+/* The zoom interval of a sub file; all 0 if there is none. It goes as it is to mapsforge_tile_count, mapsforge_tile_index,
+ * mapsforge_index_entry, mapsforge_stream_open, mapsforge_collect and mapsforge_fetch. words: only the refusal's values. */
+#define MAPSFORGE_INTERVAL_THERE 0              /* interval: any word but 0 is taken for a sub file that is there */
+#define MAPSFORGE_INTERVAL_BASE_ZOOM 1          /* the grid's zoom. The three zooms are taken modulo 256 */
+#define MAPSFORGE_INTERVAL_MIN_ZOOM 2
+#define MAPSFORGE_INTERVAL_MAX_ZOOM 3
+#define MAPSFORGE_INTERVAL_START 4              /* the sub file's place in the map */
+#define MAPSFORGE_INTERVAL_SIZE 5               /* as stored */
+#define MAPSFORGE_INTERVAL_WORDS 6
 uint64_t mapsforge_interval(const uint8_t *map, size_t map_len, size_t sub_file, uint64_t words[6], uint64_t interval[6]);
 
-/* The first sub file whose interval has the zoom. words: 6 whether there is one, 7 its number. */
+/* The first sub file whose interval has the zoom. */
+#define MAPSFORGE_SUB_FILE_THERE 6              /* words: whether there is one */
+#define MAPSFORGE_SUB_FILE_NUMBER 7
+#define MAPSFORGE_SUB_FILE_WORDS 8
 uint64_t mapsforge_sub_file(const uint8_t *map, size_t map_len, uint8_t zoom, uint64_t words[8]);
 
-/* Tag k of a table of the header (its place and count, as mapsforge_open gives them). words: 6 the text's place, 7 its size, 8 the place
- * behind it, 9 the kind of its inline value: 0 none, 1 %b, 2 %h, 3 %i, 4 %f, 5 %s (word 9 is there with a refusal too). */
+/* Tag k, from 0, of a table of the header (its place and count, as mapsforge_open gives them). */
+#define MAPSFORGE_TAG_PLACE 6                   /* words: where its text stands in the map */
+#define MAPSFORGE_TAG_SIZE 7
+#define MAPSFORGE_TAG_END 8                     /* the place behind the text: as a start it makes the next tag number 0, without a walk */
+#define MAPSFORGE_TAG_KIND 9                    /* what a feature stores for it, one of these kinds: */
+#define MAPSFORGE_TAG_WORDS 10
+#define MAPSFORGE_KIND_NONE 0                   /* nothing */
+#define MAPSFORGE_KIND_BYTE 1                   /* %b, one byte */
+#define MAPSFORGE_KIND_SHORT 2                  /* %h, two */
+#define MAPSFORGE_KIND_INT 3                    /* %i, four */
+#define MAPSFORGE_KIND_FLOAT 4                  /* %f, four */
+#define MAPSFORGE_KIND_TEXT 5                   /* %s, a length and that many */
 uint64_t mapsforge_tag(const uint8_t *map, size_t map_len, size_t start, size_t count, size_t k, uint64_t words[10]);
 
-/* The text with each ill-formed part replaced by U+FFFD, to the front of the buffer. words: 6 its size. */
+/* The text with each ill-formed part replaced by U+FFFD, to the front of the buffer; bytes behind it keep their values. */
+#define MAPSFORGE_TEXT_SIZE 6                   /* words: its size there */
+#define MAPSFORGE_TEXT_WORDS 7
 uint64_t mapsforge_text(const uint8_t *text, size_t text_len, uint8_t *buffer, size_t buffer_len, uint64_t words[7]);
 
-/* How many tiles the sub file has, by its grid. words: 6 whether there is such a sub file, 7 the count. */
+/* How many tiles the sub file has, by its grid. */
+#define MAPSFORGE_TILE_COUNT_THERE 6            /* words: whether there is such a sub file */
+#define MAPSFORGE_TILE_COUNT_TILES 7
+#define MAPSFORGE_TILE_COUNT_WORDS 8
 uint64_t mapsforge_tile_count(const uint64_t interval[6], int32_t x_min, int32_t y_min, int32_t x_max, int32_t y_max, uint64_t words[8]);
 
-/* The number of the tile x, y of the sub file. words: 6 whether there is one, 7 its number. */
+/* The number of the tile x, y of the sub file. */
+#define MAPSFORGE_TILE_INDEX_THERE 6            /* words: whether there is one: such a sub file, and x, y in the grid */
+#define MAPSFORGE_TILE_INDEX_NUMBER 7
+#define MAPSFORGE_TILE_INDEX_WORDS 8
 uint64_t mapsforge_tile_index(const uint64_t interval[6], int32_t x_min, int32_t y_min, int32_t x_max, int32_t y_max, int32_t x, int32_t y, uint64_t words[8]);
 
-/* A tile's entry in the index. words: 6 water, 7 the tile's place from the sub file's start, 8 from the map's. The calls about a tile
- * refuse in this order: no such sub file (8), a bad grid (14), no such tile (8), no entry (19), a reversed interval (13); then comes the
- * tile, its bytes in file order. This one stops behind 19. */
+/* A tile's entry in the index. The calls about a tile refuse in this order: no such sub file (8), a bad grid (14), no such tile (8), no
+ * entry (19), a reversed interval (13); then comes the tile, its bytes in file order; then no such feature (17), and a list too short (15)
+ * last. This one stops behind 19.
+ *
+ * Some writers mark a tile without features by the offset of the next tile (of the last tile: by the sub file's size). The library does
+ * not look at the mark and reads what stands there, which is another tile: compare the two offsets first. */
+#define MAPSFORGE_INDEX_ENTRY_WATER 6           /* words: whether the tile is marked as water */
+#define MAPSFORGE_INDEX_ENTRY_OFFSET 7          /* the tile's place from the sub file's start */
+#define MAPSFORGE_INDEX_ENTRY_PLACE 8           /* and from the map's; 2^64 - 1 stands for any larger place */
+#define MAPSFORGE_INDEX_ENTRY_WORDS 9
 uint64_t mapsforge_index_entry(const uint8_t *map, size_t map_len, const uint64_t layout[5], const uint64_t interval[6], int32_t x_min, int32_t y_min, int32_t x_max, int32_t y_max, size_t tile, uint64_t words[9]);
 
-/* The column that a longitude lies in, and the longitude at which a column starts; 0 on a refusal. */
+/* The column that a longitude lies in, and the longitude at which a column starts. Nothing is clamped: 180.0 at zoom 13 is column 8192,
+ * one behind the last. The column is cut toward 0 and kept within 32 bits; of a NaN it is 0. words: only the refusal's values. */
 uint64_t mapsforge_column(double longitude, uint8_t zoom, uint64_t words[6], int64_t column[1]);
 uint64_t mapsforge_longitude(uint32_t column, uint8_t zoom, uint64_t words[6], double longitude[1]);
 
 /* Opens a stream of a tile at a zoom, which is clamped into the sub file's interval. sub_file is only what the stream's end answers. The
- * state is the caller's to keep and these calls' to write. On a refusal it keeps its words. */
+ * state is the caller's to keep and these calls' to write; any seven words are taken for one. words: only the refusal's values. */
+#define MAPSFORGE_STATE_WAITS 0                 /* state: 1 while a way waits, else 0; any word but 0 is taken for yes */
+#define MAPSFORGE_STATE_SUB_FILE 5              /* what the end will answer */
+#define MAPSFORGE_STATE_WATER 6                 /* any word but 0 is taken for yes */
+#define MAPSFORGE_STATE_WORDS 7
+#define MAPSFORGE_IDLE_POINTS 1                 /* while none waits: how many points are still to come, */
+#define MAPSFORGE_IDLE_WAYS 2                   /* how many ways, */
+#define MAPSFORGE_IDLE_POINT 3                  /* and where the next point */
+#define MAPSFORGE_IDLE_WAY 4                    /* and the next way stand in the map */
+#define MAPSFORGE_WAITING_WAYS 1                /* while one waits: how many ways are to come behind it, */
+#define MAPSFORGE_WAITING_PAST 2                /* the place that declining goes to, */
+#define MAPSFORGE_WAITING_BODY 3                /* and where its body starts; word 4 is 0 */
 uint64_t mapsforge_stream_open(const uint8_t *map, size_t map_len, const uint64_t layout[5], const uint64_t interval[6], size_t sub_file, int32_t x_min, int32_t y_min, int32_t x_max, int32_t y_max, size_t tile, uint8_t zoom, uint64_t state[7], uint64_t words[6]);
 
 /* The next point; after the last point the next way's head, which then waits; at last the end, again and again. 16 while a way waits.
- * words: 6 what it is (0 a point, 1 a way's head, 2 the end), 7 number of tags, 8-10 signature, 11-13 name, 14-16 house number (parts,
- * of a point), 17 whether a point has an elevation, 18 a way's bitmap, 19 the end's sub file, 20 the end's water mark. signed_words:
- * the layer, and a point's elevation in metres. degrees: a point's latitude and longitude, else 0. ids: the tag ids, zeros behind them.
- * A refused call leaves the stream where it was. */
+ * signed_words: the layer, and a point's elevation. degrees: a point's position. ids: the tag ids, zeros behind them. */
+#define MAPSFORGE_NEXT_KIND 6                   /* words: what it is, one of the kinds below */
+#define MAPSFORGE_NEXT_TAG_COUNT 7
+#define MAPSFORGE_NEXT_SIGNATURE 8              /* 8 to 10 are always 0: a stream gives no signatures */
+#define MAPSFORGE_NEXT_NAME 11                  /* a part, 11 to 13, of a point: a way's texts come with its body */
+#define MAPSFORGE_NEXT_HOUSE_NUMBER 14          /* a part, 14 to 16, of a point */
+#define MAPSFORGE_NEXT_HAS_ELEVATION 17
+#define MAPSFORGE_NEXT_BITMAP 18                /* of a way: which of 4 by 4 cells of the tile it touches, row by row, bit 15 the first */
+#define MAPSFORGE_NEXT_SUB_FILE 19              /* of the end */
+#define MAPSFORGE_NEXT_WATER 20                 /* of the end: whether the tile is marked as water */
+#define MAPSFORGE_NEXT_WORDS 21
+#define MAPSFORGE_POINT 0                       /* kinds, here and in mapsforge_fetch */
+#define MAPSFORGE_WAY 1
+#define MAPSFORGE_END 2                         /* only here */
 uint64_t mapsforge_stream_next(const uint8_t *map, size_t map_len, const uint64_t layout[5], uint64_t state[7], uint64_t words[21], int64_t signed_words[2], double degrees[2], uint64_t ids[15]);
 
 /* Decodes the waiting way. Its blocks' node counts, and all its latitudes and longitudes, go to the fronts of the lists; entries behind
- * them keep their values. words: 6 number of blocks, 7 of nodes, 8-10 name, 11-13 house number, 14-16 reference (parts), 17 whether
- * there is a label position. degrees: the label position. A refused call leaves the way waiting and the lists alone. */
+ * them keep their values. degrees: the label's position. A refused call leaves the way waiting and the lists alone. */
+#define MAPSFORGE_ACCEPT_BLOCKS 6               /* words: how many node counts */
+#define MAPSFORGE_ACCEPT_NODES 7                /* and how many latitudes and longitudes went to the lists */
+#define MAPSFORGE_ACCEPT_NAME 8                 /* a part, 8 to 10 */
+#define MAPSFORGE_ACCEPT_HOUSE_NUMBER 11        /* a part, 11 to 13 */
+#define MAPSFORGE_ACCEPT_REFERENCE 14           /* a part, 14 to 16 */
+#define MAPSFORGE_ACCEPT_HAS_LABEL 17
+#define MAPSFORGE_ACCEPT_WORDS 18
 uint64_t mapsforge_stream_accept(const uint8_t *map, size_t map_len, uint64_t state[7], uint64_t *node_counts, size_t node_counts_len, double *latitudes, size_t latitudes_len, double *longitudes, size_t longitudes_len, uint64_t words[18], double degrees[2]);
 
-/* Goes past the waiting way, by its stored size. */
+/* Goes past the waiting way, by its stored size; astray, if that is wrong: see MAPSFORGE_COLLECT_EXACT. words: only the refusal's
+ * values. */
 uint64_t mapsforge_stream_decline(uint64_t state[7], uint64_t words[6]);
 
-/* Collects a tile: decodes every feature of it. words: 6-8 signature (a part), 9 number of rows, 10 first-way offset, 11 number of
- * points, 12 of ways, 13 whether every way's stored size is its decoded length. points and ways: the zoom table, zeros behind its rows. */
+/* Collects a tile: decodes every feature of it. points and ways: the zoom table, zeros behind its rows. Row r is how many features are
+ * added at the interval's lowest zoom plus r. */
+#define MAPSFORGE_COLLECT_SIGNATURE 6           /* words: a part, 6 to 8 */
+#define MAPSFORGE_COLLECT_ROWS 9                /* how many rows the zoom table has */
+#define MAPSFORGE_COLLECT_FIRST_WAY_OFFSET 10   /* as stored, counted from behind it */
+#define MAPSFORGE_COLLECT_POINTS 11             /* how many there are */
+#define MAPSFORGE_COLLECT_WAYS 12
+#define MAPSFORGE_COLLECT_EXACT 13              /* whether every way's stored size is its decoded length: if so, ways can be declined */
+#define MAPSFORGE_COLLECT_WORDS 14
 uint64_t mapsforge_collect(const uint8_t *map, size_t map_len, const uint64_t layout[5], const uint64_t interval[6], int32_t x_min, int32_t y_min, int32_t x_max, int32_t y_max, size_t tile, uint64_t words[14], uint64_t points[256], uint64_t ways[256]);
 
 /* Fetches feature k of a collected tile: points from 0, ways behind them. A way's node counts, latitudes and longitudes and its blocks'
  * initial latitudes and longitudes go to the fronts of the lists; the texts go to the buffer, one behind the other: the tags' strings in
- * the order of their ids, then name, house number and reference. words: 6 what it is (0 a point, 1 a way), 7 number of tags, 8-10
- * signature (a part), 11-16 name, 17-22 house number, 23-28 reference, 29 whether a point has an elevation, 30 a way's bitmap, 31
- * whether its deltas are double, 32 its blocks, 33 its nodes, 34 whether it has a label position. A text is six words: 1 if it is
- * there, its size in the buffer, then of the tag made of it the key's and the value's length and the key's and the value's hash.
- * signed_words: the layer, and a point's elevation in metres. degrees: a point's position, or a way's label position. ids: the tag ids.
- * tags: for each of 15 tags five words, as a text's last five. A refused call leaves the lists and the buffer alone. */
+ * the order of their ids, then name, house number and reference. signed_words: the layer, and a point's elevation. degrees: a point's
+ * position, or a way's label's. ids: the tag ids, zeros behind them. tags: five words for each tag, zeros behind them. A refused call
+ * leaves the lists and the buffer alone.
+ *
+ * A text in the buffer has five words. They tell of the text, and of a tag: of a tag's string, split at its first = (which counts to
+ * neither side; without one the value is empty); of a name, house number or reference, the tag with the key "name", "addr:housenumber" or
+ * "ref" and the text as its value. The hash of n characters c: h = 0; for i from 0: h = (h + c[i]) * 31^(n - i + 1), modulo 2^64. */
+#define MAPSFORGE_FETCH_KIND 6                  /* words: MAPSFORGE_POINT or MAPSFORGE_WAY */
+#define MAPSFORGE_FETCH_TAG_COUNT 7
+#define MAPSFORGE_FETCH_SIGNATURE 8             /* a part, 8 to 10 */
+#define MAPSFORGE_FETCH_HAS_NAME 11
+#define MAPSFORGE_FETCH_NAME 12                 /* a text, 12 to 16 */
+#define MAPSFORGE_FETCH_HAS_HOUSE_NUMBER 17
+#define MAPSFORGE_FETCH_HOUSE_NUMBER 18         /* a text, 18 to 22 */
+#define MAPSFORGE_FETCH_HAS_REFERENCE 23
+#define MAPSFORGE_FETCH_REFERENCE 24            /* a text, 24 to 28, of a way */
+#define MAPSFORGE_FETCH_HAS_ELEVATION 29        /* of a point */
+#define MAPSFORGE_FETCH_BITMAP 30               /* of a way, as are those that follow; see MAPSFORGE_NEXT_BITMAP */
+#define MAPSFORGE_FETCH_DOUBLE_DELTA 31         /* whether its nodes are stored as differences of differences */
+#define MAPSFORGE_FETCH_BLOCKS 32
+#define MAPSFORGE_FETCH_NODES 33
+#define MAPSFORGE_FETCH_HAS_LABEL 34
+#define MAPSFORGE_FETCH_WORDS 35
+#define MAPSFORGE_STRING_SIZE 0                 /* a text, counted from its first word: its size in the buffer */
+#define MAPSFORGE_STRING_KEY_SIZE 1             /* in bytes, as the value's */
+#define MAPSFORGE_STRING_VALUE_SIZE 2
+#define MAPSFORGE_STRING_KEY_HASH 3
+#define MAPSFORGE_STRING_VALUE_HASH 4
+#define MAPSFORGE_STRING_WORDS 5
 uint64_t mapsforge_fetch(const uint8_t *map, size_t map_len, const uint64_t layout[5], const uint64_t interval[6], int32_t x_min, int32_t y_min, int32_t x_max, int32_t y_max, size_t tile, uint64_t feature, uint64_t *node_counts, size_t node_counts_len, double *latitudes, size_t latitudes_len, double *longitudes, size_t longitudes_len, double *initial_latitudes, size_t initial_latitudes_len, double *initial_longitudes, size_t initial_longitudes_len, uint8_t *buffer, size_t buffer_len, uint64_t words[35], int64_t signed_words[2], double degrees[2], uint64_t ids[15], uint64_t tags[75]);
 
-/* The data of a way alone, from a place in the map on: measured, and read to the fronts of three lists. words: 6 the number of blocks, 7 of
- * nodes, 8 the place behind them. A refused call leaves the lists alone. */
+/* The data of a way alone, from a place in the map on: measured, and read to the fronts of three lists. A refused call leaves the lists
+ * alone. */
+#define MAPSFORGE_WAY_DATA_BLOCKS 6             /* words: how many blocks */
+#define MAPSFORGE_WAY_DATA_NODES 7              /* and how many nodes there are */
+#define MAPSFORGE_WAY_DATA_END 8                /* the place behind them */
+#define MAPSFORGE_WAY_DATA_WORDS 9
 uint64_t mapsforge_measure_way_data(const uint8_t *map, size_t map_len, size_t at, uint64_t data_blocks, uint64_t words[9]);
 uint64_t mapsforge_read_way_data(const uint8_t *map, size_t map_len, size_t at, uint64_t data_blocks, bool double_delta, uint64_t *node_counts, size_t node_counts_len, double *latitudes, size_t latitudes_len, double *longitudes, size_t longitudes_len, uint64_t words[9]);
+
+#ifdef __cplusplus
+}
+#endif
 
 #endif

@@ -1,7 +1,7 @@
 //! Fetched features.
 
 use crate::raw::{self, FetchLists, FetchWords};
-use crate::{Lengths, Part, Position, Refusal, SubFile};
+use crate::{word, Lengths, Part, Position, Refusal, SubFile};
 
 /// A tag of a feature, with the hashes that the format's readers look it up by.
 #[derive(Clone, Debug, PartialEq, Eq)]
@@ -167,18 +167,23 @@ impl Buffers {
 
     fn feature<'a>(&self, map: &'a [u8], got: &FetchWords) -> Feature<'a> {
         let words = &got.words;
-        let signature = Part::from_words(map, &words[8..11]);
-        let layer = got.signed_words[0] as i8;
-        let count = words[7] as usize;
+        let signature = Part::from_words(map, &words[word::FETCH_SIGNATURE..]);
+        let layer = got.signed_words[word::LAYER] as i8;
+        let count = words[word::FETCH_TAG_COUNT] as usize;
         let tag_ids = got.ids.iter().take(count).map(|&id| id as usize).collect();
         let mut texts = Texts { bytes: &self.buffer, at: 0 };
         let mut tags: Vec<Tag> =
-            got.tags.chunks(5).take(count).map(|words| texts.tag(words)).collect();
-        let name = texts.text(&words[11..17], "name", &mut tags);
-        let house_number = texts.text(&words[17..23], "addr:housenumber", &mut tags);
-        let reference = texts.text(&words[23..29], "ref", &mut tags);
-        if words[6] == 0 {
-            let elevation = (words[29] != 0).then_some(got.signed_words[1] as i32);
+            got.tags.chunks(word::STRING_WORDS).take(count).map(|words| texts.tag(words)).collect();
+        let mut own = |has: usize, text: usize, key: &str| {
+            (words[has] != 0).then(|| texts.text(&words[text..], key, &mut tags))
+        };
+        let name = own(word::FETCH_HAS_NAME, word::FETCH_NAME, "name");
+        let house_number =
+            own(word::FETCH_HAS_HOUSE_NUMBER, word::FETCH_HOUSE_NUMBER, "addr:housenumber");
+        let reference = own(word::FETCH_HAS_REFERENCE, word::FETCH_REFERENCE, "ref");
+        if words[word::FETCH_KIND] == word::POINT {
+            let elevation = got.signed_words[word::ELEVATION] as i32;
+            let elevation = (words[word::FETCH_HAS_ELEVATION] != 0).then_some(elevation);
             let position = Position::of(got.degrees);
             return Feature::Point(Point {
                 signature,
@@ -193,16 +198,16 @@ impl Buffers {
         }
         Feature::Way(Way {
             signature,
-            bitmap: words[30] as u16,
+            bitmap: words[word::FETCH_BITMAP] as u16,
             layer,
             tag_ids,
             tags,
             name,
             house_number,
             reference,
-            label: (words[34] != 0).then(|| Position::of(got.degrees)),
-            blocks: self.blocks(words[32] as usize),
-            double_delta: words[31] != 0,
+            label: (words[word::FETCH_HAS_LABEL] != 0).then(|| Position::of(got.degrees)),
+            blocks: self.blocks(words[word::FETCH_BLOCKS] as usize),
+            double_delta: words[word::FETCH_DOUBLE_DELTA] != 0,
         })
     }
 
@@ -240,6 +245,16 @@ pub(crate) fn split_nodes(
     node_counts.iter().map(|&count| nodes.by_ref().take(count as usize).collect()).collect()
 }
 
+/// A tag with the hashes that its words have.
+fn hashed(words: &[u64], key: &str, value: &str) -> Tag {
+    Tag {
+        key: key.into(),
+        value: value.into(),
+        key_hash: words[word::STRING_KEY_HASH],
+        value_hash: words[word::STRING_VALUE_HASH],
+    }
+}
+
 /// The texts of a fetched feature, one behind the other.
 struct Texts<'b> {
     bytes: &'b [u8],
@@ -255,26 +270,18 @@ impl Texts<'_> {
         text
     }
 
-    /// The next tag, of five words: its size, the key's and the value's length, and their hashes.
+    /// The next tag, of which the words at the front tell.
     fn tag(&mut self, words: &[u64]) -> Tag {
-        let text = self.take(words[0]);
-        let (key, rest) = text.split_at(words[1] as usize);
-        let value = &rest[rest.len() - words[2] as usize..];
-        Tag { key: key.into(), value: value.into(), key_hash: words[3], value_hash: words[4] }
+        let text = self.take(words[word::STRING_SIZE]);
+        let (key, rest) = text.split_at(words[word::STRING_KEY_SIZE] as usize);
+        let value = &rest[rest.len() - words[word::STRING_VALUE_SIZE] as usize..];
+        hashed(words, key, value)
     }
 
-    /// The next text, if it is there, of six words: that it is, then as a tag's. It makes a tag too.
-    fn text(&mut self, words: &[u64], key: &str, tags: &mut Vec<Tag>) -> Option<String> {
-        if words[0] == 0 {
-            return None;
-        }
-        let text = self.take(words[1]);
-        tags.push(Tag {
-            key: key.into(),
-            value: text.clone(),
-            key_hash: words[4],
-            value_hash: words[5],
-        });
-        Some(text)
+    /// The next text, of which the words at the front tell. It makes a tag too.
+    fn text(&mut self, words: &[u64], key: &str, tags: &mut Vec<Tag>) -> String {
+        let text = self.take(words[word::STRING_SIZE]);
+        tags.push(hashed(words, key, &text));
+        text
     }
 }

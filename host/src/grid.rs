@@ -1,6 +1,6 @@
 //! The tiles that a bounding box covers.
 
-use crate::{raw, BoundingBox, Refusal};
+use crate::{raw, word, BoundingBox, Refusal};
 use std::f64::consts::PI;
 
 /// The latitude at which the Mercator square ends, in degrees.
@@ -83,7 +83,7 @@ fn last(zoom: u8) -> Result<i64, Refusal> {
 /// The column that a longitude lies in, kept within the square.
 fn column_of_longitude(longitude: f64, zoom: u8) -> Result<i32, Refusal> {
     let mut column = [0];
-    let mut words = [0; 6];
+    let mut words = [0; word::VALUES];
     Refusal::check(raw::column(longitude, zoom, &mut words, &mut column), &words)?;
     Ok(column[0].clamp(0, last(zoom)?) as i32)
 }

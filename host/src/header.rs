@@ -1,6 +1,6 @@
 //! What a map's header says.
 
-use crate::{raw, Part, Refusal};
+use crate::{raw, word, Part, Refusal};
 
 /// A position in degrees, or an offset in degrees.
 #[derive(Clone, Copy, Debug, Default, PartialEq)]
@@ -12,9 +12,9 @@ pub struct Position {
 }
 
 impl Position {
-    /// A position of two words as the library gives them.
-    pub(crate) fn of([latitude, longitude]: [f64; 2]) -> Position {
-        Position { latitude, longitude }
+    /// A position of two degrees as the library gives them.
+    pub(crate) fn of(degrees: [f64; word::POSITION_DEGREES]) -> Position {
+        Position { latitude: degrees[word::LATITUDE], longitude: degrees[word::LONGITUDE] }
     }
 
     /// The position that lies by an offset from this one.
@@ -54,25 +54,30 @@ pub struct ZoomInterval {
 impl ZoomInterval {
     /// The interval of a sub file that the header has.
     pub(crate) fn read(map: &[u8], sub_file: usize) -> Result<ZoomInterval, Refusal> {
-        let (mut words, mut interval) = ([0; 6], [0; 6]);
+        let (mut words, mut interval) = ([0; word::VALUES], [0; word::INTERVAL_WORDS]);
         Refusal::check(raw::interval(map, sub_file, &mut words, &mut interval), &words)?;
-        let [there, base_zoom, min_zoom, max_zoom, start, size] = interval;
-        if there == 0 {
+        if interval[word::INTERVAL_THERE] == 0 {
             return Err(Refusal::InvalidTileIndex);
         }
         Ok(ZoomInterval {
-            base_zoom: base_zoom as u8,
-            min_zoom: min_zoom as u8,
-            max_zoom: max_zoom as u8,
-            start,
-            size,
+            base_zoom: interval[word::INTERVAL_BASE_ZOOM] as u8,
+            min_zoom: interval[word::INTERVAL_MIN_ZOOM] as u8,
+            max_zoom: interval[word::INTERVAL_MAX_ZOOM] as u8,
+            start: interval[word::INTERVAL_START],
+            size: interval[word::INTERVAL_SIZE],
         })
     }
 
     /// As the library gave it, and takes it.
-    pub(crate) fn words(&self) -> [u64; 6] {
-        let [base, min, max] = [self.base_zoom, self.min_zoom, self.max_zoom].map(u64::from);
-        [1, base, min, max, self.start, self.size]
+    pub(crate) fn words(&self) -> [u64; word::INTERVAL_WORDS] {
+        let mut interval = [0; word::INTERVAL_WORDS];
+        interval[word::INTERVAL_THERE] = 1;
+        interval[word::INTERVAL_BASE_ZOOM] = self.base_zoom.into();
+        interval[word::INTERVAL_MIN_ZOOM] = self.min_zoom.into();
+        interval[word::INTERVAL_MAX_ZOOM] = self.max_zoom.into();
+        interval[word::INTERVAL_START] = self.start;
+        interval[word::INTERVAL_SIZE] = self.size;
+        interval
     }
 }
 
@@ -111,23 +116,37 @@ pub struct Header<'a> {
 
 impl<'a> Header<'a> {
     /// The header of the words that opening gave.
-    pub(crate) fn new(map: &'a [u8], words: &[u64; 34], degrees: &[f64; 6]) -> Header<'a> {
-        let [south, west, north, east, latitude, longitude] = *degrees;
+    pub(crate) fn new(
+        map: &'a [u8],
+        words: &[u64; word::OPEN_WORDS],
+        degrees: &[f64; word::OPEN_DEGREES],
+    ) -> Header<'a> {
+        let start_position = Position {
+            latitude: degrees[word::OPEN_START_LATITUDE],
+            longitude: degrees[word::OPEN_START_LONGITUDE],
+        };
+        let start_zoom = words[word::OPEN_START_ZOOM] as u8;
+        let projection = words[word::OPEN_PROJECTION];
         Header {
-            end: words[6],
-            header_size: words[7] as u32,
-            version: words[8] as u32,
-            file_size: words[9],
-            date: words[10],
-            bounding_box: BoundingBox { south, west, north, east },
-            tile_size: words[11] as u16,
-            flags: words[12] as u8,
-            projection: Part::new(map, words[15], words[16]),
-            start_position: (words[17] != 0).then_some(Position { latitude, longitude }),
-            start_zoom: (words[18] != 0).then_some(words[19] as u8),
-            language: Part::from_words(map, &words[20..23]),
-            comment: Part::from_words(map, &words[23..26]),
-            created_by: Part::from_words(map, &words[26..29]),
+            end: words[word::OPEN_END],
+            header_size: words[word::OPEN_HEADER_SIZE] as u32,
+            version: words[word::OPEN_VERSION] as u32,
+            file_size: words[word::OPEN_FILE_SIZE],
+            date: words[word::OPEN_DATE],
+            bounding_box: BoundingBox {
+                south: degrees[word::OPEN_SOUTH],
+                west: degrees[word::OPEN_WEST],
+                north: degrees[word::OPEN_NORTH],
+                east: degrees[word::OPEN_EAST],
+            },
+            tile_size: words[word::OPEN_TILE_SIZE] as u16,
+            flags: words[word::OPEN_FLAGS] as u8,
+            projection: Part::new(map, projection, words[word::OPEN_PROJECTION_SIZE]),
+            start_position: (words[word::OPEN_HAS_START_POSITION] != 0).then_some(start_position),
+            start_zoom: (words[word::OPEN_HAS_START_ZOOM] != 0).then_some(start_zoom),
+            language: Part::from_words(map, &words[word::OPEN_LANGUAGE..]),
+            comment: Part::from_words(map, &words[word::OPEN_COMMENT..]),
+            created_by: Part::from_words(map, &words[word::OPEN_CREATED_BY..]),
         }
     }
 

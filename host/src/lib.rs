@@ -59,6 +59,8 @@ mod sub_file;
 pub mod sys;
 mod tags;
 mod tile;
+#[allow(missing_docs)]
+pub mod word;
 
 pub use feature::{closed, Block, Buffers, Feature, Point, Tag, Way};
 pub use file::MapFile;

@@ -1,6 +1,6 @@
 //! An opened map.
 
-use crate::{raw, Header, Refusal, SubFile, TagNames, ZoomInterval};
+use crate::{raw, word, Header, Refusal, SubFile, TagNames, ZoomInterval};
 
 /// A map over its bytes: header, tag names, zoom intervals. Tiles are read on demand.
 ///
@@ -19,7 +19,7 @@ use crate::{raw, Header, Refusal, SubFile, TagNames, ZoomInterval};
 pub struct Map<'a> {
     bytes: &'a [u8],
     header: Header<'a>,
-    layout: [u64; 5],
+    layout: [u64; word::LAYOUT_WORDS],
     point_tags: TagNames<'a>,
     way_tags: TagNames<'a>,
     intervals: Vec<ZoomInterval>,
@@ -28,17 +28,19 @@ pub struct Map<'a> {
 impl<'a> Map<'a> {
     /// Reads the header, and in a debug map each sub file's signature.
     pub fn open(bytes: &'a [u8]) -> Result<Map<'a>, Refusal> {
-        let (mut words, mut degrees, mut layout) = ([0; 34], [0.0; 6], [0; 5]);
+        let (mut words, mut degrees) = ([0; word::OPEN_WORDS], [0.0; word::OPEN_DEGREES]);
+        let mut layout = [0; word::LAYOUT_WORDS];
         Refusal::check(raw::open(bytes, &mut words, &mut degrees, &mut layout), &words)?;
-        let intervals = (0..words[33] as usize)
+        let table = |place: usize, count: usize| TagNames::read(bytes, words[place], words[count]);
+        let intervals = (0..words[word::OPEN_SUB_FILES] as usize)
             .map(|sub_file| ZoomInterval::read(bytes, sub_file))
             .collect::<Result<_, _>>()?;
         Ok(Map {
             bytes,
             header: Header::new(bytes, &words, &degrees),
             layout,
-            point_tags: TagNames::read(bytes, words[29], words[30])?,
-            way_tags: TagNames::read(bytes, words[31], words[32])?,
+            point_tags: table(word::OPEN_POINT_TAGS, word::OPEN_POINT_TAG_COUNT)?,
+            way_tags: table(word::OPEN_WAY_TAGS, word::OPEN_WAY_TAG_COUNT)?,
             intervals,
         })
     }
@@ -54,7 +56,7 @@ impl<'a> Map<'a> {
     }
 
     /// What the calls of [`raw`] about a tile take of the header.
-    pub fn layout(&self) -> &[u64; 5] {
+    pub fn layout(&self) -> &[u64; word::LAYOUT_WORDS] {
         &self.layout
     }
 
@@ -85,11 +87,11 @@ impl<'a> Map<'a> {
 
     /// The first sub file that serves the zoom, if there is one.
     pub fn sub_file_for_zoom(&self, zoom: u8) -> Result<Option<SubFile<'_, 'a>>, Refusal> {
-        let mut words = [0; 8];
+        let mut words = [0; word::SUB_FILE_WORDS];
         Refusal::check(raw::sub_file(self.bytes, zoom, &mut words), &words)?;
-        if words[6] == 0 {
+        if words[word::SUB_FILE_THERE] == 0 {
             return Ok(None);
         }
-        self.sub_file(words[7] as usize).map(Some)
+        self.sub_file(words[word::SUB_FILE_NUMBER] as usize).map(Some)
     }
 }

@@ -1,6 +1,6 @@
 //! Parts of the map: texts and signatures as they are stored.
 
-use crate::raw;
+use crate::{raw, word};
 use std::fmt;
 
 /// A part of the map's bytes: a text as stored, or a signature.
@@ -20,12 +20,10 @@ impl<'a> Part<'a> {
         Part { bytes: &map[start..start + size], start }
     }
 
-    /// The part that three words name: whether it is there, its place, its size.
+    /// The part that the words at the front name, if it is there.
     pub(crate) fn from_words(map: &'a [u8], words: &[u64]) -> Option<Part<'a>> {
-        let [there, start, size] = *words else {
-            return None;
-        };
-        (there != 0).then(|| Part::new(map, start, size))
+        let (start, size) = (words[word::PART_PLACE], words[word::PART_SIZE]);
+        (words[word::PART_THERE] != 0).then(|| Part::new(map, start, size))
     }
 
     /// The bytes as stored.
@@ -45,13 +43,13 @@ impl<'a> Part<'a> {
 
     /// The text with each ill-formed part replaced by U+FFFD.
     pub fn to_text(self) -> String {
-        let mut words = [0; 7];
+        let mut words = [0; word::TEXT_WORDS];
         let mut buffer = vec![0; self.bytes.len()];
         if raw::text(self.bytes, &mut buffer, &mut words) == 15 {
-            buffer = vec![0; words[5] as usize];
+            buffer = vec![0; words[word::NEEDED_BUFFER] as usize];
             raw::text(self.bytes, &mut buffer, &mut words);
         }
-        buffer.truncate(words[6] as usize);
+        buffer.truncate(words[word::TEXT_SIZE] as usize);
         String::from_utf8_lossy(&buffer).into_owned()
     }
 }

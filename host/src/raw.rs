@@ -1,8 +1,8 @@
 //! The library's functions as they are, with slices and arrays for addresses: safe to call with anything.
 //!
-//! include/mapsforge.h says what each word is. Each function gives 0, or the number of a refusal, whose values are then
-//! words 0 to 5 (see [`crate::Refusal::check`]). A layout is what [`open`] gave, an interval what [`interval`] gave of the
-//! sub file, and any other words will do. All `unsafe` code of this crate is in this file.
+//! include/mapsforge.h says what each word is; [`crate::word`] has their names. Each function gives 0, or the number of a
+//! refusal, whose values are then words 0 to 5 (see [`crate::Refusal::check`]). A layout is what [`open`] gave, an interval
+//! what [`interval`] gave of the sub file, and any other words will do. All `unsafe` code of this crate is in this file.
 //!
 //! ```
 //! use mapsforge::raw;
@@ -17,7 +17,7 @@
 //! borrowed for the call, at its true length; a written one is borrowed alone, so that no two overlap; an empty slice's
 //! address is aligned and not null; and the library reads and writes nothing else.
 
-use crate::sys;
+use crate::{sys, word};
 use std::ffi::{c_int, c_void};
 use std::fs::File;
 use std::io;
@@ -26,34 +26,45 @@ use std::os::fd::AsRawFd;
 /// Opens a map: the header's words and degrees, and the layout that other calls take.
 pub fn open(
     map: &[u8],
-    words: &mut [u64; 34],
-    degrees: &mut [f64; 6],
-    layout: &mut [u64; 5],
+    words: &mut [u64; word::OPEN_WORDS],
+    degrees: &mut [f64; word::OPEN_DEGREES],
+    layout: &mut [u64; word::LAYOUT_WORDS],
 ) -> u64 {
     // SAFETY: borrowed for the call, at their lengths.
     unsafe { sys::mapsforge_open(map.as_ptr(), map.len(), words, degrees, layout) }
 }
 
 /// The zoom interval of a sub file, as other calls take it.
-pub fn interval(map: &[u8], sub_file: usize, words: &mut [u64; 6], interval: &mut [u64; 6]) -> u64 {
+pub fn interval(
+    map: &[u8],
+    sub_file: usize,
+    words: &mut [u64; word::VALUES],
+    interval: &mut [u64; word::INTERVAL_WORDS],
+) -> u64 {
     // SAFETY: borrowed for the call, at their lengths.
     unsafe { sys::mapsforge_interval(map.as_ptr(), map.len(), sub_file, words, interval) }
 }
 
 /// The first sub file whose interval has the zoom.
-pub fn sub_file(map: &[u8], zoom: u8, words: &mut [u64; 8]) -> u64 {
+pub fn sub_file(map: &[u8], zoom: u8, words: &mut [u64; word::SUB_FILE_WORDS]) -> u64 {
     // SAFETY: borrowed for the call, at their lengths.
     unsafe { sys::mapsforge_sub_file(map.as_ptr(), map.len(), zoom, words) }
 }
 
 /// Tag k of a table of the header.
-pub fn tag(map: &[u8], start: usize, count: usize, k: usize, words: &mut [u64; 10]) -> u64 {
+pub fn tag(
+    map: &[u8],
+    start: usize,
+    count: usize,
+    k: usize,
+    words: &mut [u64; word::TAG_WORDS],
+) -> u64 {
     // SAFETY: borrowed for the call, at their lengths.
     unsafe { sys::mapsforge_tag(map.as_ptr(), map.len(), start, count, k, words) }
 }
 
 /// A text with each ill-formed part replaced by U+FFFD.
-pub fn text(text: &[u8], buffer: &mut [u8], words: &mut [u64; 7]) -> u64 {
+pub fn text(text: &[u8], buffer: &mut [u8], words: &mut [u64; word::TEXT_WORDS]) -> u64 {
     // SAFETY: borrowed for the call, at their lengths.
     unsafe {
         sys::mapsforge_text(text.as_ptr(), text.len(), buffer.as_mut_ptr(), buffer.len(), words)
@@ -61,7 +72,11 @@ pub fn text(text: &[u8], buffer: &mut [u8], words: &mut [u64; 7]) -> u64 {
 }
 
 /// How many tiles a sub file has. A grid is x_min, y_min, x_max, y_max.
-pub fn tile_count(interval: &[u64; 6], grid: [i32; 4], words: &mut [u64; 8]) -> u64 {
+pub fn tile_count(
+    interval: &[u64; word::INTERVAL_WORDS],
+    grid: [i32; 4],
+    words: &mut [u64; word::TILE_COUNT_WORDS],
+) -> u64 {
     let [x_min, y_min, x_max, y_max] = grid;
     // SAFETY: borrowed for the call, at their lengths.
     unsafe { sys::mapsforge_tile_count(interval, x_min, y_min, x_max, y_max, words) }
@@ -69,11 +84,11 @@ pub fn tile_count(interval: &[u64; 6], grid: [i32; 4], words: &mut [u64; 8]) -> 
 
 /// The number of a tile.
 pub fn tile_index(
-    interval: &[u64; 6],
+    interval: &[u64; word::INTERVAL_WORDS],
     grid: [i32; 4],
     x: i32,
     y: i32,
-    words: &mut [u64; 8],
+    words: &mut [u64; word::TILE_INDEX_WORDS],
 ) -> u64 {
     let [x_min, y_min, x_max, y_max] = grid;
     // SAFETY: borrowed for the call, at their lengths.
@@ -83,11 +98,11 @@ pub fn tile_index(
 /// A tile's entry in the index.
 pub fn index_entry(
     map: &[u8],
-    layout: &[u64; 5],
-    interval: &[u64; 6],
+    layout: &[u64; word::LAYOUT_WORDS],
+    interval: &[u64; word::INTERVAL_WORDS],
     grid: [i32; 4],
     tile: usize,
-    words: &mut [u64; 9],
+    words: &mut [u64; word::INDEX_ENTRY_WORDS],
 ) -> u64 {
     let [x_min, y_min, x_max, y_max] = grid;
     // SAFETY: borrowed for the call, at their lengths.
@@ -108,13 +123,23 @@ pub fn index_entry(
 }
 
 /// The column that a longitude lies in.
-pub fn column(longitude: f64, zoom: u8, words: &mut [u64; 6], column: &mut [i64; 1]) -> u64 {
+pub fn column(
+    longitude: f64,
+    zoom: u8,
+    words: &mut [u64; word::VALUES],
+    column: &mut [i64; 1],
+) -> u64 {
     // SAFETY: borrowed for the call, at its length.
     unsafe { sys::mapsforge_column(longitude, zoom, words, column) }
 }
 
 /// The longitude at which a column starts.
-pub fn longitude(column: u32, zoom: u8, words: &mut [u64; 6], longitude: &mut [f64; 1]) -> u64 {
+pub fn longitude(
+    column: u32,
+    zoom: u8,
+    words: &mut [u64; word::VALUES],
+    longitude: &mut [f64; 1],
+) -> u64 {
     // SAFETY: borrowed for the call, at its length.
     unsafe { sys::mapsforge_longitude(column, zoom, words, longitude) }
 }
@@ -122,14 +147,14 @@ pub fn longitude(column: u32, zoom: u8, words: &mut [u64; 6], longitude: &mut [f
 /// Opens a stream of a tile at a zoom. The sub file's number is what the stream's end answers.
 pub fn stream_open(
     map: &[u8],
-    layout: &[u64; 5],
-    interval: &[u64; 6],
+    layout: &[u64; word::LAYOUT_WORDS],
+    interval: &[u64; word::INTERVAL_WORDS],
     sub_file: usize,
     grid: [i32; 4],
     tile: usize,
     zoom: u8,
-    state: &mut [u64; 7],
-    words: &mut [u64; 6],
+    state: &mut [u64; word::STATE_WORDS],
+    words: &mut [u64; word::VALUES],
 ) -> u64 {
     let [x_min, y_min, x_max, y_max] = grid;
     // SAFETY: borrowed for the call, at their lengths.
@@ -155,12 +180,12 @@ pub fn stream_open(
 /// The next point, the next way's head or the end.
 pub fn stream_next(
     map: &[u8],
-    layout: &[u64; 5],
-    state: &mut [u64; 7],
-    words: &mut [u64; 21],
-    signed_words: &mut [i64; 2],
-    degrees: &mut [f64; 2],
-    ids: &mut [u64; 15],
+    layout: &[u64; word::LAYOUT_WORDS],
+    state: &mut [u64; word::STATE_WORDS],
+    words: &mut [u64; word::NEXT_WORDS],
+    signed_words: &mut [i64; word::SIGNED_WORDS],
+    degrees: &mut [f64; word::POSITION_DEGREES],
+    ids: &mut [u64; word::MAX_TAGS],
 ) -> u64 {
     // SAFETY: borrowed for the call, at their lengths.
     unsafe {
@@ -180,12 +205,12 @@ pub fn stream_next(
 /// Decodes the waiting way.
 pub fn stream_accept(
     map: &[u8],
-    state: &mut [u64; 7],
+    state: &mut [u64; word::STATE_WORDS],
     node_counts: &mut [u64],
     latitudes: &mut [f64],
     longitudes: &mut [f64],
-    words: &mut [u64; 18],
-    degrees: &mut [f64; 2],
+    words: &mut [u64; word::ACCEPT_WORDS],
+    degrees: &mut [f64; word::POSITION_DEGREES],
 ) -> u64 {
     // SAFETY: borrowed for the call, at their lengths.
     unsafe {
@@ -206,7 +231,10 @@ pub fn stream_accept(
 }
 
 /// Goes past the waiting way, by its stored size.
-pub fn stream_decline(state: &mut [u64; 7], words: &mut [u64; 6]) -> u64 {
+pub fn stream_decline(
+    state: &mut [u64; word::STATE_WORDS],
+    words: &mut [u64; word::VALUES],
+) -> u64 {
     // SAFETY: borrowed for the call, at its length.
     unsafe { sys::mapsforge_stream_decline(state, words) }
 }
@@ -214,13 +242,13 @@ pub fn stream_decline(state: &mut [u64; 7], words: &mut [u64; 6]) -> u64 {
 /// Collects a tile.
 pub fn collect(
     map: &[u8],
-    layout: &[u64; 5],
-    interval: &[u64; 6],
+    layout: &[u64; word::LAYOUT_WORDS],
+    interval: &[u64; word::INTERVAL_WORDS],
     grid: [i32; 4],
     tile: usize,
-    words: &mut [u64; 14],
-    points: &mut [u64; 256],
-    ways: &mut [u64; 256],
+    words: &mut [u64; word::COLLECT_WORDS],
+    points: &mut [u64; word::MAX_ROWS],
+    ways: &mut [u64; word::MAX_ROWS],
 ) -> u64 {
     let [x_min, y_min, x_max, y_max] = grid;
     // SAFETY: borrowed for the call, at their lengths.
@@ -262,25 +290,25 @@ pub struct FetchLists<'a> {
 #[derive(Clone, Debug)]
 pub struct FetchWords {
     /// As mapsforge.h has them.
-    pub words: [u64; 35],
+    pub words: [u64; word::FETCH_WORDS],
     /// The layer and the elevation.
-    pub signed_words: [i64; 2],
+    pub signed_words: [i64; word::SIGNED_WORDS],
     /// The position, or the label position.
-    pub degrees: [f64; 2],
+    pub degrees: [f64; word::POSITION_DEGREES],
     /// The tag ids.
-    pub ids: [u64; 15],
+    pub ids: [u64; word::MAX_TAGS],
     /// Five words for each tag.
-    pub tags: [u64; 75],
+    pub tags: [u64; word::MAX_TAGS * word::STRING_WORDS],
 }
 
 impl Default for FetchWords {
     fn default() -> FetchWords {
         FetchWords {
-            words: [0; 35],
-            signed_words: [0; 2],
-            degrees: [0.0; 2],
-            ids: [0; 15],
-            tags: [0; 75],
+            words: [0; word::FETCH_WORDS],
+            signed_words: [0; word::SIGNED_WORDS],
+            degrees: [0.0; word::POSITION_DEGREES],
+            ids: [0; word::MAX_TAGS],
+            tags: [0; word::MAX_TAGS * word::STRING_WORDS],
         }
     }
 }
@@ -288,8 +316,8 @@ impl Default for FetchWords {
 /// Fetches a feature of a collected tile: points from 0, ways behind them.
 pub fn fetch(
     map: &[u8],
-    layout: &[u64; 5],
-    interval: &[u64; 6],
+    layout: &[u64; word::LAYOUT_WORDS],
+    interval: &[u64; word::INTERVAL_WORDS],
     grid: [i32; 4],
     tile: usize,
     feature: u64,
@@ -332,7 +360,12 @@ pub fn fetch(
 }
 
 /// The number of blocks and nodes of a way's data, and the place behind them.
-pub fn measure_way_data(map: &[u8], at: usize, data_blocks: u64, words: &mut [u64; 9]) -> u64 {
+pub fn measure_way_data(
+    map: &[u8],
+    at: usize,
+    data_blocks: u64,
+    words: &mut [u64; word::WAY_DATA_WORDS],
+) -> u64 {
     // SAFETY: borrowed for the call, at their lengths.
     unsafe { sys::mapsforge_measure_way_data(map.as_ptr(), map.len(), at, data_blocks, words) }
 }
@@ -346,7 +379,7 @@ pub fn read_way_data(
     node_counts: &mut [u64],
     latitudes: &mut [f64],
     longitudes: &mut [f64],
-    words: &mut [u64; 9],
+    words: &mut [u64; word::WAY_DATA_WORDS],
 ) -> u64 {
     // SAFETY: borrowed for the call, at their lengths.
     unsafe {

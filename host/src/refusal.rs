@@ -1,5 +1,6 @@
 //! What the library refuses.
 
+use crate::word;
 use std::fmt;
 
 /// The lengths that a call's lists and its buffer need, where they were too short.
@@ -87,11 +88,11 @@ impl Refusal {
         match number {
             1 => Refusal::Source,
             2 => Refusal::InvalidMagic,
-            3 => Refusal::UnsupportedVersion(value(0)),
+            3 => Refusal::UnsupportedVersion(value(word::VALUE)),
             4 => Refusal::InvalidBoundingBox,
             5 => Refusal::InvalidHeaderSize,
             6 => Refusal::InvalidIndexSignature,
-            7 => Refusal::InvalidTagId(value(0)),
+            7 => Refusal::InvalidTagId(value(word::VALUE)),
             8 => Refusal::InvalidTileIndex,
             9 => Refusal::TextTooLong,
             10 => Refusal::TooManyNodes,
@@ -100,14 +101,20 @@ impl Refusal {
             13 => Refusal::ReversedInterval,
             14 => Refusal::InvalidGrid,
             15 => Refusal::TooShort(Lengths {
-                lists: [value(0), value(1), value(2), value(3), value(4)],
-                buffer: value(5),
+                lists: [
+                    value(word::NEEDED_NODE_COUNTS),
+                    value(word::NEEDED_LATITUDES),
+                    value(word::NEEDED_LONGITUDES),
+                    value(word::NEEDED_INITIAL_LATITUDES),
+                    value(word::NEEDED_INITIAL_LONGITUDES),
+                ],
+                buffer: value(word::NEEDED_BUFFER),
             }),
             16 => Refusal::OutOfTurn,
             17 => Refusal::InvalidFeature,
             18 => Refusal::ZoomTooLarge,
-            19 => Refusal::IndexCutOff(value(0)),
-            20 => Refusal::TileHeadCutOff(value(0)),
+            19 => Refusal::IndexCutOff(value(word::VALUE)),
+            20 => Refusal::TileHeadCutOff(value(word::VALUE)),
             other => Refusal::Other(other),
         }
     }

@@ -1,7 +1,7 @@
 //! A tile's stream.
 
 use crate::feature::{grow, split_nodes};
-use crate::{raw, Map, Part, Position, Refusal, SubFile, TagName, TagNames};
+use crate::{raw, word, Map, Part, Position, Refusal, SubFile, TagName, TagNames};
 
 /// A tile's stream: points, then ways' heads, each of which waits until it is accepted or declined, then the end.
 ///
@@ -23,7 +23,7 @@ use crate::{raw, Map, Part, Position, Refusal, SubFile, TagName, TagNames};
 #[derive(Clone, Debug)]
 pub struct Stream<'m, 'a> {
     map: &'m Map<'a>,
-    state: [u64; 7],
+    state: [u64; word::STATE_WORDS],
     lists: Lists,
 }
 
@@ -138,7 +138,7 @@ impl<'a> WayHead<'_, 'a> {
 
 impl<'m, 'a> Stream<'m, 'a> {
     pub(crate) fn open(sub_file: SubFile<'m, 'a>, tile: usize, zoom: u8) -> Result<Self, Refusal> {
-        let (mut state, mut words) = ([0; 7], [0; 6]);
+        let (mut state, mut words) = ([0; word::STATE_WORDS], [0; word::VALUES]);
         let map = sub_file.map();
         let number = raw::stream_open(
             map.bytes(),
@@ -156,7 +156,7 @@ impl<'m, 'a> Stream<'m, 'a> {
     }
 
     /// The words in which the library keeps the stream.
-    pub fn state(&self) -> &[u64; 7] {
+    pub fn state(&self) -> &[u64; word::STATE_WORDS] {
         &self.state
     }
 
@@ -168,7 +168,9 @@ impl<'m, 'a> Stream<'m, 'a> {
 
     /// The same in another map of the same layout: here, the front of this one.
     pub(crate) fn next_in(&mut self, bytes: &'a [u8]) -> Result<Step<'m, 'a>, Refusal> {
-        let (mut words, mut signed, mut degrees, mut ids) = ([0; 21], [0; 2], [0.0; 2], [0; 15]);
+        let (mut words, mut ids) = ([0; word::NEXT_WORDS], [0; word::MAX_TAGS]);
+        let mut signed = [0; word::SIGNED_WORDS];
+        let mut degrees = [0.0; word::POSITION_DEGREES];
         let number = raw::stream_next(
             bytes,
             self.map.layout(),
@@ -179,25 +181,30 @@ impl<'m, 'a> Stream<'m, 'a> {
             &mut ids,
         );
         Refusal::check(number, &words)?;
-        let tag_ids = ids.iter().take(words[7] as usize).map(|&id| id as usize).collect();
-        let layer = signed[0] as i8;
-        Ok(match words[6] {
-            0 => Step::Point(StreamedPoint {
+        let count = words[word::NEXT_TAG_COUNT] as usize;
+        let tag_ids = ids.iter().take(count).map(|&id| id as usize).collect();
+        let layer = signed[word::LAYER] as i8;
+        let elevation = signed[word::ELEVATION] as i32;
+        Ok(match words[word::NEXT_KIND] {
+            word::POINT => Step::Point(StreamedPoint {
                 names: self.map.point_tags(),
                 position: Position::of(degrees),
                 layer,
                 tag_ids,
-                name: Part::from_words(bytes, &words[11..14]),
-                house_number: Part::from_words(bytes, &words[14..17]),
-                elevation: (words[17] != 0).then_some(signed[1] as i32),
+                name: Part::from_words(bytes, &words[word::NEXT_NAME..]),
+                house_number: Part::from_words(bytes, &words[word::NEXT_HOUSE_NUMBER..]),
+                elevation: (words[word::NEXT_HAS_ELEVATION] != 0).then_some(elevation),
             }),
-            1 => Step::Way(WayHead {
+            word::WAY => Step::Way(WayHead {
                 names: self.map.way_tags(),
-                bitmap: words[18] as u16,
+                bitmap: words[word::NEXT_BITMAP] as u16,
                 layer,
                 tag_ids,
             }),
-            _ => Step::End(StreamEnd { sub_file: words[19] as usize, water: words[20] != 0 }),
+            _ => Step::End(StreamEnd {
+                sub_file: words[word::NEXT_SUB_FILE] as usize,
+                water: words[word::NEXT_WATER] != 0,
+            }),
         })
     }
 
@@ -269,7 +276,7 @@ impl<'m, 'a> Stream<'m, 'a> {
         latitudes: &mut [f64],
         longitudes: &mut [f64],
     ) -> Result<StreamedBody<'a, (usize, usize)>, Refusal> {
-        let (mut words, mut degrees) = ([0; 18], [0.0; 2]);
+        let (mut words, mut degrees) = ([0; word::ACCEPT_WORDS], [0.0; word::POSITION_DEGREES]);
         let number = raw::stream_accept(
             bytes,
             &mut self.state,
@@ -281,17 +288,17 @@ impl<'m, 'a> Stream<'m, 'a> {
         );
         Refusal::check(number, &words)?;
         Ok(StreamedBody {
-            name: Part::from_words(bytes, &words[8..11]),
-            house_number: Part::from_words(bytes, &words[11..14]),
-            reference: Part::from_words(bytes, &words[14..17]),
-            label: (words[17] != 0).then(|| Position::of(degrees)),
-            blocks: (words[6] as usize, words[7] as usize),
+            name: Part::from_words(bytes, &words[word::ACCEPT_NAME..]),
+            house_number: Part::from_words(bytes, &words[word::ACCEPT_HOUSE_NUMBER..]),
+            reference: Part::from_words(bytes, &words[word::ACCEPT_REFERENCE..]),
+            label: (words[word::ACCEPT_HAS_LABEL] != 0).then(|| Position::of(degrees)),
+            blocks: (words[word::ACCEPT_BLOCKS] as usize, words[word::ACCEPT_NODES] as usize),
         })
     }
 
     /// Goes past the waiting way, by its stored size.
     pub fn decline(&mut self) -> Result<(), Refusal> {
-        let mut words = [0; 6];
+        let mut words = [0; word::VALUES];
         Refusal::check(raw::stream_decline(&mut self.state, &mut words), &words)
     }
 }

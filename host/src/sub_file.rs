@@ -1,7 +1,7 @@
 //! A sub file: the tiles of a zoom interval.
 
 use crate::grid::latitude_of_row;
-use crate::{raw, Grid, Map, Position, Refusal, Stream, Tile, ZoomInterval};
+use crate::{raw, word, Grid, Map, Position, Refusal, Stream, Tile, ZoomInterval};
 
 /// Where a tile is: its number in the index, its column and row at the base zoom.
 #[derive(Clone, Copy, Debug, PartialEq, Eq, Hash)]
@@ -46,16 +46,16 @@ pub struct SubFile<'m, 'a> {
     number: usize,
     interval: ZoomInterval,
     /// The interval as the library takes it, which knows the sub file by nothing else.
-    words: [u64; 6],
+    words: [u64; word::INTERVAL_WORDS],
     grid: Grid,
     /// How many tiles the library counts in this grid.
     tiles: Result<u64, Refusal>,
 }
 
-fn count(interval: &[u64; 6], grid: Grid) -> Result<u64, Refusal> {
-    let mut words = [0; 8];
+fn count(interval: &[u64; word::INTERVAL_WORDS], grid: Grid) -> Result<u64, Refusal> {
+    let mut words = [0; word::TILE_COUNT_WORDS];
     Refusal::check(raw::tile_count(interval, grid.corners(), &mut words), &words)?;
-    Ok(words[7])
+    Ok(words[word::TILE_COUNT_TILES])
 }
 
 impl<'m, 'a> SubFile<'m, 'a> {
@@ -88,7 +88,7 @@ impl<'m, 'a> SubFile<'m, 'a> {
     }
 
     /// The same as the library takes it.
-    pub(crate) fn words(&self) -> &[u64; 6] {
+    pub(crate) fn words(&self) -> &[u64; word::INTERVAL_WORDS] {
         &self.words
     }
 
@@ -130,29 +130,34 @@ impl<'m, 'a> SubFile<'m, 'a> {
 
     /// The tile of a column and row at the base zoom, if there is one.
     pub fn tile_at(&self, x: i32, y: i32) -> Result<Option<TilePlace>, Refusal> {
-        let mut words = [0; 8];
+        let mut words = [0; word::TILE_INDEX_WORDS];
         let number = raw::tile_index(&self.words, self.grid.corners(), x, y, &mut words);
         Refusal::check(number, &words)?;
-        Ok((words[6] != 0).then_some(TilePlace { number: words[7] as usize, x, y }))
+        let number = words[word::TILE_INDEX_NUMBER] as usize;
+        Ok((words[word::TILE_INDEX_THERE] != 0).then_some(TilePlace { number, x, y }))
     }
 
     /// The tile's north-western corner, from which its features' positions are counted.
     pub fn corner(&self, place: TilePlace) -> Result<Position, Refusal> {
         let zoom = self.interval.base_zoom;
         let mut longitude = [0.0];
-        let mut words = [0; 6];
+        let mut words = [0; word::VALUES];
         Refusal::check(raw::longitude(place.x as u32, zoom, &mut words, &mut longitude), &words)?;
         Ok(Position { latitude: latitude_of_row(place.y as u32, zoom)?, longitude: longitude[0] })
     }
 
     /// A tile's entry in the index. Refusal 19 if the map ends before it does.
     pub fn entry(&self, tile: usize) -> Result<IndexEntry, Refusal> {
-        let mut words = [0; 9];
+        let mut words = [0; word::INDEX_ENTRY_WORDS];
         let (map, corners) = (self.map, self.grid.corners());
         let number =
             raw::index_entry(map.bytes(), map.layout(), &self.words, corners, tile, &mut words);
         Refusal::check(number, &words)?;
-        Ok(IndexEntry { water: words[6] != 0, offset: words[7], place: words[8] })
+        Ok(IndexEntry {
+            water: words[word::INDEX_ENTRY_WATER] != 0,
+            offset: words[word::INDEX_ENTRY_OFFSET],
+            place: words[word::INDEX_ENTRY_PLACE],
+        })
     }
 
     /// Whether the map's writer marked the tile as one without features: the next tile has the same offset, or the sub

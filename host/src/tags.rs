@@ -1,6 +1,6 @@
 //! The names of tags in the header.
 
-use crate::{raw, Part, Refusal};
+use crate::{raw, word, Part, Refusal};
 
 /// What a feature stores for a tag whose name ends in `%` and a letter.
 #[derive(Clone, Copy, Debug, PartialEq, Eq)]
@@ -18,13 +18,13 @@ pub enum InlineKind {
 }
 
 impl InlineKind {
-    fn of(word: u64) -> Option<InlineKind> {
-        match word {
-            1 => Some(InlineKind::Byte),
-            2 => Some(InlineKind::Short),
-            3 => Some(InlineKind::Int),
-            4 => Some(InlineKind::Float),
-            5 => Some(InlineKind::Text),
+    fn of(kind: u64) -> Option<InlineKind> {
+        match kind {
+            word::KIND_BYTE => Some(InlineKind::Byte),
+            word::KIND_SHORT => Some(InlineKind::Short),
+            word::KIND_INT => Some(InlineKind::Int),
+            word::KIND_FLOAT => Some(InlineKind::Float),
+            word::KIND_TEXT => Some(InlineKind::Text),
             _ => None,
         }
     }
@@ -67,11 +67,11 @@ impl<'a> TagNames<'a> {
         let mut names = Vec::new();
         let mut at = start as usize;
         for left in (1..=count as usize).rev() {
-            let mut words = [0; 10];
+            let mut words = [0; word::TAG_WORDS];
             Refusal::check(raw::tag(map, at, left, 0, &mut words), &words)?;
-            let kind = InlineKind::of(words[9]);
-            names.push(TagName { text: Part::new(map, words[6], words[7]), kind });
-            at = words[8] as usize;
+            let text = Part::new(map, words[word::TAG_PLACE], words[word::TAG_SIZE]);
+            names.push(TagName { text, kind: InlineKind::of(words[word::TAG_KIND]) });
+            at = words[word::TAG_END] as usize;
         }
         Ok(TagNames { names })
     }

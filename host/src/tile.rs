@@ -1,6 +1,6 @@
 //! A collected tile.
 
-use crate::{raw, Buffers, Feature, Part, Point, Refusal, SubFile, Way};
+use crate::{raw, word, Buffers, Feature, Part, Point, Refusal, SubFile, Way};
 
 /// A collected tile: its counts, and its features by their numbers.
 ///
@@ -32,7 +32,8 @@ pub struct Tile<'m, 'a> {
 impl<'m, 'a> Tile<'m, 'a> {
     pub(crate) fn collect(sub_file: SubFile<'m, 'a>, tile: usize) -> Result<Self, Refusal> {
         let map = sub_file.map().bytes();
-        let (mut words, mut points, mut ways) = ([0; 14], [0; 256], [0; 256]);
+        let mut words = [0; word::COLLECT_WORDS];
+        let (mut points, mut ways) = ([0; word::MAX_ROWS], [0; word::MAX_ROWS]);
         let number = raw::collect(
             map,
             sub_file.map().layout(),
@@ -47,12 +48,12 @@ impl<'m, 'a> Tile<'m, 'a> {
         Ok(Tile {
             sub_file,
             number: tile,
-            signature: Part::from_words(map, &words[6..9]),
-            rows: points.into_iter().zip(ways).take(words[9] as usize).collect(),
-            first_way_offset: words[10],
-            point_count: words[11],
-            way_count: words[12],
-            exact: words[13] != 0,
+            signature: Part::from_words(map, &words[word::COLLECT_SIGNATURE..]),
+            rows: points.into_iter().zip(ways).take(words[word::COLLECT_ROWS] as usize).collect(),
+            first_way_offset: words[word::COLLECT_FIRST_WAY_OFFSET],
+            point_count: words[word::COLLECT_POINTS],
+            way_count: words[word::COLLECT_WAYS],
+            exact: words[word::COLLECT_EXACT] != 0,
         })
     }
 

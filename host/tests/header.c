@@ -1,9 +1,12 @@
 /* Prints some words of a map, for tests/header.rs. */
 #include "mapsforge.h"
+#include "mapsforge_grid.h"
 
 #include <inttypes.h>
 #include <stdio.h>
 #include <stdlib.h>
+
+enum { SUB_FILE = 2, TILE = 10, ZOOM = 13, ROOM = 4096 };
 
 static void check(const char *call, uint64_t refusal) {
     if (refusal != 0) {
@@ -35,48 +38,61 @@ int main(int argc, char **argv) {
         return 1;
     }
     uint8_t *map = content(argv[1], &len);
-    uint64_t words[34], layout[5];
-    double degrees[6];
+    uint64_t words[MAPSFORGE_OPEN_WORDS], layout[MAPSFORGE_LAYOUT_WORDS];
+    double degrees[MAPSFORGE_OPEN_DEGREES];
     check("open", mapsforge_open(map, len, words, degrees, layout));
-    printf("version %" PRIu64 "\n", words[8]);
-    printf("size %" PRIu64 "\n", words[9]);
-    printf("south %.17g\n", degrees[0]);
-    printf("sub files %" PRIu64 "\n", words[33]);
-
-    uint64_t refused[6], interval[6];
-    int64_t columns[2][1];
-    check("column", mapsforge_column(degrees[1], 13, refused, columns[0]));
-    check("column", mapsforge_column(degrees[3], 13, refused, columns[1]));
-    int32_t x_min = (int32_t)columns[0][0], x_max = (int32_t)columns[1][0];
-    printf("columns %" PRId32 " to %" PRId32 "\n", x_min, x_max);
+    printf("version %" PRIu64 "\n", words[MAPSFORGE_OPEN_VERSION]);
+    printf("size %" PRIu64 "\n", words[MAPSFORGE_OPEN_FILE_SIZE]);
+    printf("south %.17g\n", degrees[MAPSFORGE_OPEN_SOUTH]);
+    printf("sub files %" PRIu64 "\n", words[MAPSFORGE_OPEN_SUB_FILES]);
 
     /* What the calls about tiles take in place of the map's header. */
-    uint64_t count[8];
-    check("interval", mapsforge_interval(map, len, 2, refused, interval));
-    check("tile_count", mapsforge_tile_count(interval, x_min, 2270, x_max, 2272, count));
-    printf("base zoom %" PRIu64 ", %" PRIu64 " tiles\n", interval[1], count[7]);
+    uint64_t refused[MAPSFORGE_VALUES], interval[MAPSFORGE_INTERVAL_WORDS], count[MAPSFORGE_TILE_COUNT_WORDS];
+    mapsforge_grid grid;
+    check("interval", mapsforge_interval(map, len, SUB_FILE, refused, interval));
+    check("grid", mapsforge_grid_of_sub_file(degrees, interval, &grid));
+    check("tile_count", mapsforge_tile_count(interval, MAPSFORGE_CORNERS(grid), count));
+    printf("columns %" PRId32 " to %" PRId32 ", rows %" PRId32 " to %" PRId32 "\n", grid.x_min, grid.x_max, grid.y_min, grid.y_max);
+    printf("base zoom %" PRIu64 ", %" PRIu64 " tiles\n", interval[MAPSFORGE_INTERVAL_BASE_ZOOM], count[MAPSFORGE_TILE_COUNT_TILES]);
 
-    uint64_t tile[14], points[256], ways[256];
-    check("collect", mapsforge_collect(map, len, layout, interval, x_min, 2270, x_max, 2272, 10, tile, points, ways));
-    printf("tile %" PRIu64 " points, %" PRIu64 " ways, exact %" PRIu64 "\n", tile[11], tile[12], tile[13]);
+    uint64_t tile[MAPSFORGE_COLLECT_WORDS], points[MAPSFORGE_MAX_ROWS], ways[MAPSFORGE_MAX_ROWS];
+    check("collect", mapsforge_collect(map, len, layout, interval, MAPSFORGE_CORNERS(grid), TILE, tile, points, ways));
+    printf("tile %" PRIu64 " points, %" PRIu64 " ways, exact %" PRIu64 "\n", tile[MAPSFORGE_COLLECT_POINTS],
+           tile[MAPSFORGE_COLLECT_WAYS], tile[MAPSFORGE_COLLECT_EXACT]);
     printf("row 0: %" PRIu64 "+%" PRIu64 "\n", points[0], ways[0]);
 
+    /* The texts of the first feature: its tags, then its name. */
+    static double latitudes[ROOM], longitudes[ROOM], initial_latitudes[ROOM], initial_longitudes[ROOM];
+    static uint64_t counts[ROOM];
+    uint64_t fetched[MAPSFORGE_FETCH_WORDS], ids[MAPSFORGE_MAX_TAGS], tags[MAPSFORGE_MAX_TAGS * MAPSFORGE_STRING_WORDS];
+    int64_t signed_words[MAPSFORGE_SIGNED_WORDS];
+    double position[MAPSFORGE_POSITION_DEGREES];
+    uint8_t buffer[ROOM];
+    check("fetch", mapsforge_fetch(map, len, layout, interval, MAPSFORGE_CORNERS(grid), TILE, 0, counts, ROOM, latitudes, ROOM, longitudes,
+                                   ROOM, initial_latitudes, ROOM, initial_longitudes, ROOM, buffer, ROOM, fetched, signed_words, position,
+                                   ids, tags));
+    const char *text = (const char *)buffer;
+    for (uint64_t k = 0; k < fetched[MAPSFORGE_FETCH_TAG_COUNT]; k++) {
+        uint64_t size = tags[k * MAPSFORGE_STRING_WORDS + MAPSFORGE_STRING_SIZE];
+        printf("tag %.*s\n", (int)size, text);
+        text += size;
+    }
+    printf("name %.*s\n", (int)fetched[MAPSFORGE_FETCH_NAME + MAPSFORGE_STRING_SIZE], text);
+
     /* Accepts each way by lists that are long enough; counts the nodes. */
-    uint64_t state[7], counts[64], nodes = 0, heads = 0, last = 0;
-    static double latitudes[4096], longitudes[4096];
-    check("stream_open", mapsforge_stream_open(map, len, layout, interval, 2, x_min, 2270, x_max, 2272, 10, 13, state, refused));
-    while (last != 2) {
-        uint64_t next[21], body[18], ids[15];
-        int64_t signed_words[2];
-        double place[2], label[2];
-        check("stream_next", mapsforge_stream_next(map, len, layout, state, next, signed_words, place, ids));
-        last = next[6];
-        if (last != 1) {
+    uint64_t state[MAPSFORGE_STATE_WORDS], nodes = 0, heads = 0, kind = MAPSFORGE_POINT;
+    check("stream_open", mapsforge_stream_open(map, len, layout, interval, SUB_FILE, MAPSFORGE_CORNERS(grid), TILE, ZOOM, state, refused));
+    while (kind != MAPSFORGE_END) {
+        uint64_t next[MAPSFORGE_NEXT_WORDS], body[MAPSFORGE_ACCEPT_WORDS];
+        double label[MAPSFORGE_POSITION_DEGREES];
+        check("stream_next", mapsforge_stream_next(map, len, layout, state, next, signed_words, position, ids));
+        kind = next[MAPSFORGE_NEXT_KIND];
+        if (kind != MAPSFORGE_WAY) {
             continue;
         }
         heads += 1;
-        check("stream_accept", mapsforge_stream_accept(map, len, state, counts, 64, latitudes, 4096, longitudes, 4096, body, label));
-        nodes += body[7];
+        check("stream_accept", mapsforge_stream_accept(map, len, state, counts, ROOM, latitudes, ROOM, longitudes, ROOM, body, label));
+        nodes += body[MAPSFORGE_ACCEPT_NODES];
     }
     printf("streamed %" PRIu64 " ways, %" PRIu64 " nodes\n", heads, nodes);
     printf("out of turn %d\n", mapsforge_stream_decline(state, refused) == MAPSFORGE_OUT_OF_TURN);

@@ -1,12 +1,12 @@
 //! include/mapsforge.h against the library's own source (crates/exports/src/lib.rt) and against src/sys.rs: the same
-//! functions, with the same parameters of the same types in the same order. And the header in use, from C.
+//! functions, with the same parameters of the same types in the same order. Its names of words against src/word.rs, which
+//! the wrapper reads words by. And the header in use, from C.
 
 mod common;
 
-use common::{map_path, repository};
+use common::{map_path, program, repository, C};
 use mapsforge::{MapFile, Refusal, Step};
-use std::collections::BTreeMap;
-use std::path::PathBuf;
+use std::collections::{BTreeMap, BTreeSet};
 use std::process::Command;
 
 /// A function as all three write it in the end: its parameters, each name with its type in Rust's form, and the type of
@@ -27,12 +27,13 @@ struct Sources {
     rust: String,
 }
 
+/// A file of the repository.
+fn text(path: &str) -> String {
+    std::fs::read_to_string(repository(path)).unwrap_or_else(|error| panic!("{path}: {error}"))
+}
+
 impl Sources {
     fn read() -> Sources {
-        let text = |path: &str| {
-            std::fs::read_to_string(repository(path))
-                .unwrap_or_else(|error| panic!("{path}: {error}"))
-        };
         Sources {
             header: text("include/mapsforge.h"),
             rattle: text("crates/exports/src/lib.rt"),
@@ -99,12 +100,21 @@ fn listed(text: &str) -> impl Iterator<Item = String> + '_ {
 
 // ---- C
 
+/// The part of a header that C reads: without preprocessor lines, and without those for C++ alone.
+fn for_c(text: &str) -> String {
+    let plain = without_comments(text);
+    let mut code = String::new();
+    for (k, piece) in plain.split("#ifdef __cplusplus").enumerate() {
+        let behind = piece.split_once("#endif").map_or("", |(_, behind)| behind);
+        code.push_str(if k == 0 { piece } else { behind });
+    }
+    let lines = code.lines().filter(|line| !line.trim_start().starts_with('#'));
+    lines.collect::<Vec<_>>().join("\n")
+}
+
 /// The functions of a header: each is `type name(parameters);`, and nothing else there has parentheses.
 fn of_header(text: &str) -> Functions {
-    let plain = without_comments(text);
-    let code: Vec<&str> =
-        plain.lines().filter(|line| !line.trim_start().starts_with('#')).collect();
-    let code = code.join("\n");
+    let code = for_c(text);
     let mut functions = Functions::new();
     for statement in code.split(';') {
         let Some((front, behind)) = statement.split_once('(') else { continue };
@@ -276,53 +286,114 @@ fn changes_are_noticed() {
     }
 }
 
-/// The refusals' numbers have the names that the wrapper has for them.
+// ---- names
+
+/// The body of the first enum.
+fn first_enum(text: &str, mark: &str) -> Vec<String> {
+    let plain = without_comments(text);
+    let body = plain.split(mark).nth(1).and_then(|rest| rest.split('}').next());
+    listed(body.expect("there is an enum")).collect()
+}
+
+/// The name that C has for a case of an enum of Rattle or Rust.
+fn c_name(case: &str) -> String {
+    let mut name = String::from("MAPSFORGE");
+    for letter in case.chars().take_while(|letter| letter.is_alphabetic()) {
+        if letter.is_uppercase() {
+            name.push('_');
+        }
+        name.push(letter.to_ascii_uppercase());
+    }
+    name
+}
+
+/// The refusals of the header, in their order: 1, 2 and so on.
+fn refusals() -> Vec<String> {
+    let cases = first_enum(&text("include/mapsforge.h"), "enum {");
+    let named = cases.iter().enumerate().map(|(k, case)| {
+        let name = case.strip_suffix(&format!(" = {}", k + 1));
+        name.unwrap_or_else(|| panic!("{case:?} is refusal {}", k + 1)).to_string()
+    });
+    named.collect()
+}
+
+/// The refusals have the names that the library's source has for them.
+#[test]
+fn refusals_have_the_librarys_names() {
+    let cases = first_enum(&text("crates/error/src/lib.rt"), "pub enum Refusal {");
+    assert_eq!(refusals(), cases.iter().map(|case| c_name(case)).collect::<Vec<_>>());
+}
+
+/// And those that the wrapper has.
 #[test]
 fn refusals_have_the_wrappers_names() {
-    let header = without_comments(&Sources::read().header);
-    let body = header.split("enum {").nth(1).and_then(|rest| rest.split('}').next());
-    let names: Vec<(String, u64)> = listed(body.expect("there is an enum"))
-        .map(|item| {
-            let (name, number) = item.split_once(" = ").expect("a refusal has a number");
-            (name.to_string(), number.parse().expect("it is a number"))
-        })
+    let known: Vec<_> = (1..)
+        .map(|number| Refusal::check(number, &[]).unwrap_err())
+        .take_while(|refusal| !matches!(refusal, Refusal::Other(_)))
+        .map(|refusal| c_name(&format!("{refusal:?}")))
         .collect();
-    assert_eq!(names.len(), 20);
-    for (k, (name, number)) in names.iter().enumerate() {
-        assert_eq!(*number, k as u64 + 1);
-        let refusal = format!("{:?}", Refusal::check(*number, &[]).unwrap_err());
-        let mut expected = String::from("MAPSFORGE");
-        for letter in refusal.chars().take_while(|letter| letter.is_alphabetic()) {
-            if letter.is_uppercase() {
-                expected.push('_');
-            }
-            expected.push(letter.to_ascii_uppercase());
-        }
-        assert_eq!(*name, expected);
+    assert_eq!(known, refusals());
+}
+
+/// The names of words and their numbers, from lines `START NAME BETWEEN NUMBER`.
+fn names(text: &str, start: &str, between: &[&str]) -> BTreeMap<String, usize> {
+    let mut names = BTreeMap::new();
+    for line in without_comments(text).lines() {
+        let Some(line) = line.strip_prefix(start) else { continue };
+        let split = between.iter().find_map(|between| line.split_once(between));
+        // What names no number is no word: `MAPSFORGE_H`.
+        let Some((name, number)) = split else { continue };
+        let number = number.trim().trim_end_matches(';');
+        let number = number.parse().unwrap_or_else(|_| panic!("{name} is no number: {number:?}"));
+        assert_eq!(names.insert(name.to_string(), number), None, "{name} is there twice");
     }
+    names
+}
+
+fn names_of_header(text: &str) -> BTreeMap<String, usize> {
+    names(text, "#define MAPSFORGE_", &[" "])
+}
+
+fn names_of_wrapper() -> BTreeMap<String, usize> {
+    names(&text("host/src/word.rs"), "pub const ", &[": usize = ", ": u64 = "])
+}
+
+#[test]
+fn header_and_wrapper_have_the_same_names_of_words() {
+    let header = text("include/mapsforge.h");
+    assert_eq!(names_of_header(&header), names_of_wrapper());
+    assert!(names_of_header(&header).len() > 150);
+    // A word more, or another number, is noticed.
+    for (old, new) in [("NEXT_WATER 20", "NEXT_WATER 19"), ("NEXT_WATER 20", "NEXT_SEA 20")] {
+        assert_ne!(names_of_header(&header.replacen(old, new, 1)), names_of_wrapper());
+    }
+}
+
+/// A name that nothing reads or checks words by could have any number.
+#[test]
+fn each_name_of_a_word_is_used() {
+    let mut rust = String::new();
+    for folder in ["host/src", "host/tests"] {
+        for file in std::fs::read_dir(repository(folder)).unwrap() {
+            let path = file.unwrap().path();
+            if path.extension().is_some_and(|end| end == "rs") && !path.ends_with("word.rs") {
+                rust += &std::fs::read_to_string(path).unwrap();
+            }
+        }
+    }
+    let name = |text: &str| text.chars().take_while(|c| *c == '_' || c.is_alphanumeric()).collect();
+    let used: BTreeSet<String> = rust.split("word::").skip(1).map(name).collect();
+    let unused: Vec<_> =
+        names_of_wrapper().into_keys().filter(|name| !used.contains(name)).collect();
+    assert!(unused.is_empty(), "nothing uses {unused:?}");
 }
 
 /// A C program reads a map by the header, and sees what the wrapper sees.
 #[test]
 fn a_c_program_sees_the_same() {
-    let library = match std::env::var_os("MAPSFORGE_LIB") {
-        Some(folder) => PathBuf::from(folder),
-        None => repository("target/staticlib"),
-    };
-    let program = PathBuf::from(env!("CARGO_TARGET_TMPDIR")).join("header-in-c");
-    let compiled = Command::new("cc")
-        .args(["-std=c11", "-Wall", "-Wextra", "-Werror", "-pedantic", "-O1", "-I"])
-        .arg(repository("include"))
-        .arg(repository("host/tests/header.c"))
-        .arg(library.join("libexports.a"))
-        .arg("-o")
-        .arg(&program)
-        .output()
-        .expect("a C compiler is installed as cc");
-    assert!(compiled.status.success(), "{}", String::from_utf8_lossy(&compiled.stderr));
-
+    let program = program("host/tests/header.c", C);
     let map = map_path("islands.map");
-    let run = Command::new(&program).arg(&map).output().expect("the program runs");
+    let run = Command::new(program).arg(&map).output().expect("the program runs");
     assert!(run.status.success(), "{}", String::from_utf8_lossy(&run.stderr));
     assert_eq!(String::from_utf8_lossy(&run.stdout), as_wrapped(&MapFile::open(map).unwrap()));
 }
@@ -345,14 +416,18 @@ fn as_wrapped(file: &MapFile) -> String {
         }
     }
     let out_of_turn = u8::from(stream.decline() == Err(Refusal::OutOfTurn));
-    let (header, row) = (map.header(), tile.rows()[0]);
+    let (header, row, town) = (map.header(), tile.rows()[0], tile.point(0).unwrap());
+    let tags: Vec<_> = town.tags[..town.tag_ids.len()]
+        .iter()
+        .map(|tag| format!("tag {}={}\n", tag.key, tag.value))
+        .collect();
     [
         format!("version {}", header.version),
         format!("size {}", header.file_size),
         // Enough digits to tell any two numbers apart, and these need no exponent.
         format!("south {:.15}", header.bounding_box.south),
         format!("sub files {}", map.intervals().len()),
-        format!("columns {} to {}", grid.x_min, grid.x_max),
+        format!("columns {} to {}, rows {} to {}", grid.x_min, grid.x_max, grid.y_min, grid.y_max),
         format!(
             "base zoom {}, {} tiles",
             sub_file.interval().base_zoom,
@@ -365,6 +440,7 @@ fn as_wrapped(file: &MapFile) -> String {
             u8::from(tile.exact())
         ),
         format!("row 0: {}+{}", row.0, row.1),
+        tags.concat() + "name " + &town.name.expect("the town has a name"),
         format!("streamed {ways} ways, {nodes} nodes"),
         format!("out of turn {out_of_turn}\n"),
     ]

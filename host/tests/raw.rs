@@ -2,20 +2,11 @@
 
 mod common;
 
-use common::{map_bytes, SHIPPED, VERSION};
+use common::{map_bytes, Random, SHIPPED, VERSION};
 use mapsforge::raw::{self, FetchLists, FetchWords};
 use mapsforge::Map;
 
-/// A small generator of numbers, the same on each run.
-struct Random(u64);
-
 impl Random {
-    fn next(&mut self) -> u64 {
-        self.0 = self.0.wrapping_mul(6364136223846793005).wrapping_add(1442695040888963407);
-        let mixed = self.0 ^ (self.0 >> 29);
-        mixed.wrapping_mul(0xbf58476d1ce4e5b9) ^ (mixed >> 32)
-    }
-
     /// Mostly a place in the map, sometimes anything.
     fn word(&mut self, map: &[u8]) -> u64 {
         match self.next() % 8 {

@@ -1,7 +1,8 @@
 //! What the tests share.
 #![allow(dead_code)]
 
-use std::path::PathBuf;
+use std::path::{Path, PathBuf};
+use std::process::Command;
 
 pub const SHIPPED: [&str; 3] = ["islands.map", "islands-debug.map", "short-size.map"];
 
@@ -25,6 +26,55 @@ pub fn written(name: &str, bytes: &[u8]) -> PathBuf {
     let path = PathBuf::from(env!("CARGO_TARGET_TMPDIR")).join(name);
     std::fs::write(&path, bytes).expect("the tests' folder can be written to");
     path
+}
+
+/// A small generator of numbers, the same on each run.
+pub struct Random(pub u64);
+
+impl Random {
+    pub fn next(&mut self) -> u64 {
+        self.0 = self.0.wrapping_mul(6364136223846793005).wrapping_add(1442695040888963407);
+        let mixed = self.0 ^ (self.0 >> 29);
+        mixed.wrapping_mul(0xbf58476d1ce4e5b9) ^ (mixed >> 32)
+    }
+}
+
+/// Compilers, each with its language: the oldest C and C++ that the headers are for, and a later C++.
+pub const C: [&str; 2] = ["cc", "-std=c99"];
+pub const CPP: [[&str; 2]; 2] = [["c++", "-std=c++11"], ["c++", "-std=c++20"]];
+
+/// The command of a compiler that finds the headers and lets no warning pass.
+pub fn compiler([compiler, language]: [&str; 2]) -> Command {
+    let mut command = Command::new(compiler);
+    command.args([language, "-Wall", "-Wextra", "-Werror", "-pedantic", "-I"]);
+    command.arg(repository("include"));
+    command
+}
+
+/// Runs it; what it says fails the test.
+pub fn compile(mut command: Command) {
+    let done = command.output().unwrap_or_else(|error| panic!("{command:?}: {error}"));
+    assert!(done.status.success(), "{command:?}\n{}", String::from_utf8_lossy(&done.stderr));
+}
+
+/// The library.
+pub fn library() -> PathBuf {
+    let folder = match std::env::var_os("MAPSFORGE_LIB") {
+        Some(folder) => PathBuf::from(folder),
+        None => repository("target/staticlib"),
+    };
+    folder.join("libexports.a").canonicalize().expect("the library is there")
+}
+
+/// A program of the library and a source file of the repository, in the tests' own folder.
+pub fn program(source: &str, language: [&str; 2]) -> PathBuf {
+    let stem = Path::new(source).file_stem().expect("the file has a name").to_string_lossy();
+    let program = PathBuf::from(env!("CARGO_TARGET_TMPDIR")).join(format!("{stem}{}", language[1]));
+    let mut command = compiler(language);
+    command.args(["-O2", "-pthread"]).arg(repository(source)).arg(library());
+    command.arg("-lm").arg("-o").arg(&program);
+    compile(command);
+    program
 }
 
 /// Places of islands.map's header.
