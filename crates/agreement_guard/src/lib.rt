@@ -1,0 +1,147 @@
+// A program as demand 3 supposes it. It opens a map, collects a tile, opens the tile's stream and calls next, accept and decline. Its
+// contract is proved by the theorem `book-says`, from the contracts of the functions that it calls. So if one of these contracts is
+// weakened, or what the theorem supposes of them is no longer what they ensure, this crate is refused. Nothing calls it.
+use error::Refusal;
+use index::IntervalRead;
+use tile::TileAnswer;
+use tile_layout::TileLayout;
+use types::End;
+use types::Grid;
+use visit::AcceptAnswer;
+use visit::DeclineAnswer;
+use visit::NextAnswer;
+use visit::OpenRead;
+use visit::Stream;
+ghost use mathlib.Core.Path.{_≡_};
+ghost use Rattle.types.specs.Types.{gridOf};
+ghost use Rattle.index.specs.Answers.{intervalFound};
+ghost use Rattle.way_data.specs.Reply.{lent};
+ghost use Rattle.agreement_guard.specs.Guard.{OpenedIs, CollectingIs, Called3, OutcomeIs};
+
+// How the map opened, and what tiles need of its header.
+pub struct OpenedMap {
+    pub end: End,
+    pub layout: TileLayout,
+    pub found: IntervalRead,
+}
+
+// Whether the tile collects, and whether every way's stored size is its decoded length.
+pub enum Collecting {
+    Exact,
+    Inexact,
+    Refused(Refusal),
+}
+
+// What the three calls answered. The point and the head that stand beside the first answer are not handed on.
+pub struct Replies {
+    pub next: NextAnswer,
+    pub accepted: AcceptAnswer,
+    pub declined: DeclineAnswer,
+}
+
+pub enum Outcome {
+    // the map does not open, or the tile does not collect
+    Refused(Refusal),
+    Inexact,
+    Replied(Replies),
+}
+
+fn open_map(map: &[u8], sub_file: usize) -> OpenedMap
+    ensures { λ r. ⌜ OpenedIs (now (map .entry)) «sub_file» r ⌝ }
+{
+    let read = opening::from_source(map);
+    let end = read.end;
+    let header = read.header;
+    let layout = tile_layout::layout_of(header);
+    let found = index::interval_of(header, sub_file);
+    OpenedMap { end, layout, found }
+}
+
+fn collect(
+    map: &[u8],
+    layout: TileLayout,
+    found: IntervalRead,
+    grid: Grid,
+    tile: usize,
+) -> Collecting
+    ensures { λ r. ⌜ CollectingIs (now (map .entry)) layout (intervalFound found) (gridOf grid) tile r ⌝ }
+{
+    let read = tile::read_tile(map, layout, found, grid, tile);
+    let answer = read.answer;
+    let whole = read.tile;
+    match answer {
+        TileAnswer::Refused(refusal) => Collecting::Refused(refusal),
+        TileAnswer::Collected => {
+            if whole.exact {
+                return Collecting::Exact;
+            }
+            Collecting::Inexact
+        }
+    }
+}
+
+fn call_three(
+    map: &[u8],
+    layout: TileLayout,
+    stream: Stream,
+    node_counts: &mut [u64],
+    latitudes: &mut [f64],
+    longitudes: &mut [f64],
+) -> Replies
+    ensures { λ r. ⌜ Called3 (now (map .entry)) layout «stream» (lent (now («node_counts» .entry)) (now (latitudes .entry)) (now (longitudes .entry))) (lent (now («node_counts» .exit)) (now (latitudes .exit)) (now (longitudes .exit))) r ⌝ }
+{
+    let first = visit::next(map, layout, stream);
+    let next = first.answer;
+    let stream = first.stream;
+    let second = visit::accept(map, stream, node_counts, latitudes, longitudes);
+    let accepted = second.answer;
+    let left = second.stream;
+    let third = visit::decline(left);
+    let declined = third.answer;
+    Replies {
+        next,
+        accepted,
+        declined,
+    }
+}
+
+// Next, accept and decline, called on a freshly opened stream of a tile that collects and whose stored sizes are exact.
+pub fn first_calls(
+    map: &[u8],
+    sub_file: usize,
+    grid: Grid,
+    tile: usize,
+    zoom: u8,
+    node_counts: &mut [u64],
+    latitudes: &mut [f64],
+    longitudes: &mut [f64],
+) -> Outcome
+    ensures { λ r. ⌜ OutcomeIs (now (map .entry)) «sub_file» (gridOf grid) tile zoom (lent (now («node_counts» .entry)) (now (latitudes .entry)) (now (longitudes .entry))) (lent (now («node_counts» .exit)) (now (latitudes .exit)) (now (longitudes .exit))) r ⌝ }
+{
+    let opened = open_map(map, sub_file);
+    let end = opened.end;
+    let End::At(_) = end else {
+        return Outcome::Refused(types::end_refusal(end));
+    };
+    let layout = opened.layout;
+    let found = opened.found;
+    let collecting = collect(map, layout, found, grid, tile);
+    match collecting {
+        Collecting::Refused(refusal) => Outcome::Refused(refusal),
+        Collecting::Inexact => Outcome::Inexact,
+        Collecting::Exact => {
+            let got = visit::open(map, layout, found, sub_file, grid, tile, zoom);
+            match got {
+                OpenRead::Refused(refusal) => Outcome::Refused(refusal),
+                OpenRead::Stream(stream) => Outcome::Replied(call_three(
+                    map,
+                    layout,
+                    stream,
+                    node_counts,
+                    latitudes,
+                    longitudes,
+                )),
+            }
+        }
+    }
+}
