@@ -12,9 +12,10 @@ use Rattle.agreement.specs.Book.{bookStart}
 use Rattle.agreement.specs.Declined.{LiesIn, this, later, bytesOf, DifferOnly}
 use Rattle.agreement.specs.View.{streamedReplies}
 use Rattle.agreement.specs.MapLayout.{MapLayout, MapLaws, signatures, openMap, openedBytes, rowsAt}
-use Rattle.agreement.specs.Demand3.{Collects, Agrees, Opens, MapCollects, MapAgrees, mapReplies, MapAlterable, Demand3}
+use Rattle.agreement.specs.Demand3.{Collects, Agrees, pointBytes, Opens, MapCollects, MapAgrees, mapReplies, OnlyDeclined, MapAlterable, Demand3}
 use Rattle.agreement.proofs.TileAgrees.{tile-agrees}
 use Rattle.agreement.proofs.TileAltered.{decided, tile-altered, declined-alterable}
+use Rattle.agreement.proofs.Delivered.{pointsDelivered, undelivered-alterable}
 use Rattle.agreement.proofs.Views.{view-book}
 
 module _ (m m′ : List ℕ) (long : length m ≡ length m′) where
@@ -84,4 +85,12 @@ module _ (C : MapLayout) (L : MapLaws C) (m : List ℕ) (h : C .Header) (n : C .
             points = declined-alterable (C .format h) m (C .tileAt h n) t (L .format h) collects (C .end h n) (rowsAt C h zoom) cs b j (D .only j e .declined) .points;
           };
         });
+  }
+
+  -- of a byte that lies only in ways declined untried, "in no point that the calls delivered" says as much as "in no point up to the zoom"
+  pub undelivered : (zoom : ℕ) (cs : List Call) (j : ℕ) → OnlyDeclined C m h cs (mapReplies C h n t zoom cs) j
+      → (LiesIn j (pointBytes (C .format h) m t (pointsDelivered (mapReplies C h n t zoom cs)) ∷ []) → ⊥) → MapAlterable C m h t zoom cs (mapReplies C h n t zoom cs) j
+  undelivered zoom cs j o k = record {
+    only = o;
+    points = undelivered-alterable (C .format h) m (C .tileAt h n) t (L .format h) collects (C .end h n) (rowsAt C h zoom) cs j (o .declined) k .points;
   }

@@ -5,6 +5,7 @@ pub mod BookLaws
 pub mod TileAgrees
 pub mod Altered
 pub mod TileAltered
+pub mod Delivered
 pub mod Views
 pub mod Agreement
 pub mod Counterexample

@@ -40,7 +40,8 @@ pub record Agrees (F : Format) (m : List ℕ) (i : ℕ) (t : StoredTile F) (z : 
 abbrev pub pointBytes : (F : Format) → List ℕ → StoredTile F → ℕ → Bytes
 pointBytes F m t n = bytesOf (many (F .point) n) m (t .start)
 
--- a byte that may be altered: it lies in a way declined untried, and in no point up to the zoom (these were all delivered, if a way was)
+-- a byte that may be altered: it lies in a way declined untried, and in no point up to the zoom. (If a way was declined, all these points
+-- were delivered: proofs/Delivered.antt.)
 pub record Alterable (F : Format) (m : List ℕ) (t : StoredTile F) (rows : ℕ) (cs : List Call) (rs : List (Reply (StreamAnswer F))) (j : ℕ) : Type 0 where
   pub declined : LiesIn j (declinedBytes F cs rs)
   pub points : LiesIn j (pointBytes F m t (pointsUpTo (F .table (t .head)) rows) ∷ []) → ⊥
@@ -92,7 +93,8 @@ pub record MapAlterable (C : MapLayout) (m : List ℕ) (h : C .Header) (t : Stor
 
 -- Both sentences of demand 3, for every zoom and every list of calls. The altered map's replies are the same ones: `mapReplies` knows
 -- nothing of the map. The second sentence is false as literally written, since the first-way offset may lead into the points
--- (proofs/Counterexample.antt): `altered` is its strongest true form, `literal` the sentence itself where the offset leads behind them.
+-- (proofs/Counterexample.antt). `altered` is the sentence of bytes that also lie in no point up to the zoom, `literal` the sentence itself,
+-- where the offset leads behind these points. That no other byte could be altered is not said.
 pub record Demand3 (C : MapLayout) (m : List ℕ) (h : C .Header) (n : C .Entry) (t : StoredTile (C .format h)) : Type 0 where
   pub agrees : (zoom : ℕ) (cs : List Call) → MapAgrees C m h n t zoom cs
   pub altered : (zoom : ℕ) (cs : List Call) (m′ : List ℕ)
