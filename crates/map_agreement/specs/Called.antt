@@ -1,5 +1,6 @@
 -- What a program that calls next, accept and decline one after the other knows of the answers: of each call its contract, with the
--- stream that the last call left. Nothing but the contracts of crate visit stands here.
+-- stream that the last call left. Nothing but the contracts of crate visit stands here; crate agreement_guard has code that makes such
+-- calls, and holds this file to what their functions ensure.
 use Prim.Native.Nat.{ℕ}
 use mathlib.Core.Path.{_≡_}
 use mathlib.Core.List.{List, [], _∷_}

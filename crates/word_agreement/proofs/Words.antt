@@ -45,7 +45,7 @@ use Rattle.wire.specs.Codecs.{settled}
 use Rattle.elevation_wire.specs.Elevation.{listOf}
 use Rattle.header_wire.specs.Header.{layoutWords, layoutIn, endNumber}
 use Rattle.header_wire.specs.Codecs.{layout-back}
-use Rattle.index_wire.specs.Index.{intervalRow, intervalIn}
+use Rattle.index_wire.specs.Index.{intervalNumber, intervalRow, intervalIn}
 use Rattle.stream_wire.specs.Streams.{streamIn, openedWire, nextWire, acceptWire, declineWire}
 use Rattle.stream_wire.specs.Codecs.{stream-back, shownOf, seen, Seen, nextDecoder, acceptCodec, declineCodec}
 use Rattle.feature_wire.specs.Features.{tileWire, tileNumber}
@@ -119,6 +119,11 @@ row-of interval.Missing = refl
 row-of (interval.At z) = refl
 row-of (interval.Refused r) = refl
 
+answered-number : (a : IntervalAnswer) {i : Maybe Interval} → intervalRes a ≡ answer i → intervalNumber a ≡ 0
+answered-number interval.Missing q = refl
+answered-number (interval.At z) q = refl
+answered-number (interval.Refused r) q = no-ok q
+
 row-taken : (i : Maybe Interval) → ((z : Interval) → i ≡ some z → Zooms z) → intervalFound (intervalIn (rowOf (answer i))) ≡ i
 row-taken none k = refl
 row-taken (some z) k =
@@ -153,11 +158,17 @@ module _ (x : List ℕ) (s n k : ℕ) (layout interval : List ℕ) (c : WordAnsw
   number-of : n ≡ endNumber (c .header .answer .end)
   number-of = ap (λ (v : Wire). v .number) (c .header .crossed)
 
+  asks : (e : ℕ) → c .header .answer .end ≡ end.At e → intervalRes (c .found .answer) ≡ answer (nth (intervalsOf (c .header .answer .header)) s)
+  asks e q = c .found .is ∙ asked-of x (c .header .answer) e (λ h. nth (intervalsOf h) s) (c .header .is) q
+
+  interval-number : (e : ℕ) → c .header .answer .end ≡ end.At e → k ≡ 0
+  interval-number e q = ap (λ (v : Wire). v .number) (c .found .crossed) ∙ answered-number (c .found .answer) (asks e q)
+
   interval-of : (e : ℕ) → c .header .answer .end ≡ end.At e → interval ≡ rowOf (answer (nth (intervalsOf (c .header .answer .header)) s))
   interval-of e q =
       ap (λ (v : Wire). listOf v 1) (c .found .crossed)
       ∙ row-of (c .found .answer)
-      ∙ ap rowOf (c .found .is ∙ asked-of x (c .header .answer) e (λ h. nth (intervalsOf h) s) (c .header .is) q)
+      ∙ ap rowOf (asks e q)
 
 -- what a program sees of a map, by words
 module _ (s : ℕ) (grid : Grid) (number : ℕ) (layout interval : List ℕ) (h : HeaderRead) (e : ℕ) (ends : h .end ≡ end.At e)
@@ -182,6 +193,7 @@ module _ (s : ℕ) (grid : Grid) (number : ℕ) (layout interval : List ℕ) (h 
           let g = c .header .answer in
           let q : g ≡ h = same-header g (c .header .is) in (
             number-of x s n k layout′ interval′ c ∙ ap (λ (y : HeaderRead). endNumber (y .end)) q ∙ ap endNumber ends,
+            interval-number x s n k layout′ interval′ c e (ap (λ (y : HeaderRead). y .end) q ∙ ends),
             layout-of x s n k layout′ interval′ c ∙ ap (λ (y : HeaderRead). layoutWords (layoutOf (y .header))) q ∙ sym a,
             interval-of x s n k layout′ interval′ c e (ap (λ (y : HeaderRead). y .end) q ∙ ends) ∙ ap (λ (y : HeaderRead). rowOf (answer (nth (intervalsOf (y .header)) s))) q ∙ sym b,
           );

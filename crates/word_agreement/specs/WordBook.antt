@@ -1,5 +1,5 @@
--- Demand 3 for a program in another language: what it knows that opened a map, asked for a sub file's interval and collected a tile,
--- none of which was refused, and what it then sees of every list of calls.
+-- Demand 3 for a program in another language: what it knows when it has opened a map, asked for a sub file's interval and collected a
+-- tile, none of which was refused; and what it then sees of every list of calls.
 use Prim.Native.Nat.{ℕ, _^_, _<_}
 use mathlib.Core.Path.{_≡_}
 use mathlib.Core.Bool.{true}
@@ -53,11 +53,12 @@ pub record WordCollected (m : List ℕ) (subFile : ℕ) (grid : Grid) (number : 
   pub tile : Crosses tileWire (TileOf m number (layoutIn layout) (intervalIn interval) grid) (wire 0 (words ∷ points ∷ ways ∷ []) [] [])
   pub exact : tileCodec .decode (wire 0 (words ∷ points ∷ ways ∷ []) [] []) .tile .exact ≡ true
 
--- What such a program sees of a map at a zoom, when it makes the calls cs (compare `Sees` of map_agreement): however it opens the map, it
--- gets these layout words and interval words; `mapsforge_stream_open` returns 0; and from the state's words on the calls get these replies
+-- What such a program sees of a map at a zoom, when it makes the calls cs (compare `Sees` of map_agreement). However it opens the map and
+-- asks for the interval, both calls return 0 and it gets these layout words and interval words; `mapsforge_stream_open` returns 0; from
+-- the state's words on the calls get these replies; and where the replies give texts, these stand in the map
 pub record WordSees (x : List ℕ) (subFile : ℕ) (grid : Grid) (number zoom : ℕ) (layout interval : List ℕ) (cs : List Call)
     (replied : List (Reply ShownAnswer)) (spelled : List (List (Maybe Part))) : Type 0 where
-  pub answers : (n k : ℕ) (layout′ interval′ : List ℕ) → WordAnswers x subFile n k layout′ interval′ → (n ≡ 0) × (layout′ ≡ layout) × (interval′ ≡ interval)
+  pub answers : (n k : ℕ) (layout′ interval′ : List ℕ) → WordAnswers x subFile n k layout′ interval′ → (n ≡ 0) × (k ≡ 0) × (layout′ ≡ layout) × (interval′ ≡ interval)
   pub streams : (n : ℕ) (before words state : List ℕ)
       → Crosses (openedWire before) (StreamOf x subFile number zoom (layoutIn layout) (intervalIn interval) grid) (wire n (words ∷ state ∷ []) [] []) → n ≡ 0
   pub replies : (n : ℕ) (before words state : List ℕ)
