@@ -250,6 +250,7 @@ fn any_state_and_any_layout_will_do() {
         seen[number as usize] += 1;
         if number != 0 {
             assert!(words.inner[6..].iter().all(|&word| word == 0) && ids.inner == [0; 15]);
+            assert_eq!(state.inner, before);
         }
 
         let mut lists = Guarded::new(([7u64; 9], [7.0; 9], [7.0; 9]));
@@ -269,10 +270,13 @@ fn any_state_and_any_layout_will_do() {
         assert!(counts[4..] == [7; 5] && latitudes[8] == 7.0 && longitudes[8] == 7.0);
         if number != 0 {
             assert_eq!((*counts, *latitudes, *longitudes), ([7; 9], [7.0; 9], [7.0; 9]));
+            assert_eq!(state.inner, before);
         }
 
         state.inner = before;
-        seen[raw::stream_decline(&mut state.inner, &mut [0; 6]) as usize] += 1;
+        let number = raw::stream_decline(&mut state.inner, &mut [0; 6]);
+        seen[number as usize] += 1;
+        assert!(number == 0 || state.inner == before);
     }
     // All kinds of answers were met: results, ends too early, lists too short, out of turn.
     assert!(seen[0] > 0 && seen[1] > 0 && seen[15] > 0 && seen[16] > 0, "{seen:?}");

@@ -33,7 +33,7 @@ use Rattle.wire.specs.Wire.{Wire, wire, Crosses}
 use Rattle.index_wire.specs.Index.{Named, tagWire, tagNumber, tagWords}
 use Rattle.header_wire.specs.Header.{headerWire, headerWords, headerDegrees, layoutWords}
 use Rattle.header_wire.specs.Header.{endNumber}
-use Rattle.stream_wire.specs.Streams.{streamWords, openedNumber, openedWords, openedState, openedWire, nextNumber, nextWords, nextSigned, nextDegrees, nextIds, nextWire, acceptNumber, acceptWords, acceptDegrees, acceptWire, declineNumber, declineWords, declineWire}
+use Rattle.stream_wire.specs.Streams.{stateAfter, openedNumber, openedWords, openedState, openedWire, nextNumber, nextWords, nextSigned, nextDegrees, nextIds, nextWire, acceptNumber, acceptWords, acceptDegrees, acceptWire, declineNumber, declineWords, declineWire}
 use Rattle.feature_wire.specs.Features.{tileNumber, tileWords, rowPoints, rowWays, tileWire, fetchNumber, fetchWords, fetchSigned, fetchDegrees, fetchIds, fetchTags, fetchWire}
 use Rattle.exports.specs.Calls.{gridIn, TagIs, NextOf, AcceptOf, DeclineOf}
 
@@ -63,14 +63,14 @@ pub header-crosses : (Is : HeaderRead → Type 0) (a : HeaderRead) (t : TileLayo
 header-crosses Is a t n l m d i p q r s u = record { answer = a; is = i; crossed = rw (p, q, s, r, u) refl }
 
 module _ (m : List ℕ) (s s′ : Stream) (e : s ≡ s′) where
-  pub next-crosses : (l l′ : TileLayout) (a : NextStep) (n : ℕ) (w ids state : List ℕ) (z : List ℤ) (d : List Float) → ((rows : ℕ) → NextIs (shownStep (stream (formatOf l rows m) m (stateOf s) next)) a) → l ≡ l′ → n ≡ nextNumber (a .answer) → w ≡ nextWords (a .answer) (a .poi) (a .head) → ids ≡ nextIds (a .answer) (a .poi) (a .head) → state ≡ streamWords (a .stream) → z ≡ nextSigned (a .answer) (a .poi) (a .head) → d ≡ nextDegrees (a .answer) (a .poi) → Crosses nextWire (NextOf m l′ s′) (wire n (w ∷ ids ∷ state ∷ []) z d)
-  next-crosses l l′ a n w ids state z d f h q1 q2 q3 q4 q5 q6 = record { answer = a; is = rw (← e, ← h) (record { each = f }); crossed = rw (q1, q2, q3, q4, q5, q6) refl }
+  pub next-crosses : (l l′ : TileLayout) (a : NextStep) (n : ℕ) (w ids state before : List ℕ) (z : List ℤ) (d : List Float) → ((rows : ℕ) → NextIs (shownStep (stream (formatOf l rows m) m (stateOf s) next)) a) → l ≡ l′ → n ≡ nextNumber (a .answer) → w ≡ nextWords (a .answer) (a .poi) (a .head) → ids ≡ nextIds (a .answer) (a .poi) (a .head) → state ≡ stateAfter n (a .stream) before → z ≡ nextSigned (a .answer) (a .poi) (a .head) → d ≡ nextDegrees (a .answer) (a .poi) → Crosses (nextWire before) (NextOf m l′ s′) (wire n (w ∷ ids ∷ state ∷ []) z d)
+  next-crosses l l′ a n w ids state before z d f h q1 q2 q3 q4 q5 q6 = record { answer = a; is = rw (← e, ← h) (record { each = f }); crossed = rw (q4, q1, q2, q3, q5, q6) refl }
 
-  pub accept-crosses : (lent left : LentLists) (a : Accepted) (n : ℕ) (w state : List ℕ) (d : List Float) → ((l : TileLayout) (rows : ℕ) → acceptStep a (left .counts) (left .latitudes) (left .longitudes) ≡ shownStep (stream (formatOf l rows m) m (stateOf s) (accept lent))) → n ≡ acceptNumber (a .answer) → w ≡ acceptWords (a .answer) → state ≡ streamWords (a .stream) → d ≡ acceptDegrees (a .answer) → Crosses acceptWire (AcceptOf m s′ lent left) (wire n (w ∷ state ∷ []) [] d)
-  accept-crosses lent left a n w state d f q1 q2 q3 q4 = record { answer = a; is = rw (← e) (record { each = f }); crossed = rw (q1, q2, q3, q4) refl }
+  pub accept-crosses : (lent left : LentLists) (a : Accepted) (n : ℕ) (w state before : List ℕ) (d : List Float) → ((l : TileLayout) (rows : ℕ) → acceptStep a (left .counts) (left .latitudes) (left .longitudes) ≡ shownStep (stream (formatOf l rows m) m (stateOf s) (accept lent))) → n ≡ acceptNumber (a .answer) → w ≡ acceptWords (a .answer) → state ≡ stateAfter n (a .stream) before → d ≡ acceptDegrees (a .answer) → Crosses (acceptWire before) (AcceptOf m s′ lent left) (wire n (w ∷ state ∷ []) [] d)
+  accept-crosses lent left a n w state before d f q1 q2 q3 q4 = record { answer = a; is = rw (← e) (record { each = f }); crossed = rw (q3, q1, q2, q4) refl }
 
-pub decline-crosses : (s s′ : Stream) (a : Declined) (n : ℕ) (w state : List ℕ) → s ≡ s′ → ((l : TileLayout) (rows : ℕ) (m : List ℕ) → declineStep a ≡ shownStep (stream (formatOf l rows m) m (stateOf s) decline)) → n ≡ declineNumber (a .answer) → w ≡ declineWords (a .answer) → state ≡ streamWords (a .stream) → Crosses declineWire (DeclineOf s′) (wire n (w ∷ state ∷ []) [] [])
-decline-crosses s s′ a n w state e f q1 q2 q3 = record { answer = a; is = rw (← e) (record { each = f }); crossed = rw (q1, q2, q3) refl }
+pub decline-crosses : (s s′ : Stream) (a : Declined) (n : ℕ) (w state before : List ℕ) → s ≡ s′ → ((l : TileLayout) (rows : ℕ) (m : List ℕ) → declineStep a ≡ shownStep (stream (formatOf l rows m) m (stateOf s) decline)) → n ≡ declineNumber (a .answer) → w ≡ declineWords (a .answer) → state ≡ stateAfter n (a .stream) before → Crosses (declineWire before) (DeclineOf s′) (wire n (w ∷ state ∷ []) [] [])
+decline-crosses s s′ a n w state before e f q1 q2 q3 = record { answer = a; is = rw (← e) (record { each = f }); crossed = rw (q3, q1, q2) refl }
 
 -- numbers that are passed at their width are passed as they are
 pub passed-pair : (x y : ℤ) → SFits w32 x → SFits w32 y → _≡_ {A = ℤ × ℤ} (toZ w32 (ofZ w32 x), toZ w32 (ofZ w32 y)) (x, y)

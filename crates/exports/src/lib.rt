@@ -266,7 +266,7 @@ pub extern "C" fn mapsforge_stream_next(
     degrees: &mut [f64; 2],
     ids: &mut [u64; 15],
 ) -> u64
-    ensures { λ r. ⌜ Crosses nextWire (NextOf (now (map .entry)) (layoutIn (now (layout .entry))) (streamIn (now (state .entry)))) (wire r (now (words .exit) ∷ now (ids .exit) ∷ now (state .exit) ∷ []) (now («signed_words» .exit)) (now (degrees .exit))) ⌝ }
+    ensures { λ r. ⌜ Crosses (nextWire (now (state .entry))) (NextOf (now (map .entry)) (layoutIn (now (layout .entry))) (streamIn (now (state .entry)))) (wire r (now (words .exit) ∷ now (ids .exit) ∷ now (state .exit) ∷ []) (now («signed_words» .exit)) (now (degrees .exit))) ⌝ }
 {
     let step = visit::next(
         map,
@@ -277,7 +277,8 @@ pub extern "C" fn mapsforge_stream_next(
     let poi = step.poi;
     let head = step.head;
     let stream = step.stream;
-    let row = stream_wire::stream_words(stream);
+    let number = stream_wire::next_number(answer);
+    let row = stream_wire::state_after(number, stream, *state);
     *state = row;
     let row = stream_wire::next_words(answer, poi, head);
     *words = row;
@@ -287,7 +288,7 @@ pub extern "C" fn mapsforge_stream_next(
     *degrees = row;
     let row = stream_wire::next_ids(answer, poi, head);
     *ids = row;
-    stream_wire::next_number(answer)
+    number
 }
 
 // The waiting way's body; its node counts, latitudes and longitudes go to the fronts of the lists.
@@ -301,34 +302,36 @@ pub extern "C" fn mapsforge_stream_accept(
     words: &mut [u64; 18],
     degrees: &mut [f64; 2],
 ) -> u64
-    ensures { λ r. ⌜ Crosses acceptWire (AcceptOf (now (map .entry)) (streamIn (now (state .entry))) (lent (now («node_counts» .entry)) (now (latitudes .entry)) (now (longitudes .entry))) (lent (now («node_counts» .exit)) (now (latitudes .exit)) (now (longitudes .exit)))) (wire r (now (words .exit) ∷ now (state .exit) ∷ []) [] (now (degrees .exit))) ⌝ }
+    ensures { λ r. ⌜ Crosses (acceptWire (now (state .entry))) (AcceptOf (now (map .entry)) (streamIn (now (state .entry))) (lent (now («node_counts» .entry)) (now (latitudes .entry)) (now (longitudes .entry))) (lent (now («node_counts» .exit)) (now (latitudes .exit)) (now (longitudes .exit)))) (wire r (now (words .exit) ∷ now (state .exit) ∷ []) [] (now (degrees .exit))) ⌝ }
 {
     let stream = stream_wire::stream_in(*state);
     let step = visit::accept(map, stream, node_counts, latitudes, longitudes);
     let answer = step.answer;
-    let stream = step.stream;
-    let row = stream_wire::stream_words(stream);
+    let left = step.stream;
+    let number = stream_wire::accept_number(answer);
+    let row = stream_wire::state_after(number, left, *state);
     *state = row;
     let row = stream_wire::accept_words(answer);
     *words = row;
     let row = stream_wire::accept_degrees(answer);
     *degrees = row;
-    stream_wire::accept_number(answer)
+    number
 }
 
 // Past the waiting way, by its stored size.
 #[no_mangle]
 pub extern "C" fn mapsforge_stream_decline(state: &mut [u64; 7], words: &mut [u64; 6]) -> u64
-    ensures { λ r. ⌜ Crosses declineWire (DeclineOf (streamIn (now (state .entry)))) (wire r (now (words .exit) ∷ now (state .exit) ∷ []) [] []) ⌝ }
+    ensures { λ r. ⌜ Crosses (declineWire (now (state .entry))) (DeclineOf (streamIn (now (state .entry)))) (wire r (now (words .exit) ∷ now (state .exit) ∷ []) [] []) ⌝ }
 {
     let step = visit::decline(stream_wire::stream_in(*state));
     let answer = step.answer;
     let stream = step.stream;
-    let row = stream_wire::stream_words(stream);
+    let number = stream_wire::decline_number(answer);
+    let row = stream_wire::state_after(number, stream, *state);
     *state = row;
     let row = stream_wire::decline_words(answer);
     *words = row;
-    stream_wire::decline_number(answer)
+    number
 }
 
 // A collected tile, and its zoom table in two lists.

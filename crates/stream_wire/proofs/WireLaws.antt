@@ -20,7 +20,7 @@ use Rattle.wire.specs.declared.SpanWords.{SpanWords}
 use Rattle.wire.specs.declared.PlaceWords.{PlaceWords}
 use Rattle.elevation_wire.specs.Elevation.{metreWords}
 use Rattle.elevation_wire.specs.declared.MetreWords.{MetreWords}
-use Rattle.stream_wire.specs.Streams.{turnWords, streamWords, turnIn, streamIn, pointWords, endWords, bodyWords}
+use Rattle.stream_wire.specs.Streams.{turnWords, streamWords, stateAfter, turnIn, streamIn, pointWords, endWords, bodyWords}
 
 -- the state
 module _ (s : Stream) (w : ℕ) (q : w ≡ cond (s .end .«is_water») 1 0) where
@@ -29,6 +29,13 @@ module _ (s : Stream) (w : ℕ) (q : w ≡ cond (s .end .«is_water») 1 0) wher
 
   pub stream-waits : (x : WaitingWay) → s .turn ≡ turn.Waits x → 1 ∷ x .ways ∷ x .past ∷ x .body ∷ 0 ∷ s .end .«sub_file» ∷ w ∷ [] ≡ streamWords s
   stream-waits x h = rw q (ap (λ t. turnWords t (s .end .«sub_file») (cond (s .end .«is_water») 1 0)) (sym h))
+
+module _ (n : ℕ) (s : Stream) (l : List ℕ) where
+  pub state-kept : 0 < n → l ≡ stateAfter n s l
+  state-kept h = rw (lt-ltb 0 n h) refl
+
+  pub state-new : (w : List ℕ) → n ≤ 0 → w ≡ streamWords s → w ≡ stateAfter n s l
+  state-new w h q = rw (le-ltb 0 n h) q
 
 module _ (l : List ℕ) where
   pub turn-waits : 0 < getD l 0 0 → turn.Waits (record { ways = getD l 1 0; past = getD l 2 0; body = getD l 3 0 }) ≡ turnIn l

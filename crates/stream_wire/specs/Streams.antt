@@ -44,6 +44,10 @@ turnIn l =
 abbrev pub streamIn : List ℕ → Stream
 streamIn l = record { turn = turnIn l; end = record { «sub_file» = getD l 5 0; «is_water» = truth (getD l 6 0) } }
 
+-- the state's words after a next, an accept or a decline that answered this number: a refused call leaves them as they were
+abbrev pub stateAfter : (number : ℕ) → Stream → (before : List ℕ) → List ℕ
+stateAfter n s l = there n (streamWords s) l
+
 -- opening: on a refusal the state keeps its words
 abbrev pub openedNumber : OpenRead → ℕ
 openedNumber (open-read.Stream s) = 0
@@ -104,10 +108,10 @@ nextIds next-answer.Way p h = h .«tag_ids» .ids
 nextIds (next-answer.End z) p h = replicate 15 0
 nextIds (next-answer.Refused r) p h = replicate 15 0
 
-abbrev pub nextWire : NextStep → Wire
-nextWire s = record {
+abbrev pub nextWire : (before : List ℕ) → NextStep → Wire
+nextWire l s = record {
   number = nextNumber (s .answer);
-  lists = nextWords (s .answer) (s .poi) (s .head) ∷ nextIds (s .answer) (s .poi) (s .head) ∷ streamWords (s .stream) ∷ [];
+  lists = nextWords (s .answer) (s .poi) (s .head) ∷ nextIds (s .answer) (s .poi) (s .head) ∷ stateAfter (nextNumber (s .answer)) (s .stream) l ∷ [];
   signed = nextSigned (s .answer) (s .poi) (s .head);
   degrees = nextDegrees (s .answer) (s .poi);
 }
@@ -131,10 +135,10 @@ abbrev pub acceptDegrees : AcceptAnswer → List Float
 acceptDegrees (accept-answer.Body b) = placeWords (b .«label_position») .latitude ∷ placeWords (b .«label_position») .longitude ∷ []
 acceptDegrees (accept-answer.Refused r) = nowhere ∷ nowhere ∷ []
 
-abbrev pub acceptWire : Accepted → Wire
-acceptWire s = record {
+abbrev pub acceptWire : (before : List ℕ) → Accepted → Wire
+acceptWire l s = record {
   number = acceptNumber (s .answer);
-  lists = acceptWords (s .answer) ∷ streamWords (s .stream) ∷ [];
+  lists = acceptWords (s .answer) ∷ stateAfter (acceptNumber (s .answer)) (s .stream) l ∷ [];
   signed = [];
   degrees = acceptDegrees (s .answer);
 }
@@ -148,10 +152,10 @@ abbrev pub declineWords : DeclineAnswer → List ℕ
 declineWords decline-answer.Declined = behind noValues []
 declineWords (decline-answer.Refused r) = behind (valuesIn r) []
 
-abbrev pub declineWire : Declined → Wire
-declineWire s = record {
+abbrev pub declineWire : (before : List ℕ) → Declined → Wire
+declineWire l s = record {
   number = declineNumber (s .answer);
-  lists = declineWords (s .answer) ∷ streamWords (s .stream) ∷ [];
+  lists = declineWords (s .answer) ∷ stateAfter (declineNumber (s .answer)) (s .stream) l ∷ [];
   signed = [];
   degrees = [];
 }

@@ -13,7 +13,7 @@ use visit::TileEnd;
 use visit::Turn;
 use visit::WaitingWay;
 ghost use mathlib.Core.Path.{_≡_};
-ghost use Rattle.stream_wire.specs.Streams.{streamWords, turnIn, streamIn, openedNumber, openedWords, openedState, pointWords, headWords, endWords, nextNumber, nextWords, nextSigned, nextDegrees, nextIds, acceptNumber, bodyWords, acceptWords, acceptDegrees, declineNumber, declineWords};
+ghost use Rattle.stream_wire.specs.Streams.{streamWords, stateAfter, turnIn, streamIn, openedNumber, openedWords, openedState, pointWords, headWords, endWords, nextNumber, nextWords, nextSigned, nextDegrees, nextIds, acceptNumber, bodyWords, acceptWords, acceptDegrees, declineNumber, declineWords};
 ghost use Rattle.wire.specs.Verdicts.{behind};
 ghost use lib.ListN.{replicate};
 
@@ -66,6 +66,16 @@ pub fn stream_in(words: [u64; 7]) -> Stream
         is_water: wire::truth_of(words[6]),
     };
     Stream { turn, end }
+}
+
+// The state's words after a call that answered this number: a refused call leaves them as they were.
+pub fn state_after(number: u64, stream: Stream, before: [u64; 7]) -> [u64; 7]
+    ensures { λ r. ⌜ r ≡ stateAfter number stream before ⌝ }
+{
+    if 0 < number {
+        return before;
+    }
+    stream_words(stream)
 }
 
 // The stream that was opened, or the words that were there.

@@ -1,2 +1,3 @@
 pub mod ZoomBytes
+pub mod Kept
 pub mod Words

@@ -47,7 +47,7 @@ use Rattle.header_wire.specs.Header.{layoutWords, layoutIn, endNumber}
 use Rattle.header_wire.specs.Codecs.{layout-back}
 use Rattle.index_wire.specs.Index.{intervalNumber, intervalRow, intervalIn}
 use Rattle.stream_wire.specs.Streams.{streamIn, openedWire, nextWire, acceptWire, declineWire}
-use Rattle.stream_wire.specs.Codecs.{stream-back, shownOf, seen, Seen, nextDecoder, acceptCodec, declineCodec}
+use Rattle.stream_wire.specs.Codecs.{stream-back, shownOf, seen, Seen, nextIn, nextDecoder, acceptIn, acceptSeen, acceptDecoder, declineIn, declineSeen, declineDecoder}
 use Rattle.feature_wire.specs.Features.{tileWire, tileNumber}
 use Rattle.feature_wire.specs.Codecs.{tileCodec}
 use Rattle.exports.specs.Calls.{NextOf, AcceptOf, DeclineOf, TileOf}
@@ -58,6 +58,7 @@ use Rattle.map_agreement.proofs.Theorem.{book-says}
 use Rattle.word_agreement.specs.WordCalls.{shownAnswer, WordCalled, no-call, call-next, call-accept, call-decline}
 use Rattle.word_agreement.specs.WordBook.{WordAnswers, WordCollected, WordSees, WordBook}
 use Rattle.word_agreement.proofs.ZoomBytes.{Zooms, zooms-at, header-zooms}
+use Rattle.word_agreement.proofs.Kept.{next-kept, accept-kept, decline-kept}
 
 -- what a next shows is its answer
 shown-next : (a : NextAnswer) (p : Poi) (h : StreamedHead) → shownAnswer (shownOf a p h) ≡ nextAnswer a p h
@@ -78,22 +79,22 @@ word-called m layout s cs rs no-call = called.no-call
 word-called m layout s cs rs (call-next n words ids left signed degrees {cs = ds} {rs = qs} x c) =
     let a = x .answer in
     let w = wire n (words ∷ ids ∷ left ∷ []) signed degrees in
-    let e : streamIn left ≡ a .stream = ap (λ (v : Wire). streamIn (listOf v 2)) (x .crossed) ∙ stream-back (a .stream) in
-    let q : nextDecoder .decode w ≡ seen a = received nextWire seen nextDecoder (NextOf m (layoutIn layout) (streamIn s)) w x in
+    let q : nextIn w ≡ seen s a = received (nextWire s) (seen s) (nextDecoder s) (NextOf m (layoutIn layout) (streamIn s)) w x in
+    let e : streamIn left ≡ a .stream = ap (λ (y : Seen). y .stream) q ∙ next-kept m (layoutIn layout) (streamIn s) a (x .is) in
     answered-as (sym (ap (λ (y : Seen). shownAnswer (y .shown)) q ∙ shown-next (a .answer) (a .poi) (a .head)))
     (called.call-next a (x .is .each) (renamed e (word-called m layout left ds qs c)))
 word-called m layout s cs rs (call-accept n words left degrees before after {cs = ds} {rs = qs} x c) =
     let a = x .answer in
     let w = wire n (words ∷ left ∷ []) [] degrees in
-    let e : streamIn left ≡ a .stream = ap (λ (v : Wire). streamIn (listOf v 1)) (x .crossed) ∙ stream-back (a .stream) in
-    let q : acceptCodec .decode w ≡ a = received acceptWire (λ y. y) acceptCodec (AcceptOf m (streamIn s) before after) w x in
+    let q : acceptIn w ≡ acceptSeen s a = received (acceptWire s) (acceptSeen s) (acceptDecoder s) (AcceptOf m (streamIn s) before after) w x in
+    let e : streamIn left ≡ a .stream = ap (λ (y : Accepted). y .stream) q ∙ accept-kept m (layoutIn layout) (streamIn s) before after a (x .is) in
     answered-as (sym (ap (λ (y : Accepted). acceptAnswer (y .answer)) q))
     (called.call-accept a (before .counts) (after .counts) (before .latitudes) (before .longitudes) (after .latitudes) (after .longitudes) (x .is .each) (renamed e (word-called m layout left ds qs c)))
 word-called m layout s cs rs (call-decline n words left {cs = ds} {rs = qs} x c) =
     let a = x .answer in
     let w = wire n (words ∷ left ∷ []) [] [] in
-    let e : streamIn left ≡ a .stream = ap (λ (v : Wire). streamIn (listOf v 1)) (x .crossed) ∙ stream-back (a .stream) in
-    let q : declineCodec .decode w ≡ a = received declineWire (λ y. y) declineCodec (DeclineOf (streamIn s)) w x in
+    let q : declineIn w ≡ declineSeen s a = received (declineWire s) (declineSeen s) (declineDecoder s) (DeclineOf (streamIn s)) w x in
+    let e : streamIn left ≡ a .stream = ap (λ (y : Declined). y .stream) q ∙ decline-kept m (layoutIn layout) (streamIn s) a (x .is) in
     answered-as (sym (ap (λ (y : Declined). declineAnswer (y .answer)) q))
     (called.call-decline a (x .is .each) (renamed e (word-called m layout left ds qs c)))
 

@@ -1,6 +1,6 @@
 -- What a program in another language that calls `mapsforge_stream_next`, `mapsforge_stream_accept` and `mapsforge_stream_decline` one after
 -- the other knows of the answers: of each call its contract (crate exports), with the state's words that the last call left. It reads
--- the words by the decoders of crate stream_wire. Nothing else stands here.
+-- the words by `nextIn`, `acceptIn` and `declineIn` of crate stream_wire. Nothing else stands here.
 use Prim.Native.Nat.{ℕ}
 use lib.IntN.{ℤ}
 use mathlib.Core.List.{List, [], _∷_}
@@ -12,7 +12,7 @@ use Rattle.visit.specs.Visit.{ShownAnswer, endOf, acceptAnswer, declineAnswer}
 use Rattle.wire.specs.Wire.{wire, Crosses}
 use Rattle.header_wire.specs.Header.{layoutIn}
 use Rattle.stream_wire.specs.Streams.{streamIn, nextWire, acceptWire, declineWire}
-use Rattle.stream_wire.specs.Codecs.{Shown, aPoint, aWay, theEnd, aRefusal, nextDecoder, acceptCodec, declineCodec}
+use Rattle.stream_wire.specs.Codecs.{Shown, aPoint, aWay, theEnd, aRefusal, nextIn, acceptIn, declineIn}
 use Rattle.exports.specs.Calls.{NextOf, AcceptOf, DeclineOf}
 
 -- what a next shows, as an answer
@@ -26,14 +26,14 @@ shownAnswer (aRefusal r) = refused (numberOf r) (valuesOf r)
 pub data WordCalled (m layout : List ℕ) : List ℕ → List Call → List (Reply ShownAnswer) → Type 0 where
   no-call : {s : List ℕ} → WordCalled m layout s [] []
   call-next : (n : ℕ) (words ids left : List ℕ) (signed : List ℤ) (degrees : List Float) {s : List ℕ} {cs : List Call} {rs : List (Reply ShownAnswer)}
-      → Crosses nextWire (NextOf m (layoutIn layout) (streamIn s)) (wire n (words ∷ ids ∷ left ∷ []) signed degrees)
+      → Crosses (nextWire s) (NextOf m (layoutIn layout) (streamIn s)) (wire n (words ∷ ids ∷ left ∷ []) signed degrees)
       → WordCalled m layout left cs rs
-      → WordCalled m layout s (next ∷ cs) (record { answer = shownAnswer (nextDecoder .decode (wire n (words ∷ ids ∷ left ∷ []) signed degrees) .shown); lists = noLists } ∷ rs)
+      → WordCalled m layout s (next ∷ cs) (record { answer = shownAnswer (nextIn (wire n (words ∷ ids ∷ left ∷ []) signed degrees) .shown); lists = noLists } ∷ rs)
   call-accept : (n : ℕ) (words left : List ℕ) (degrees : List Float) (before after : LentLists) {s : List ℕ} {cs : List Call} {rs : List (Reply ShownAnswer)}
-      → Crosses acceptWire (AcceptOf m (streamIn s) before after) (wire n (words ∷ left ∷ []) [] degrees)
+      → Crosses (acceptWire s) (AcceptOf m (streamIn s) before after) (wire n (words ∷ left ∷ []) [] degrees)
       → WordCalled m layout left cs rs
-      → WordCalled m layout s (accept before ∷ cs) (record { answer = acceptAnswer (acceptCodec .decode (wire n (words ∷ left ∷ []) [] degrees) .answer); lists = after } ∷ rs)
+      → WordCalled m layout s (accept before ∷ cs) (record { answer = acceptAnswer (acceptIn (wire n (words ∷ left ∷ []) [] degrees) .answer); lists = after } ∷ rs)
   call-decline : (n : ℕ) (words left : List ℕ) {s : List ℕ} {cs : List Call} {rs : List (Reply ShownAnswer)}
-      → Crosses declineWire (DeclineOf (streamIn s)) (wire n (words ∷ left ∷ []) [] [])
+      → Crosses (declineWire s) (DeclineOf (streamIn s)) (wire n (words ∷ left ∷ []) [] [])
       → WordCalled m layout left cs rs
-      → WordCalled m layout s (decline ∷ cs) (record { answer = declineAnswer (declineCodec .decode (wire n (words ∷ left ∷ []) [] []) .answer); lists = noLists } ∷ rs)
+      → WordCalled m layout s (decline ∷ cs) (record { answer = declineAnswer (declineIn (wire n (words ∷ left ∷ []) [] []) .answer); lists = noLists } ∷ rs)

@@ -1,4 +1,3 @@
-use borrow.Author.Needs.{needs}
 use Rattle.exports.proofs.CallLaws.{decline-crosses}
 use Rattle.exports.proofs.mapsforge_stream_decline.Statement.{statement}
 use Rattle.exports.proofs.mapsforge_stream_decline.Tie as tie
@@ -12,4 +11,4 @@ mapsforge-stream-decline-spec =
     (λ c κs. tt)
     (λ c κs. tt)
     (λ c κs. tt)
-    (λ c. search (needs, decline-crosses, c .before .before .before .before .before .stream-in .ensures, c .before .before .before .before .decline .ensures, c .before .before .stream-words .ensures, c .before .decline-words .ensures, c .decline-number .ensures)))
+    (λ c. decline-crosses _ _ (c .before .before .before .before .before .decline .result) _ _ _ _ (c .before .before .before .before .before .before .stream-in .ensures) (c .before .before .before .before .before .decline .ensures) (c .before .before .before .decline-number .ensures) (c .decline-words .ensures) (c .before .state-after .ensures)))

@@ -15,4 +15,4 @@ mapsforge-stream-next-spec =
     (λ c κs. tt)
     (λ c κs. tt)
     (λ c κs. tt)
-    (λ c. next-crosses _ _ _ (c .before .before .before .before .before .before .before .before .before .before .stream-in .ensures) _ _ _ _ _ _ _ _ _ (c .before .before .before .before .before .before .before .before .before .next .ensures) (c .before .before .before .before .before .before .before .before .before .before .before .before .layout-in .ensures) (c .next-number .ensures) (c .before .before .before .before .next-words .ensures) (c .before .next-ids .ensures) (c .before .before .before .before .before .stream-words .ensures) (c .before .before .before .next-signed .ensures) (c .before .before .next-degrees .ensures)))
+    (λ c. next-crosses _ _ _ (c .before .before .before .before .before .before .before .before .before .before .before .stream-in .ensures) _ _ _ _ _ _ _ _ _ _ (c .before .before .before .before .before .before .before .before .before .before .next .ensures) (c .before .before .before .before .before .before .before .before .before .before .before .before .before .layout-in .ensures) (c .before .before .before .before .before .before .next-number .ensures) (c .before .before .before .next-words .ensures) (c .next-ids .ensures) (c .before .before .before .before .state-after .ensures) (c .before .before .next-signed .ensures) (c .before .next-degrees .ensures)))
