@@ -64,8 +64,11 @@ tile-with : (r : TileRead) (s s′ : OptionalSpan) (l l′ : List ZoomRow) (b b�
 })
 tile-with r s s′ l l′ b b′ a a′ q1 q2 q3 q4 = rw (q1, q2, q3, q4) refl
 
-pub tileCodec : Codec tileWire
-tileCodec = record { decode = tileIn; back = λ r. tile-with r _ _ _ _ _ _ _ _ (span-back (r .tile .signature)) (rows-back (r .tile .«zoom_table»)) (truth-back (r .tile .exact)) (tile-answer-back (r .answer)) }
+pub tile-back : (r : TileRead) → tileIn (tileWire r) ≡ r
+tile-back r = tile-with r _ _ _ _ _ _ _ _ (span-back (r .tile .signature)) (rows-back (r .tile .«zoom_table»)) (truth-back (r .tile .exact)) (tile-answer-back (r .answer))
+
+abbrev pub tileCodec : Codec tileWire
+tileCodec = record { decode = tileIn; back = tile-back }
 
 -- a fetched feature: the point and the way stand beside the answer, of which one is meant
 pub data Given : Type 0 where
@@ -152,10 +155,10 @@ poi-with p s s′ t t′ e e′ q1 q2 q3 = rw (q1, q2, q3) refl
 line-with : (y : FetchedWay) (s s′ : OptionalSpan) (t t′ : FeatureTexts) (p p′ : OptionalPosition) (b b′ : Bool) → s ≡ s′ → t ≡ t′ → p ≡ p′ → b ≡ b′ → _≡_ {A = Given} (aLine (record { signature = s; bitmap = y .bitmap; layer = y .layer; «tag_ids» = y .«tag_ids»; texts = t; «label_position» = p; «double_delta» = b; blocks = y .blocks; nodes = y .nodes })) (aLine (record { signature = s′; bitmap = y .bitmap; layer = y .layer; «tag_ids» = y .«tag_ids»; texts = t′; «label_position» = p′; «double_delta» = b′; blocks = y .blocks; nodes = y .nodes }))
 line-with y s s′ t t′ p p′ b b′ q1 q2 q3 q4 = rw (q1, q2, q3, q4) refl
 
-fetch-back : (a : FetchAnswer) (p : FetchedPoi) (w : FetchedWay) → fetchIn (fetchWire (record { answer = a; poi = p; way = w })) ≡ givenOf a p w
+pub fetch-back : (a : FetchAnswer) (p : FetchedPoi) (w : FetchedWay) → fetchIn (fetchWire (record { answer = a; poi = p; way = w })) ≡ givenOf a p w
 fetch-back fetch-answer.Point p w = poi-with p _ _ _ _ _ _ (span-back (p .signature)) (texts-back (p .texts)) (metres-back (p .elevation))
 fetch-back fetch-answer.Way p w = line-with w _ _ _ _ _ _ _ _ (span-back (w .signature)) (texts-back (w .texts)) (place-back (w .«label_position»)) (truth-back (w .«double_delta»))
 fetch-back (fetch-answer.Refused r) p w = settled noFeature _ r
 
-pub fetchDecoder : Decoder fetchWire given
+abbrev pub fetchDecoder : Decoder fetchWire given
 fetchDecoder = record { decode = fetchIn; back = λ f. fetch-back (f .answer) (f .poi) (f .way) }

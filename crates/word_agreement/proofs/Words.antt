@@ -43,13 +43,13 @@ use Rattle.on_map.specs.declared.IntervalAnswer.the-variants as interval
 use Rattle.wire.specs.Wire.{Wire, wire, received, there}
 use Rattle.wire.specs.Codecs.{settled}
 use Rattle.elevation_wire.specs.Elevation.{listOf}
-use Rattle.header_wire.specs.Header.{layoutWords, layoutIn, endNumber}
+use Rattle.header_wire.specs.Header.{headerWire, layoutWords, layoutIn, endNumber}
 use Rattle.header_wire.specs.Codecs.{layout-back}
-use Rattle.index_wire.specs.Index.{intervalNumber, intervalRow, intervalIn}
+use Rattle.index_wire.specs.Index.{intervalNumber, intervalRow, intervalIn, entryWire}
 use Rattle.stream_wire.specs.Streams.{streamIn, openedWire, nextWire, acceptWire, declineWire}
 use Rattle.stream_wire.specs.Codecs.{stream-back, shownOf, seen, Seen, nextIn, nextDecoder, acceptIn, acceptSeen, acceptDecoder, declineIn, declineSeen, declineDecoder}
 use Rattle.feature_wire.specs.Features.{tileWire, tileNumber}
-use Rattle.feature_wire.specs.Codecs.{tileCodec}
+use Rattle.feature_wire.specs.Codecs.{tileIn, tileCodec}
 use Rattle.exports.specs.Calls.{NextOf, AcceptOf, DeclineOf, TileOf}
 use Rattle.map_agreement.specs.Called.{Called}
 use Rattle.map_agreement.specs.Called as called
@@ -120,11 +120,6 @@ row-of interval.Missing = refl
 row-of (interval.At z) = refl
 row-of (interval.Refused r) = refl
 
-answered-number : (a : IntervalAnswer) {i : Maybe Interval} → intervalRes a ≡ answer i → intervalNumber a ≡ 0
-answered-number interval.Missing q = refl
-answered-number (interval.At z) q = refl
-answered-number (interval.Refused r) q = no-ok q
-
 row-taken : (i : Maybe Interval) → ((z : Interval) → i ≡ some z → Zooms z) → intervalFound (intervalIn (rowOf (answer i))) ≡ i
 row-taken none k = refl
 row-taken (some z) k =
@@ -133,6 +128,16 @@ row-taken (some z) k =
     let b : z .min % 256 ≡ z .min = omega (arith, t .min) in
     let c : z .max % 256 ≡ z .max = omega (arith, t .max) in
     rw (a, b, c) refl
+
+-- and the call's number
+abbrev numberIn : Res (Maybe Interval) → ℕ
+numberIn (ok i e) = 0
+numberIn (no k v) = k
+
+number-in : (a : IntervalAnswer) → intervalNumber a ≡ numberIn (intervalRes a)
+number-in interval.Missing = refl
+number-in (interval.At z) = refl
+number-in (interval.Refused r) = refl
 
 -- the end of a header that was read, and what is asked of the header
 end-at : (x : End) → 0 ≡ endNumber x → (e : ℕ) × (x ≡ end.At e)
@@ -159,17 +164,15 @@ module _ (x : List ℕ) (s n k : ℕ) (layout interval : List ℕ) (c : WordAnsw
   number-of : n ≡ endNumber (c .header .answer .end)
   number-of = ap (λ (v : Wire). v .number) (c .header .crossed)
 
-  asks : (e : ℕ) → c .header .answer .end ≡ end.At e → intervalRes (c .found .answer) ≡ answer (nth (intervalsOf (c .header .answer .header)) s)
-  asks e q = c .found .is ∙ asked-of x (c .header .answer) e (λ h. nth (intervalsOf h) s) (c .header .is) q
+  module _ (e : ℕ) (q : c .header .answer .end ≡ end.At e) where
+    found-is : intervalRes (c .found .answer) ≡ answer (nth (intervalsOf (c .header .answer .header)) s)
+    found-is = c .found .is ∙ asked-of x (c .header .answer) e (λ h. nth (intervalsOf h) s) (c .header .is) q
 
-  interval-number : (e : ℕ) → c .header .answer .end ≡ end.At e → k ≡ 0
-  interval-number e q = ap (λ (v : Wire). v .number) (c .found .crossed) ∙ answered-number (c .found .answer) (asks e q)
+    interval-of : interval ≡ rowOf (answer (nth (intervalsOf (c .header .answer .header)) s))
+    interval-of = ap (λ (v : Wire). listOf v 1) (c .found .crossed) ∙ row-of (c .found .answer) ∙ ap rowOf found-is
 
-  interval-of : (e : ℕ) → c .header .answer .end ≡ end.At e → interval ≡ rowOf (answer (nth (intervalsOf (c .header .answer .header)) s))
-  interval-of e q =
-      ap (λ (v : Wire). listOf v 1) (c .found .crossed)
-      ∙ row-of (c .found .answer)
-      ∙ ap rowOf (asks e q)
+    interval-number : k ≡ 0
+    interval-number = ap (λ (v : Wire). v .number) (c .found .crossed) ∙ number-in (c .found .answer) ∙ ap numberIn found-is
 
 -- what a program sees of a map, by words
 module _ (s : ℕ) (grid : Grid) (number : ℕ) (layout interval : List ℕ) (h : HeaderRead) (e : ℕ) (ends : h .end ≡ end.At e)
@@ -188,8 +191,9 @@ module _ (s : ℕ) (grid : Grid) (number : ℕ) (layout interval : List ℕ) (h 
     runs-on o (opens st) r n before words state q rs c =
         S .replies st r rs (renamed (ap (λ (v : Wire). streamIn (listOf v 1)) q ∙ stream-back st) (word-called x layout state cs rs c))
 
-    pub word-sees : WordSees x s grid number zoom layout interval cs replied spelled
+    pub word-sees : WordSees x s grid number zoom h layout interval cs replied spelled
     word-sees = record {
+      opened = λ n k layout′ interval′ c. c .header .crossed ∙ ap headerWire (same-header (c .header .answer) (c .header .is));
       answers = λ n k layout′ interval′ c.
           let g = c .header .answer in
           let q : g ≡ h = same-header g (c .header .is) in (
@@ -223,7 +227,7 @@ word-book m s grid number layout interval c =
     let ends = end-at (h .end) (number-of m s 0 0 layout interval n) in
     let a = layout-of m s 0 0 layout interval n in
     let b = interval-of m s 0 0 layout interval n (ends .0) (ends .1) in
-    let q : tileCodec .decode (wire 0 (c .words ∷ c .points ∷ c .ways ∷ []) [] []) ≡ t = received tileWire (λ y. y) tileCodec (TileOf m number (layoutIn layout) (intervalIn interval) grid) _ (c .tile) in
+    let q : tileIn (wire 0 (c .words ∷ c .points ∷ c .ways ∷ []) [] []) ≡ t = received tileWire (λ y. y) tileCodec (TileOf m number (layoutIn layout) (intervalIn interval) grid) _ (c .tile) in
     let says = book-says m s (gridOf grid) number h (layoutIn layout) (intervalIn interval) t (record {
       small = c .small;
       answers = record {
@@ -241,6 +245,11 @@ word-book m s grid number layout interval c =
     record {
       header = h;
       says = says;
+      shows = λ w x.
+          ap (λ (y : TileRead). y .tile) (received tileWire (λ y. y) tileCodec (TileOf m number (layoutIn layout) (intervalIn interval) grid) w x)
+          ∙ says .shows (x .answer) (x .is);
+      entry = λ w x. x .crossed ∙ ap entryWire (says .entry (x .answer) (x .is));
+      fetches = λ k lent left w x. record { answer = x .answer; is = says .fetches k lent left (x .answer) (x .is); crossed = x .crossed };
       sees = λ zoom cs. crosses m zoom cs _ _ (says .sees zoom cs);
       altered = λ zoom cs m′ d. crosses m′ zoom cs _ _ (says .altered zoom cs m′ d);
       literal = λ zoom cs m′ w d. crosses m′ zoom cs _ _ (says .literal zoom cs m′ w d);

@@ -1,6 +1,6 @@
--- What a program in another language that calls `mapsforge_stream_next`, `mapsforge_stream_accept` and `mapsforge_stream_decline` one after
--- the other knows of the answers: of each call its contract (crate exports), with the state's words that the last call left. It reads
--- the words by `nextIn`, `acceptIn` and `declineIn` of crate stream_wire. Nothing else stands here.
+-- What a program in another language knows that calls `mapsforge_stream_next`, `mapsforge_stream_accept` and `mapsforge_stream_decline`
+-- one after the other: of each call its contract (crate exports), with the state's words that the last call left. It reads the words by
+-- `nextIn`, `acceptIn` and `declineIn` of crate stream_wire. Nothing else stands here.
 use Prim.Native.Nat.{ℕ}
 use lib.IntN.{ℤ}
 use mathlib.Core.List.{List, [], _∷_}
