@@ -1,3 +1,4 @@
 pub mod ZoomBytes
 pub mod Kept
 pub mod Words
+pub mod ZoomingWords

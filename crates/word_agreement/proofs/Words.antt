@@ -25,9 +25,10 @@ use Rattle.header.proofs.HeaderLaws.{intervals-back}
 use Rattle.index.specs.Answers.{intervalFound}
 use Rattle.tile_layout.specs.TileLayout.{layoutOf}
 use Rattle.agreement.specs.Calls.{Call}
-use Rattle.visit.specs.Visit.{openTile, openRes, ShownAnswer, nextAnswer, acceptAnswer, declineAnswer}
+use Rattle.visit.specs.Visit.{ShownAnswer, nextAnswer, acceptAnswer, declineAnswer}
 use Rattle.visit.specs.declared.Stream.{Stream}
 use Rattle.visit.specs.declared.OpenRead.{OpenRead}
+use Rattle.visit.specs.declared.OpenRead.the-variants as open-read
 use Rattle.visit.specs.declared.NextAnswer.{NextAnswer}
 use Rattle.visit.specs.declared.NextAnswer.the-variants as next-answer
 use Rattle.visit.specs.declared.Accepted.{Accepted}
@@ -50,12 +51,12 @@ use Rattle.stream_wire.specs.Streams.{streamIn, openedWire, nextWire, acceptWir
 use Rattle.stream_wire.specs.Codecs.{stream-back, shownOf, seen, Seen, nextIn, nextDecoder, acceptIn, acceptSeen, acceptDecoder, declineIn, declineSeen, declineDecoder}
 use Rattle.feature_wire.specs.Features.{tileWire, tileNumber}
 use Rattle.feature_wire.specs.Codecs.{tileIn, tileCodec}
-use Rattle.exports.specs.Calls.{NextOf, AcceptOf, DeclineOf, TileOf}
+use Rattle.exports.specs.Calls.{StreamOf, NextOf, AcceptOf, DeclineOf, TileOf}
 use Rattle.map_agreement.specs.Called.{Called}
 use Rattle.map_agreement.specs.Called as called
 use Rattle.map_agreement.specs.BookSays.{Collected, Opens, opens, Sees}
 use Rattle.map_agreement.proofs.Theorem.{book-says}
-use Rattle.word_agreement.specs.WordCalls.{shownAnswer, WordCalled, no-call, call-next, call-accept, call-decline}
+use Rattle.word_agreement.specs.WordCalls.{shownAnswer, WordCalled, no-call, call-next, call-accept, call-decline, WordStreams}
 use Rattle.word_agreement.specs.WordBook.{WordAnswers, WordCollected, WordSees, WordBook}
 use Rattle.word_agreement.proofs.ZoomBytes.{Zooms, zooms-at, header-zooms}
 use Rattle.word_agreement.proofs.Kept.{next-kept, accept-kept, decline-kept}
@@ -68,7 +69,7 @@ shown-next (next-answer.End z) p h = refl
 shown-next (next-answer.Refused r) p h = refl
 
 -- a reply under another name, and a stream under its words
-renamed : {m : List ℕ} {l : _} {s s′ : Stream} {cs : List Call} {rs : List (Reply ShownAnswer)} → s ≡ s′ → Called m l s cs rs → Called m l s′ cs rs
+pub renamed : {m : List ℕ} {l : _} {s s′ : Stream} {cs : List Call} {rs : List (Reply ShownAnswer)} → s ≡ s′ → Called m l s cs rs → Called m l s′ cs rs
 renamed {m = m} {l = l} {cs = cs} {rs = rs} e c = subst (λ (s : Stream). Called m l s cs rs) e c
 
 answered-as : {m : List ℕ} {l : _} {s : Stream} {cs : List Call} {a b : ShownAnswer} {v : LentLists} {rs : List (Reply ShownAnswer)} → a ≡ b → Called m l s cs (record { answer = a; lists = v } ∷ rs) → Called m l s cs (record { answer = b; lists = v } ∷ rs)
@@ -99,7 +100,7 @@ word-called m layout s cs rs (call-decline n words left {cs = ds} {rs = qs} x c)
     (called.call-decline a (x .is .each) (renamed e (word-called m layout left ds qs c)))
 
 -- a refusal's number is not 0
-refusal-number : {C : Type 0} (r : Refusal) → 0 ≡ numberOf r → C
+pub refusal-number : {C : Type 0} (r : Refusal) → 0 ≡ numberOf r → C
 refusal-number r q = absurd (told (ap (λ n. there n false true) q ∙ settled (λ _. true) false r))
   where
     isFalse : Bool → Type 0
@@ -174,6 +175,26 @@ module _ (x : List ℕ) (s n k : ℕ) (layout interval : List ℕ) (c : WordAnsw
     interval-number : k ≡ 0
     interval-number = ap (λ (v : Wire). v .number) (c .found .crossed) ∙ number-in (c .found .answer) ∙ ap numberIn found-is
 
+-- a stream that opens, by words
+module _ (x : List ℕ) (s : ℕ) (grid : Grid) (number zoom : ℕ) (layout interval : List ℕ) (cs : List Call) (replied : List (Reply ShownAnswer))
+    (streams : (o : OpenRead) → StreamOf x s number zoom (layoutIn layout) (intervalIn interval) grid o → Opens o)
+    (replies : (st : Stream) → StreamOf x s number zoom (layoutIn layout) (intervalIn interval) grid (open-read.Stream st)
+    → (rs : List (Reply ShownAnswer)) → Called x (layoutIn layout) st cs rs → rs ≡ replied) where
+  opens-at : (o : OpenRead) → Opens o → (n : ℕ) (before words state : List ℕ) → wire n (words ∷ state ∷ []) [] [] ≡ openedWire before o → n ≡ 0
+  opens-at o (opens st) n before words state q = ap (λ (v : Wire). v .number) q
+
+  runs-on : (o : OpenRead) → Opens o → StreamOf x s number zoom (layoutIn layout) (intervalIn interval) grid o
+      → (n : ℕ) (before words state : List ℕ) → wire n (words ∷ state ∷ []) [] [] ≡ openedWire before o
+      → (rs : List (Reply ShownAnswer)) → WordCalled x layout state cs rs → rs ≡ replied
+  runs-on o (opens st) r n before words state q rs c =
+      replies st r rs (renamed (ap (λ (v : Wire). streamIn (listOf v 1)) q ∙ stream-back st) (word-called x layout state cs rs c))
+
+  pub word-streams : WordStreams x s grid number zoom layout interval cs replied
+  word-streams = record {
+    opens = λ n before words state c. opens-at (c .answer) (streams (c .answer) (c .is)) n before words state (c .crossed);
+    replies = λ n before words state c. runs-on (c .answer) (streams (c .answer) (c .is)) (c .is) n before words state (c .crossed);
+  }
+
 -- what a program sees of a map, by words
 module _ (s : ℕ) (grid : Grid) (number : ℕ) (layout interval : List ℕ) (h : HeaderRead) (e : ℕ) (ends : h .end ≡ end.At e)
     (a : layout ≡ layoutWords (layoutOf (h .header))) (b : interval ≡ rowOf (answer (nth (intervalsOf (h .header)) s))) where
@@ -181,15 +202,6 @@ module _ (s : ℕ) (grid : Grid) (number : ℕ) (layout interval : List ℕ) (h 
       (S : Sees x s (gridOf grid) number zoom h (layoutIn layout) (intervalFound (intervalIn interval)) cs replied spelled) where
     same-header : (g : HeaderRead) → HeaderIs (opened x) g → g ≡ h
     same-header g k = S .answers g (layoutOf (g .header)) (nth (intervalsOf (g .header)) s) (record { header = k; layout = refl; interval = refl }) .0
-
-    opens-at : (o : OpenRead) → Opens o → (n : ℕ) (before words state : List ℕ) → wire n (words ∷ state ∷ []) [] [] ≡ openedWire before o → n ≡ 0
-    opens-at o (opens st) n before words state q = ap (λ (v : Wire). v .number) q
-
-    runs-on : (o : OpenRead) → Opens o → openRes o ≡ openTile (layoutIn layout) (intervalFound (intervalIn interval)) s (gridOf grid) number zoom x
-        → (n : ℕ) (before words state : List ℕ) → wire n (words ∷ state ∷ []) [] [] ≡ openedWire before o
-        → (rs : List (Reply ShownAnswer)) → WordCalled x layout state cs rs → rs ≡ replied
-    runs-on o (opens st) r n before words state q rs c =
-        S .replies st r rs (renamed (ap (λ (v : Wire). streamIn (listOf v 1)) q ∙ stream-back st) (word-called x layout state cs rs c))
 
     pub word-sees : WordSees x s grid number zoom h layout interval cs replied spelled
     word-sees = record {
@@ -202,8 +214,7 @@ module _ (s : ℕ) (grid : Grid) (number : ℕ) (layout interval : List ℕ) (h 
             layout-of x s n k layout′ interval′ c ∙ ap (λ (y : HeaderRead). layoutWords (layoutOf (y .header))) q ∙ sym a,
             interval-of x s n k layout′ interval′ c e (ap (λ (y : HeaderRead). y .end) q ∙ ends) ∙ ap (λ (y : HeaderRead). rowOf (answer (nth (intervalsOf (y .header)) s))) q ∙ sym b,
           );
-      streams = λ n before words state c. opens-at (c .answer) (S .streams (c .answer) (c .is)) n before words state (c .crossed);
-      replies = λ n before words state c. runs-on (c .answer) (S .streams (c .answer) (c .is)) (c .is) n before words state (c .crossed);
+      streams = word-streams x s grid number zoom layout interval cs replied (S .streams) (S .replies);
       texts = S .texts;
     }
 

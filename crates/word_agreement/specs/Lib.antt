@@ -1,2 +1,3 @@
 pub mod WordCalls
 pub mod WordBook
+pub mod WordZooming

@@ -27,15 +27,14 @@ use Rattle.on_map.specs.OnMap.{asked, intervalRes}
 use Rattle.wire.specs.Wire.{Wire, wire, Crosses}
 use Rattle.header_wire.specs.Header.{headerWire, layoutIn}
 use Rattle.index_wire.specs.Index.{intervalWire, intervalIn, entryWire}
-use Rattle.stream_wire.specs.Streams.{openedWire}
 use Rattle.feature_wire.specs.Features.{tileWire, fetchWire}
 use Rattle.feature_wire.specs.Codecs.{tileIn}
-use Rattle.exports.specs.Calls.{EntryOf, StreamOf, TileOf, FeatureOf}
+use Rattle.exports.specs.Calls.{EntryOf, TileOf, FeatureOf}
 use Rattle.map_agreement.specs.Texts.{textsFound}
 use Rattle.map_agreement.specs.TileView.{fetchGives}
 use Rattle.map_agreement.specs.MapsforgeMap.{shownIn, mapsforge}
 use Rattle.map_agreement.specs.BookSays.{BookSays, fedTile, bookAt, textsAt}
-use Rattle.word_agreement.specs.WordCalls.{WordCalled}
+use Rattle.word_agreement.specs.WordCalls.{WordStreams}
 
 -- the contracts of `mapsforge_open` and `mapsforge_interval` on the map x, which returned n and k: the layout's five words, the
 -- interval's six
@@ -59,17 +58,13 @@ pub record WordCollected (m : List ℕ) (subFile : ℕ) (grid : Grid) (number : 
   pub exact : tileIn (wire 0 (words ∷ points ∷ ways ∷ []) [] []) .tile .exact ≡ true
 
 -- What such a program sees of a map at a zoom, when it makes the calls cs (compare `Sees` of map_agreement): however it opens the map, it
--- gets the words and degrees of header h, these layout words, and these interval words, and neither call is refused;
--- `mapsforge_stream_open` returns 0; and from the state's words on the calls get these replies
+-- gets the words and degrees of header h, these layout words, and these interval words, and neither call is refused; the tile's stream
+-- opens, and the calls get these replies
 pub record WordSees (x : List ℕ) (subFile : ℕ) (grid : Grid) (number zoom : ℕ) (h : HeaderRead) (layout interval : List ℕ) (cs : List Call)
     (replied : List (Reply ShownAnswer)) (spelled : List (List (Maybe Part))) : Type 0 where
   pub opened : (n k : ℕ) (layout′ interval′ : List ℕ) (a : WordAnswers x subFile n k layout′ interval′) → wire n (a .words ∷ layout′ ∷ []) [] (a .degrees) ≡ headerWire h
   pub answers : (n k : ℕ) (layout′ interval′ : List ℕ) → WordAnswers x subFile n k layout′ interval′ → (n ≡ 0) × (k ≡ 0) × (layout′ ≡ layout) × (interval′ ≡ interval)
-  pub streams : (n : ℕ) (before words state : List ℕ)
-      → Crosses (openedWire before) (StreamOf x subFile number zoom (layoutIn layout) (intervalIn interval) grid) (wire n (words ∷ state ∷ []) [] []) → n ≡ 0
-  pub replies : (n : ℕ) (before words state : List ℕ)
-      → Crosses (openedWire before) (StreamOf x subFile number zoom (layoutIn layout) (intervalIn interval) grid) (wire n (words ∷ state ∷ []) [] [])
-      → (rs : List (Reply ShownAnswer)) → WordCalled x layout state cs rs → rs ≡ replied
+  pub streams : WordStreams x subFile grid number zoom layout interval cs replied
   pub texts : textsFound x replied ≡ spelled
 
 -- Demand 3 holds of the map (`says`: BookSays of map_agreement). `shows`, `entry`, `fetches`: what crosses back from `mapsforge_collect`,
