@@ -87,8 +87,11 @@ end-back (end.At n) = refl
 end-back (end.Refused r) = settled end.Refused (end.At 0) r
 
 module _ (h : MapHeader) where
-  header-back : (p p′ : OptionalPosition) (z z′ : OptionalByte) (a a′ b b′ d d′ : OptionalSpan) (e e′ : End) → p ≡ p′ → z ≡ z′ → a ≡ a′ → b ≡ b′ → d ≡ d′ → e ≡ e′ → _≡_ {A = HeaderRead} (record { header = headerPart p z a b d h; end = e }) (record { header = headerPart p′ z′ a′ b′ d′ h; end = e′ })
-  header-back p p′ z z′ a a′ b b′ d d′ e e′ q1 q2 q3 q4 q5 q6 = rw (q1, q2, q3, q4, q5, q6) refl
+  header-with : (p p′ : OptionalPosition) (z z′ : OptionalByte) (a a′ b b′ d d′ : OptionalSpan) (e e′ : End) → p ≡ p′ → z ≡ z′ → a ≡ a′ → b ≡ b′ → d ≡ d′ → e ≡ e′ → _≡_ {A = HeaderRead} (record { header = headerPart p z a b d h; end = e }) (record { header = headerPart p′ z′ a′ b′ d′ h; end = e′ })
+  header-with p p′ z z′ a a′ b b′ d d′ e e′ q1 q2 q3 q4 q5 q6 = rw (q1, q2, q3, q4, q5, q6) refl
 
-pub headerDecoder : Decoder headerWire unlisted
-headerDecoder = record { decode = headerIn; back = λ r. header-back (r .header) _ _ _ _ _ _ _ _ _ _ _ _ (place-back (r .header .«map_start_position»)) (byte-back (r .header .«start_zoom_level»)) (span-back (r .header .«language_preference»)) (span-back (r .header .comment)) (span-back (r .header .«created_by»)) (end-back (r .end)) }
+pub header-back : (r : HeaderRead) → headerIn (headerWire r) ≡ unlisted r
+header-back r = header-with (r .header) _ _ _ _ _ _ _ _ _ _ _ _ (place-back (r .header .«map_start_position»)) (byte-back (r .header .«start_zoom_level»)) (span-back (r .header .«language_preference»)) (span-back (r .header .comment)) (span-back (r .header .«created_by»)) (end-back (r .end))
+
+abbrev pub headerDecoder : Decoder headerWire unlisted
+headerDecoder = record { decode = headerIn; back = header-back }

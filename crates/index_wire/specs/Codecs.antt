@@ -45,7 +45,7 @@ count-back count.Missing = refl
 count-back (count.Count n) = refl
 count-back (count.Refused r) = settled count.Refused count.Missing r
 
-pub countCodec : Codec countWire
+abbrev pub countCodec : Codec countWire
 countCodec = record { decode = countIn; back = count-back }
 
 abbrev pub indexIn : Wire → IndexRead
@@ -56,7 +56,7 @@ index-back index.Missing = refl
 index-back (index.At n) = refl
 index-back (index.Refused r) = settled index.Refused index.Missing r
 
-pub indexCodec : Codec indexWire
+abbrev pub indexCodec : Codec indexWire
 indexCodec = record { decode = indexIn; back = index-back }
 
 abbrev pub subFileIn : Wire → SubFileAnswer
@@ -67,7 +67,7 @@ subFile-back sub-file.None = refl
 subFile-back (sub-file.At n) = refl
 subFile-back (sub-file.Refused r) = settled sub-file.Refused sub-file.None r
 
-pub subFileCodec : Codec subFileWire
+abbrev pub subFileCodec : Codec subFileWire
 subFileCodec = record { decode = subFileIn; back = subFile-back }
 
 abbrev pub intervalAnswerIn : Wire → IntervalAnswer
@@ -86,7 +86,7 @@ interval-taken z a b c =
     let w : z .«max_zoom_level» % 256 ≡ z .«max_zoom_level» = omega arith in
     rw (x, y, w) refl
 
-pub intervalCodec : Codec intervalWire
+abbrev pub intervalCodec : Codec intervalWire
 intervalCodec = record { decode = intervalAnswerIn; back = interval-back }
 
 abbrev pub entryIn : Wire → EntryRead
@@ -96,7 +96,7 @@ pub entry-back : (a : EntryRead) → entryIn (entryWire a) ≡ a
 entry-back (entry.Entry e) = ap (λ b. entry.Entry (record { «is_water» = b; offset = e .offset; «offset_abs» = e .«offset_abs» })) (truth-back (e .«is_water»))
 entry-back (entry.Refused r) = settled entry.Refused (entry.Entry (record { «is_water» = false; offset = 0; «offset_abs» = 0 })) r
 
-pub entryCodec : Codec entryWire
+abbrev pub entryCodec : Codec entryWire
 entryCodec = record { decode = entryIn; back = entry-back }
 
 abbrev pub kindIn : ℕ → Kind
@@ -123,7 +123,7 @@ tag-text-back (span-read.Refused r) k = ap (λ (g : SpanRead). record { text = g
 pub tag-back : (a : Named) → tagIn (tagWire a) ≡ a
 tag-back a = tag-text-back (a .text) (a .kind) ∙ ap (λ (k : Kind). record { text = a .text; kind = k }) (kind-back (a .kind))
 
-pub tagCodec : Codec tagWire
+abbrev pub tagCodec : Codec tagWire
 tagCodec = record { decode = tagIn; back = tag-back }
 
 abbrev pub textIn : Wire → Written
@@ -133,7 +133,7 @@ pub text-back : (a : Written) → textIn (textWire a) ≡ a
 text-back (written.Upto n) = refl
 text-back (written.Refused r) = settled written.Refused (written.Upto 0) r
 
-pub textCodec : Codec textWire
+abbrev pub textCodec : Codec textWire
 textCodec = record { decode = textIn; back = text-back }
 
 abbrev pub columnIn : Wire → ColumnRead
@@ -143,7 +143,7 @@ pub column-back : (a : ColumnRead) → columnIn (columnWire a) ≡ a
 column-back (column.Value x) = refl
 column-back (column.Refused r) = settled column.Refused (column.Value (pos 0)) r
 
-pub columnCodec : Codec columnWire
+abbrev pub columnCodec : Codec columnWire
 columnCodec = record { decode = columnIn; back = column-back }
 
 abbrev pub longitudeIn : Wire → LongitudeRead
@@ -153,7 +153,7 @@ pub longitude-back : (a : LongitudeRead) → longitudeIn (longitudeWire a) ≡ a
 longitude-back (longitude.Value d) = refl
 longitude-back (longitude.Refused r) = settled longitude.Refused (longitude.Value (record { 0 = nowhere })) r
 
-pub longitudeCodec : Codec longitudeWire
+abbrev pub longitudeCodec : Codec longitudeWire
 longitudeCodec = record { decode = longitudeIn; back = longitude-back }
 
 abbrev pub wayDataIn : Wire → WayDataRead
@@ -163,5 +163,5 @@ pub wayData-back : (a : WayDataRead) → wayDataIn (wayDataWire a) ≡ a
 wayData-back (way-data.Value s e) = refl
 wayData-back (way-data.Refused r) = settled way-data.Refused (way-data.Value (record { blocks = 0; nodes = 0 }) 0) r
 
-pub wayDataCodec : Codec wayDataWire
+abbrev pub wayDataCodec : Codec wayDataWire
 wayDataCodec = record { decode = wayDataIn; back = wayData-back }

@@ -51,11 +51,11 @@ state-back number s before = go (truth number)
 abbrev pub openedIn : Wire → OpenRead
 openedIn w = settle open-read.Refused (open-read.Stream (streamIn (listOf w 1))) w
 
-opened-back : (before : List ℕ) (a : OpenRead) → openedIn (openedWire before a) ≡ a
+pub opened-back : (before : List ℕ) (a : OpenRead) → openedIn (openedWire before a) ≡ a
 opened-back before (open-read.Stream s) = ap open-read.Stream (stream-back s)
 opened-back before (open-read.Refused r) = settled open-read.Refused (open-read.Stream (streamIn before)) r
 
-pub openedCodec : (before : List ℕ) → Codec (openedWire before)
+abbrev pub openedCodec : (before : List ℕ) → Codec (openedWire before)
 openedCodec before = record { decode = openedIn; back = opened-back before }
 
 -- What a next shows: the point and the head stand beside the answer, of which one is meant. The stream is the one that the state's words

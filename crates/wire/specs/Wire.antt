@@ -23,7 +23,8 @@ pub record Crosses {A : Type 0} (encode : A → Wire) (Is : A → Type 0) (w : W
   pub is : Is answer
   pub crossed : w ≡ encode answer
 
--- Encode, then decode, gives what the other program needs of the answer,
+-- Encode, then decode, gives what the other program needs of the answer (in Codecs.antt of the crates above, `xIn` decodes what `xWire`
+-- encodes, and `x-back` says so),
 pub record Decoder {A B : Type 0} (encode : A → Wire) (view : A → B) : Type 0 where
   pub decode : Wire → B
   pub back : (a : A) → decode (encode a) ≡ view a
