@@ -4,6 +4,7 @@
 pub mod calls;
 mod column;
 pub mod file;
+pub mod grids;
 pub mod index;
 pub mod open;
 pub mod sample;

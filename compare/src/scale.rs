@@ -147,10 +147,9 @@ fn whole_maps(bases: &[Base], all: &mut Check) -> bool {
             differences += 1;
         }
     }
-    let tiles: usize = bases.iter().map(|base| base.tiles.len()).sum();
     println!(
-        "undamaged: {} maps, {tiles} tiles, {differences} of the maps differ; {:.1} s",
-        bases.len(),
+        "undamaged: {}, {differences} of the maps differ; {:.1} s",
+        bases::told(bases),
         start.elapsed().as_secs_f64()
     );
     differences == 0

@@ -12,8 +12,7 @@ use super::crafted;
 use super::damage::SHOWN;
 use super::opening::Opening;
 use crate::maps::calls::on_grid;
-use crate::maps::file::{grids, UNKNOWN};
-use crate::maps::{self, given};
+use crate::maps::{self, given, grids};
 use crate::records::Record;
 use crate::source::Source;
 use crate::tiles::Address;
@@ -21,11 +20,16 @@ use crate::tiles::Address;
 /// The maps of the repository, whose folder is beside this package's.
 const SHIPPED: [&str; 3] = ["islands.map", "islands-debug.map", "short-size.map"];
 
+/// Of a grid so many tiles are asked for at most: some maps are huge.
+const TILES: u64 = 20_000;
+
 /// A map, and the tiles that are asked for.
 pub struct Base {
     pub name: String,
     pub map: Vec<u8>,
     pub tiles: Vec<Address>,
+    /// How many tiles of its grids are not.
+    left_out: u64,
 }
 
 impl Base {
@@ -47,7 +51,7 @@ pub fn crafted() -> Vec<Base> {
     crafted.add_records(maps::sample::crafted().records());
     // of a header alone a tile is asked for too
     let bare = crafted.bases.iter_mut().filter(|base| base.tiles.is_empty());
-    bare.for_each(|base| base.tiles.push(Address { sub_file: 0, grid: UNKNOWN, tile: 0 }));
+    bare.for_each(|base| base.tiles.push(Address { sub_file: 0, grid: grids::UNKNOWN, tile: 0 }));
     crafted.bases
 }
 
@@ -57,19 +61,25 @@ pub fn repository() -> io::Result<Vec<Base>> {
     SHIPPED.iter().map(|name| of_file(&folder.join(name))).collect()
 }
 
-/// A map by its file, with all tiles of its grids.
+/// A map by its file, with the tiles of its grids.
 pub fn of_file(path: &Path) -> io::Result<Base> {
     let map = fs::read(path)?;
     let name = path.display().to_string();
-    let opened = maps::open::with_map(&map, |file| file.header.zoom_interval_configuration.len());
-    let grids = grids(path);
-    let of_sub_file = |sub_file: usize| {
-        let grid = *grids.get(sub_file).unwrap_or(&UNKNOWN);
-        let tiles = u64::from(grid.tiles().expect("a good grid"));
-        (0..tiles).map(move |tile| Address { sub_file: sub_file as u64, grid, tile })
+    // a map that does not open has none
+    let grids = maps::open::with_map(&map, |file| grids::of(&file.header)).unwrap_or_default();
+    let of_grid = |(sub_file, &grid)| {
+        grids::some(&grid, TILES).map(move |tile| Address { sub_file, grid, tile })
     };
-    let tiles = (0..opened.unwrap_or(0)).flat_map(of_sub_file).collect();
-    Ok(Base { name, map, tiles })
+    let tiles: Vec<Address> = (0..).zip(&grids).flat_map(of_grid).collect();
+    let left_out = grids.iter().map(grids::tiles).sum::<u64>() - tiles.len() as u64;
+    Ok(Base { name, map, tiles, left_out })
+}
+
+/// How many maps there are and how many tiles are asked for, in words.
+pub fn told(bases: &[Base]) -> String {
+    let tiles: usize = bases.iter().map(|base| base.tiles.len()).sum();
+    let left_out: u64 = bases.iter().map(|base| base.left_out).sum();
+    format!("{} maps, {tiles} tiles looked at and {left_out} not", bases.len())
 }
 
 /// Maps by their bytes, so that each comes once with all that is asked about it.
@@ -102,7 +112,7 @@ impl Crafted {
         let number = *self.numbers.entry(map.to_vec()).or_insert(next);
         if number == next {
             let name = format!("crafted {kind} {next}");
-            self.bases.push(Base { name, map: map.to_vec(), tiles: Vec::new() });
+            self.bases.push(Base { name, map: map.to_vec(), tiles: Vec::new(), left_out: 0 });
         }
         number
     }

@@ -6,7 +6,7 @@ mod lists;
 
 use std::time::Instant;
 
-use super::bases::Base;
+use super::bases::{self, Base};
 use super::check::{caught, Check, Checked};
 use super::lent::Lent;
 use super::library::{self, Ask, State, WORD};
@@ -47,7 +47,7 @@ pub fn compare(bases: &[Base], cases: u64) -> bool {
         }
     }
     counts.print();
-    println!("maps: {}, of which {differing} have a call that differs", bases.len());
+    println!("{}; {differing} of the maps have a call that differs", bases::told(bases));
     check.print();
     println!("time: {:.1} s", start.elapsed().as_secs_f64());
     differing == 0

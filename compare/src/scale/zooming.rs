@@ -11,7 +11,7 @@ mod tally;
 
 use std::time::Instant;
 
-use super::bases::Base;
+use super::bases::{self, Base};
 use super::check::{caught, Check, Checked};
 use super::library::{self, Ask};
 use super::{foreign, opening, Options, ENOUGH};
@@ -51,9 +51,8 @@ fn whole_maps(tally: &mut Tally, bases: &[Base]) -> u64 {
             base.print_if_small();
         }
     }
-    let tiles: usize = bases.iter().map(|base| base.tiles.len()).sum();
-    let (maps, time) = (bases.len(), start.elapsed().as_secs_f64());
-    println!("undamaged: {maps} maps, {tiles} tiles, {differing} of the maps differ; {time:.1} s");
+    let (maps, time) = (bases::told(bases), start.elapsed().as_secs_f64());
+    println!("undamaged: {maps}, {differing} of the maps differ; {time:.1} s");
     differing
 }
 
