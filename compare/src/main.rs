@@ -39,10 +39,15 @@ compare/run [--rust FOLDER] COMMAND ARGS...
                       our library's streams at all pairs of zooms, on all tiles of the same maps and on N damaged copies
                       of tiles, many with wrong stored sizes: one that ends well says all that comes at a lower zoom;
                       fails on a difference. --quick is a fixed run of some seconds, --only looks at copy K alone
+  altered [--cases N] [--seed S] [--quick] [MAP...]
+                      our library's streams by at least N random lists of calls on the tiles of the same maps, and on copies
+                      with other bytes in ways that the list declines untried: every answer must be the same. Copies altered
+                      where it shows are controls; fails on a difference, and if no control of a kind shows.
+                      --quick is a fixed run of some seconds
   figures             checks document 01's worked figures; fails on a difference
   help                this text
 
-scale, book and zooming link target/staticlib/libexports.a, which host/library builds first, or that of the folder
+scale, book, zooming and altered link target/staticlib/libexports.a, which host/library builds first, or that of the folder
 MAPSFORGE_LIB names.
 
 FOLDER holds the Rust: error.rs, io.rs and so on. By default it is compare/mapsforge-rs.
@@ -85,6 +90,10 @@ fn run(arguments: &[&str]) -> io::Result<ExitCode> {
         #[cfg(feature = "both")]
         ["zooming", rest @ ..] => {
             return Ok(scale::run_zooming(rest)?.unwrap_or_else(misused));
+        }
+        #[cfg(feature = "both")]
+        ["altered", rest @ ..] => {
+            return Ok(scale::run_altered(rest)?.unwrap_or_else(misused));
         }
         ["figures"] => return Ok(checked(figures::check())),
         ["help"] => print!("{HELP}"),

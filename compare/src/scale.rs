@@ -1,6 +1,8 @@
 //! Both readers in one process: every answer of our library against the Rust's, on whole maps, on maps that
 //! are cut off and on damaged ones.
 
+mod alike;
+mod altered;
 mod asked;
 mod bases;
 mod book;
@@ -103,6 +105,15 @@ pub fn run_zooming(arguments: &[&str]) -> io::Result<Option<ExitCode>> {
     let Some(options) = Options::of_those(&known, arguments) else { return Ok(None) };
     check::keep_panics();
     let good = zooming::compare(&bases(&options)?, &options);
+    Ok(Some(if good { ExitCode::SUCCESS } else { ExitCode::FAILURE }))
+}
+
+/// Holds our stream to the same on copies with other bytes in declined ways; None if the arguments make no sense.
+pub fn run_altered(arguments: &[&str]) -> io::Result<Option<ExitCode>> {
+    let known = ["--cases", "--seed", "--quick"];
+    let Some(options) = Options::of_those(&known, arguments) else { return Ok(None) };
+    check::keep_panics();
+    let good = altered::compare(bases(&options)?, &options);
     Ok(Some(if good { ExitCode::SUCCESS } else { ExitCode::FAILURE }))
 }
 

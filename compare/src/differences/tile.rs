@@ -3,6 +3,8 @@
 //! answer is this one.
 
 mod features;
+#[cfg(feature = "both")]
+mod parts;
 mod reader;
 mod tags;
 
@@ -12,6 +14,8 @@ use std::ops::Range;
 use mapsforge_rs::header::DEBUG_INFO_MASK;
 use mapsforge_rs::types::{MapFile, MapHeader, ZoomInterval};
 
+#[cfg(feature = "both")]
+pub use parts::{StreamParts, WayParts};
 pub use reader::{Cause, Parting};
 
 use crate::answer::Answer;
@@ -166,6 +170,12 @@ impl<'a> Opened<'a> {
     #[cfg(feature = "both")]
     pub fn streamed_tile(self, address: &Address) -> Result<Tile, Answer> {
         Reader::new(self, View::Streamed).tile(address)
+    }
+
+    /// Where the points and ways of a tile up to a zoom stand, or the refusal.
+    #[cfg(feature = "both")]
+    pub fn stream_parts(self, address: &Address, zoom: u8) -> Result<StreamParts, Answer> {
+        Reader::new(self, View::Streamed).stream_parts(address, zoom)
     }
 
     /// So many tags of a table that starts at a place. One that the walk through the texts does not reach, as

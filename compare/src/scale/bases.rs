@@ -33,6 +33,10 @@ pub struct Base {
 }
 
 impl Base {
+    pub fn of(name: String, map: Vec<u8>, tiles: Vec<Address>) -> Self {
+        Base { name, map, tiles, left_out: 0 }
+    }
+
     /// All of a small map, beside what differs.
     pub fn print_if_small(&self) {
         if self.map.len() < SHOWN {
@@ -112,7 +116,7 @@ impl Crafted {
         let number = *self.numbers.entry(map.to_vec()).or_insert(next);
         if number == next {
             let name = format!("crafted {kind} {next}");
-            self.bases.push(Base { name, map: map.to_vec(), tiles: Vec::new(), left_out: 0 });
+            self.bases.push(Base::of(name, map.to_vec(), Vec::new()));
         }
         number
     }

@@ -2,7 +2,7 @@
 //! library's stream: every list of a few calls on small tiles, and long random lists on all of them.
 
 mod collected;
-mod lists;
+pub mod lists;
 
 use std::time::Instant;
 
@@ -100,7 +100,7 @@ fn of_tile(
             counts.lists += run.all(state, CALLS).map_err(place)?;
         }
         for _ in 0..each {
-            run.random(state, 6 * tile.features() + CALLS as usize, random).map_err(place)?;
+            run.random(state, lists::long(tile.features()), random).map_err(place)?;
             counts.long_lists += 1;
         }
         counts.calls += run.made;

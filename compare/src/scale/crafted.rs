@@ -11,7 +11,7 @@ mod random;
 mod rich;
 mod tags;
 mod ways;
-mod writer;
+pub mod writer;
 mod zooms;
 
 use mapsforge_rs::grid::Grid;
@@ -109,7 +109,7 @@ fn value(tag: &[u8]) -> Option<Value> {
 }
 
 /// A header with these tags, and an interval for each base, lowest and highest zoom.
-fn header(zooms: &[[u8; 3]]) -> Header {
+pub fn header(zooms: &[[u8; 3]]) -> Header {
     let header =
         Header { poi_tags: tag_list(&POI_TAGS), way_tags: tag_list(&WAY_TAGS), ..Header::tiny() };
     zooms.iter().fold(header, |header, &zooms| header.with_interval(zooms, 0))
@@ -126,7 +126,7 @@ fn debug_map(tiles: &[Vec<u8>]) -> Vec<u8> {
 }
 
 /// A tile of a sub file whose tiles are in one row of the grid.
-fn at(sub_file: u64, tile: usize, tiles: usize) -> Address {
+pub fn at(sub_file: u64, tile: usize, tiles: usize) -> Address {
     let grid = Grid { x_min: 0, y_min: 0, x_max: tiles as i32 - 1, y_max: 0 };
     Address { sub_file, grid, tile: tile as u64 }
 }
@@ -137,12 +137,12 @@ fn all(tiles: usize) -> impl Iterator<Item = Address> {
 }
 
 /// A point behind the one in question, so that it shows where that ends.
-fn next_point() -> Point {
+pub fn next_point() -> Point {
     Point { name: Some(b"next".to_vec()), ..Point::at([3, -4]) }
 }
 
 /// The same for a way.
-fn next_way() -> Way {
+pub fn next_way() -> Way {
     Way { bitmap: 0x8421, tags: vec![5], ..Way::of(vec![[7, -8], [1, 2]]) }
 }
 

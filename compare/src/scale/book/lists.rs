@@ -28,6 +28,14 @@ pub enum Lend {
 const ALL: [Call; 4] =
     [Call::Next, Call::Accept(Lend::Enough), Call::Accept(Lend::Nothing), Call::Decline];
 
+/// So many random calls mostly go through so many features.
+pub fn long(features: usize) -> usize {
+    6 * features + 6
+}
+
+/// Lengths to go by where no way waits.
+pub const NONE_WAITS: Lengths = [1, 2, 2, 0, 0, 0];
+
 /// "Its state: a number k, first 0, and whether a way waits, first no."
 #[derive(Clone, Copy)]
 struct Page {
@@ -84,13 +92,7 @@ impl Run<'_> {
         self.calls.clear();
         let mut both = Both::at_first(stream);
         for _ in 0..length {
-            let call = match random.below(10) {
-                0..=4 => Call::Next,
-                5 | 6 => Call::Accept(Lend::Enough),
-                7 => Call::Accept([Lend::Nothing, Lend::Random(random.next())][random.below(2)]),
-                _ => Call::Decline,
-            };
-            self.step(call, &mut both)?;
+            self.step(random.call(), &mut both)?;
         }
         Ok(())
     }
@@ -142,8 +144,8 @@ impl Run<'_> {
         let page = &mut both.page;
         let tile = self.book.tile;
         let waiting = page.waits.then(|| tile.way(page.k - self.book.points));
-        let needed = waiting.map_or([1, 2, 2, 0, 0, 0], three_lists);
-        let lengths = lengths(lend, &needed);
+        let needed = waiting.map_or(NONE_WAITS, three_lists);
+        let lengths = lend.lengths(&needed);
         let before = both.stream;
         let lists = self.lent.lists(lengths);
         let ours = library::stream_accept(tile.ask.map, &mut both.stream, lists.nodes);
@@ -246,11 +248,25 @@ fn three_lists(way: &Fetched) -> Lengths {
     [blocks, nodes, nodes, 0, 0, 0]
 }
 
-fn lengths(lend: Lend, needed: &Lengths) -> Lengths {
-    match lend {
-        Lend::Nothing => [0; 6],
-        Lend::Enough => needed.map(|needed| needed + 1),
-        Lend::Random(seed) => Random::new(seed | 1).lengths(needed),
+impl Lend {
+    pub fn lengths(self, needed: &Lengths) -> Lengths {
+        match self {
+            Lend::Nothing => [0; 6],
+            Lend::Enough => needed.map(|needed| needed + 1),
+            Lend::Random(seed) => Random::new(seed | 1).lengths(needed),
+        }
+    }
+}
+
+impl Random {
+    /// A call, in turn or not.
+    pub fn call(&mut self) -> Call {
+        match self.below(10) {
+            0..=4 => Call::Next,
+            5 | 6 => Call::Accept(Lend::Enough),
+            7 => Call::Accept([Lend::Nothing, Lend::Random(self.next())][self.below(2)]),
+            _ => Call::Decline,
+        }
     }
 }
 

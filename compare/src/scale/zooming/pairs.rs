@@ -1,9 +1,8 @@
 //! Pairs of zooms of a tile: what a stream at the richer zoom says of that at the lower one.
 
+use super::super::alike::Alike;
 use super::super::check::{Check, Checked};
-use super::super::lent::Fronts;
-use super::super::library::{Ask, Next};
-use super::super::opening::part;
+use super::super::library::Ask;
 use super::super::whole;
 use super::given::Given;
 use super::rules::{Rule, RULES};
@@ -73,12 +72,10 @@ impl Tile<'_> {
     fn pair(&self, check: &mut Check, lower: &Ended, richer: &Stream) -> Checked {
         let refused = |(call, number): &Refusal| format!("{call} is refused: {number}");
         let lower = lower.as_ref().map_err(refused)?;
-        let map = self.ask.map;
-        let point = |lower: &Next, richer: &Next| next(check, map, lower, richer);
-        first("point", &lower.points, &richer.points, point)?;
-        let way = |lower: &Way, richer: &Way| way(check, map, lower, richer);
-        first("way", &lower.ways, &richer.ways, way)?;
-        next(check, map, &lower.end, &richer.end).map_err(|why| format!("the end's {why}"))
+        let mut alike = Alike { check, maps: [self.ask.map; 2] };
+        first("point", &lower.points, &richer.points, |lower, richer| alike.next(lower, richer))?;
+        first("way", &lower.ways, &richer.ways, |lower, richer| way(&mut alike, lower, richer))?;
+        alike.next(&lower.end, &richer.end).map_err(|why| format!("the end's {why}"))
     }
 }
 
@@ -97,39 +94,10 @@ fn first<T>(
     Ok(())
 }
 
-/// A point, a head or the end.
-fn next(check: &mut Check, map: &[u8], lower: &Next, richer: &Next) -> Checked {
-    check.words("words", &lower.got.words, &richer.got.words)?;
-    check.same("layer and elevation", lower.signed, richer.signed)?;
-    check.floats("position", &lower.degrees, &richer.degrees)?;
-    check.words("tag ids", &lower.ids, &richer.ids)?;
-    texts(check, map, &lower.got.words[11..17], &richer.got.words[11..17])
-}
-
-fn way(check: &mut Check, map: &[u8], lower: &Way, richer: &Way) -> Checked {
-    next(check, map, &lower.head, &richer.head)?;
-    check.same("whether it is accepted", lower.body.is_some(), richer.body.is_some())?;
+fn way(alike: &mut Alike, lower: &Way, richer: &Way) -> Checked {
+    alike.next(&lower.head, &richer.head)?;
+    alike.check.same("whether it is accepted", lower.body.is_some(), richer.body.is_some())?;
     let (Some(lower), Some(richer)) = (&lower.body, &richer.body) else { return Ok(()) };
-    let [words, by] = [lower, richer].map(|body| &body.accept.got.words);
-    check.words("words of the body", words, by)?;
-    check.floats("label position", &lower.accept.degrees, &richer.accept.degrees)?;
-    texts(check, map, &words[8..17], &by[8..17])?;
-    lists(check, &lower.lists, &richer.lists)
-}
-
-/// Every entry, whether it was written or not.
-fn lists(check: &mut Check, lower: &Fronts, richer: &Fronts) -> Checked {
-    check.words("node counts", &lower.counts, &richer.counts)?;
-    check.floats("latitudes", &lower.floats[0], &richer.floats[0])?;
-    check.floats("longitudes", &lower.floats[1], &richer.floats[1])
-}
-
-/// The bytes of each text, which are in the map.
-fn texts(check: &mut Check, map: &[u8], lower: &[u64], richer: &[u64]) -> Checked {
-    for (lower, richer) in lower.chunks_exact(3).zip(richer.chunks_exact(3)) {
-        let [lower, richer] = [lower, richer].map(|words| part(map, words[1], words[2]));
-        check.same("a text", lower, richer)?;
-        lower.ok_or("a text that is not in the map")?;
-    }
-    Ok(())
+    alike.accept(&lower.accept, &richer.accept)?;
+    alike.lists(&lower.lists, &richer.lists)
 }

@@ -1,0 +1,103 @@
+//! Bytes that are looked at, so that a change of them should show. Some of them show in one kind of answer alone: if
+//! that is not compared, no such control shows.
+
+use super::bytes::Bytes;
+use super::calls::List;
+use crate::differences::tile::{StreamParts, WayParts};
+use crate::maps::writer::PROJECTION;
+
+#[derive(Clone, Copy)]
+pub enum Control {
+    Entry,
+    /// Of features that came.
+    Point,
+    Head,
+    Accepted,
+    Tried,
+    /// Only in what opening gives.
+    Box,
+    /// Only in a text's bytes.
+    PointText,
+    WayText,
+    /// Only in the words of a head.
+    Bitmap,
+    /// Only in the lists.
+    LastNode,
+    /// Only in the state, since no way follows.
+    LastSize,
+}
+
+/// In the order of their numbers.
+pub const CONTROLS: [Control; 11] = [
+    Control::Entry,
+    Control::Point,
+    Control::Head,
+    Control::Accepted,
+    Control::Tried,
+    Control::Box,
+    Control::PointText,
+    Control::WayText,
+    Control::Bitmap,
+    Control::LastNode,
+    Control::LastSize,
+];
+
+impl Control {
+    /// Where its bytes are, after a list of calls.
+    pub fn stretches(self, parts: &StreamParts, list: &List) -> Vec<Bytes> {
+        let (points, heads) = (&parts.points[..list.points], &parts.ways[..list.heads]);
+        let of = |numbers: &[usize]| numbers.iter().map(|&k| &parts.ways[k]).collect::<Vec<_>>();
+        let (accepted, tried) = (of(&list.accepted), of(&list.tried));
+        let all: Vec<Bytes> = match self {
+            Control::Entry => vec![parts.entry.clone()],
+            Control::Point => points.iter().map(|point| point.bytes.clone()).collect(),
+            Control::Head => heads.iter().map(|way| way.head.clone()).collect(),
+            Control::Accepted => accepted.iter().map(|way| way.rest.clone()).collect(),
+            Control::Tried => tried.iter().map(|way| way.rest.clone()).collect(),
+            Control::Box => vec![PROJECTION - 18..PROJECTION - 2],
+            Control::PointText => points.iter().flat_map(|point| point.texts.clone()).collect(),
+            Control::WayText => accepted.iter().flat_map(|way| way.texts.clone()).collect(),
+            Control::Bitmap => heads.iter().map(|way| way.bitmap.clone()).collect(),
+            Control::LastNode => accepted.iter().filter_map(|way| last_node(way)).collect(),
+            Control::LastSize => last_size(parts, list).into_iter().collect(),
+        };
+        all.into_iter().filter(|stretch| !stretch.is_empty()).collect()
+    }
+
+    /// Whether enough of those that were made showed. Those that show in one answer alone nearly always do, but for
+    /// features that lie over each other; of the others some byte may say nothing.
+    pub fn is_good(self, [made, shown]: [u64; 2]) -> bool {
+        match self {
+            Control::Point | Control::Head | Control::Accepted | Control::Tried => shown > 0,
+            _ => 2 * shown > made,
+        }
+    }
+
+    pub fn name(self) -> &'static str {
+        match self {
+            Control::Entry => "the tile's entry",
+            Control::Point => "a point",
+            Control::Head => "a way's head",
+            Control::Accepted => "behind the head of an accepted way",
+            Control::Tried => "of one that was declined after an accept",
+            Control::Box => "the bounding box (shows in opening)",
+            Control::PointText => "a point's text (in its bytes)",
+            Control::WayText => "an accepted way's text (in its bytes)",
+            Control::Bitmap => "a head's bitmap (in the words)",
+            Control::LastNode => "an accepted way's last node (in the lists)",
+            Control::LastSize => "the last way's stored size (in the state)",
+        }
+    }
+}
+
+/// The last byte of a way whose last block has nodes.
+fn last_node(way: &WayParts) -> Option<Bytes> {
+    let block = way.way.blocks.last()?;
+    (!block.nodes.is_empty()).then_some(way.rest.end - 1..way.rest.end)
+}
+
+/// The stored size of the last way, if its head came.
+fn last_size(parts: &StreamParts, list: &List) -> Option<Bytes> {
+    let last = parts.ways.last().filter(|_| list.heads == parts.ways.len())?;
+    Some(last.size.clone())
+}
