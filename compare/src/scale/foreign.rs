@@ -72,13 +72,47 @@ fn taken(interval: &Interval) -> Option<ZoomInterval> {
     })
 }
 
-/// A tile by words that are the map's own or were so once, some of them changed.
+/// A tile by words that are the map's own or were so once, some of them changed; and calls of a stream by words that
+/// no call wrote.
 pub fn compare(check: &mut Check, lent: &mut Lent, own: &Ask, random: &mut Random) -> Checked {
     let ask = random.foreign(own);
     let file = file(ask.map, &ask.layout, &ask.interval);
     let place = |why| format!("layout {:x?}, interval {:x?}: {why}", ask.layout, ask.interval);
     asked::grid(check, &file, &ask, random).map_err(place)?;
-    by_words(check, lent, file, &ask, random).map_err(place)
+    by_words(check, lent, file, &ask, random).map_err(place)?;
+    let state = random.state(ask.map.len());
+    let place = |why| place(format!("state {state:x?}: {why}"));
+    made_up(check, lent, &ask, &state, random).map_err(place)
+}
+
+/// Each call of a stream by made-up words for its state. What it answers nothing is compared with, but a refused one
+/// leaves all seven words as they are, in whatever form, and the lists too.
+fn made_up(
+    check: &mut Check,
+    lent: &mut Lent,
+    ask: &Ask,
+    before: &State,
+    random: &mut Random,
+) -> Checked {
+    let mut state = *before;
+    let opened = library::stream_open(ask, random.next(), random.byte(), &mut state);
+    if refused(check, Call::StreamOpen, &opened)? {
+        check.words("the state of a refused open", &state, before)?;
+    }
+    let mut state = *before;
+    let next = library::stream_next(ask.map, &ask.layout, &mut state);
+    if refused(check, Call::StreamNext, &next.got)? {
+        check.words("the state of a refused next", &state, before)?;
+    }
+    accept(check, lent, ask, &mut before.clone(), random)?;
+    let mut state = *before;
+    let number = library::stream_decline(&mut state);
+    check.call(Call::StreamDecline, number);
+    check.same("a decline", number, if before[0] == 0 { 16 } else { 0 })?;
+    if number != 0 {
+        check.words("the state of a refused decline", &state, before)?;
+    }
+    Ok(())
 }
 
 /// A tile by the whole map's words, where the map is cut off before them.
@@ -164,6 +198,23 @@ fn step(
     if next.got.words[6] != 1 {
         return Ok(next.got.words[6] == 0);
     }
+    if accept(check, lent, ask, state, random)? {
+        return Ok(true);
+    }
+    let number = library::stream_decline(state);
+    check.call(Call::StreamDecline, number);
+    check.same("a decline", number, 0)?;
+    Ok(true)
+}
+
+/// Whether an accept is not refused; a refused one leaves state and lists alone.
+fn accept(
+    check: &mut Check,
+    lent: &mut Lent,
+    ask: &Ask,
+    state: &mut State,
+    random: &mut Random,
+) -> Checked<bool> {
     let lengths = random.lengths(&[2, 10, 10, 0, 0, 0]);
     let before = *state;
     let accept = library::stream_accept(ask.map, state, lent.lists(lengths).nodes);
@@ -173,10 +224,7 @@ fn step(
     }
     check.words("the state of a refused accept", state, &before)?;
     lent.check(check, lengths, &Fronts::default())?;
-    let number = library::stream_decline(state);
-    check.call(Call::StreamDecline, number);
-    check.same("a decline", number, 0)?;
-    Ok(true)
+    Ok(false)
 }
 
 /// Whether a call is refused; its words are then 0 behind the refusal's values.
@@ -206,6 +254,13 @@ impl Random {
             *word = self.other_word(*word, own.map.len());
         }
         ask
+    }
+
+    /// Words for a state that no call wrote: any first word and any last, counts and places or anything between.
+    fn state(&mut self, length: usize) -> State {
+        let mut state = std::array::from_fn(|_| self.other_word(1, length));
+        state[0] = [0, 1, 2, state[0]][self.below(4)];
+        state
     }
 
     /// Another word: near, with the same last byte, a place in the map, or any.
