@@ -110,7 +110,7 @@ header-same h e a b p q =
     ∙ ap (λ x. record { header = b .header; end = x }) (ended-at (a .header) (a .end) (p .answer) ∙ sym (ended-at (b .header) (b .end) (q .answer)))
 
 -- a stream that opens is not refused
-never-refused : (q : OpenRead) {a : State TileEnd} → openRes q ≡ answer a → Opens q
+pub never-refused : (q : OpenRead) {a : State TileEnd} → openRes q ≡ answer a → Opens q
 never-refused (open-read.Stream st) d = opens st
 never-refused (open-read.Refused r) d = no-ok d
 

@@ -26,13 +26,12 @@ use Rattle.zooming.proofs.Zooming.{zooming-in}
 use Rattle.zooming.proofs.TileZooming.{tile-advances, lower-zoom}
 use Rattle.visit.specs.Visit.{stateOf, openTile, openRes, shownPoint, shownHead, shownBody, ShownAnswer, shown}
 use Rattle.visit.specs.declared.Stream.{Stream}
-use Rattle.visit.specs.declared.OpenRead.{OpenRead}
 use Rattle.visit.specs.declared.OpenRead.the-variants as open-read
 use Rattle.visit.specs.declared.StreamedHead.{StreamedHead}
 use Rattle.visit.specs.declared.StreamedBody.{StreamedBody}
-use Rattle.map_agreement.specs.BookSays.{Opens, opens}
 use Rattle.map_agreement.specs.ZoomingIn.{SeenWay, callsOf, callsOfWays, repliesOf, repliesOfWays, Decides, no-way, declines, accepts, Saw, WillSee, ZoomingIn}
 use Rattle.map_agreement.proofs.Chain.{shownReplies, called-run}
+use Rattle.map_agreement.proofs.Opened.{never-refused}
 
 -- a stored way that was delivered, as it is shown
 abbrev seen : Delivered Head Body → SeenWay
@@ -219,10 +218,6 @@ record Read {A : Type 0} (r : Res A) (a : A) : Type 0 where
 answered-read : {A : Type 0} (r : Res A) (a : A) → answered r ≡ answer a → Read r a
 answered-read (ok b x) a q = record { past = x; read = ap (λ y. ok y x) (ok-val q) }
 answered-read (no k v) a q = no-ok q
-
-never-refused : (o : OpenRead) {a : State TileEnd} → openRes o ≡ answer a → Opens o
-never-refused (open-read.Stream s) d = opens s
-never-refused (open-read.Refused r) d = no-ok d
 
 module _ (m : List ℕ) (l : TileLayout) (i : Maybe Interval) (subFile : ℕ) (grid : Grid) (number zoom : ℕ) (rule : (bitmap : ℕ) → TagIds → Bool)
     (lists : List LentLists) (points : List Poi) (ways : List SeenWay) (z : TileEnd) (saw : Saw m l i subFile grid number zoom rule lists points ways z) where
