@@ -1,6 +1,6 @@
 /* Streams the tile at a position and lists the names in it: list_tile MAP ZOOM LATITUDE LONGITUDE. C99, and C++ too.
  *
- *     gcc -Iinclude examples/list_tile.c target/staticlib/libexports.a -lm -o list_tile */
+ *     gcc -Iinclude examples/list_tile.c target/staticlib/libmapsforge.a -lm -o list_tile */
 #include "mapsforge.h"
 #include "mapsforge_grid.h"
 
@@ -40,14 +40,15 @@ int main(int argc, char **argv) {
     size_t len = fread(map, 1, BYTES, file);
     uint8_t zoom = (uint8_t)atoi(argv[2]);
 
-    /* What tiles need of the header, and the sub file that has the zoom. Without one the stream will be refused with 8. */
+    /* What tiles need of the header, and the sub file that has the zoom. Without one the interval stays zeros, and the stream will be
+     * refused with 8. */
     uint64_t header[MAPSFORGE_OPEN_WORDS], layout[MAPSFORGE_LAYOUT_WORDS], found[MAPSFORGE_SUB_FILE_WORDS];
-    uint64_t interval[MAPSFORGE_INTERVAL_WORDS], values[MAPSFORGE_VALUES];
+    uint64_t interval[MAPSFORGE_INTERVAL_WORDS] = {0}, values[MAPSFORGE_VALUES];
     double degrees[MAPSFORGE_OPEN_DEGREES];
     check("open", mapsforge_open(map, len, header, degrees, layout));
-    check("sub_file", mapsforge_sub_file(map, len, zoom, found));
+    check("sub_file", mapsforge_sub_file(map, len, layout, zoom, found));
     size_t sub_file = found[MAPSFORGE_SUB_FILE_THERE] ? found[MAPSFORGE_SUB_FILE_NUMBER] : SIZE_MAX;
-    check("interval", mapsforge_interval(map, len, sub_file, values, interval));
+    check("interval", mapsforge_interval(map, len, layout, sub_file, values, interval));
 
     /* The grid, and in it the tile of the position. If it has none, the stream will be refused with 8, too. */
     mapsforge_grid grid;

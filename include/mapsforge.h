@@ -1,4 +1,4 @@
-/* The Mapsforge tile reader, for programs that link target/staticlib/libexports.a (`rt staticlib exports`; x86-64 Linux). C99 or later, or
+/* The Mapsforge tile reader, for programs that link target/staticlib/libmapsforge.a (`host/library` writes it; x86-64 Linux). C99 or later, or
  * C++. mapsforge_grid.h finds the tiles of a map; examples/list_tile.c is a small program with both.
  *
  * Every function takes anything, ends, stays inside what it is lent, and gives 0, or the number of a refusal (below). Each is proved: see
@@ -8,22 +8,23 @@
  * must not be null (any aligned address will do), and no two arguments of a call may overlap where one of them is written. Numbers of 64
  * bits and doubles stand where C puts them, at multiples of 8 bytes; the map, a text and a buffer may start anywhere.
  *
- * Words 0 to 5 of `words` are the refusal's values, zeros behind them and where nothing is refused: 3 has the map's version, 7 the tag
- * id, 15 the lengths needed of the lists, in the order in which the call takes them (words 0 to 4), and of the buffer (word 5), 19 and 20
- * the place in the map where the missing read began. docs/REFUSALS.md has every refusal with its smallest example, and what each call can
- * answer.
+ * An answer writes its own words, and all others keep the values that the caller lent: they say nothing of it. Which are a result's own,
+ * each call says below, array by array; words 0 to 5 of `words` never are. Lists and buffers are written at their fronts.
  *
- * A call writes every entry of its arrays, 0 where there is nothing to say. On a refusal all but the values are 0. Two things a refused
- * call leaves exactly as they were, whatever they held: lent lists and buffers, and the seven words of a stream's state.
+ * A refusal's own words are its values, at the front of `words`. 3, 7, 19 and 20 write word 0: the map's version, the tag id, and the place
+ * in the map where the missing read began. 15 writes words 0 to 5: the lengths needed of the lists, in the order in which the call takes
+ * them (words 0 to 4), and of the buffer (word 5), 0 for what the call does not take. The other refusals write no word. A refused call
+ * touches nothing else: arrays, lists, buffers and the state of a stream are as they were. docs/REFUSALS.md has every refusal with its
+ * smallest example, and what each call can answer.
  *
  * A part of the map, or of nothing, is three words: 1 if it is there, its place in the map, its size in bytes; else 0, 0, 0.
  * A text of a stream that is not valid UTF-8 is there with size 0.
  *
  * The caller keeps the map's bytes, the layout that mapsforge_open gave, and of each sub file the interval that mapsforge_interval gave,
- * and hands in what a call needs of them. So nothing is opened again: only mapsforge_open, mapsforge_interval and mapsforge_sub_file open
- * the map, and give the refusal of opening if it does not open. Any words are taken: with a layout or an interval that did not come from
- * this map, a call reads the map by them, and what opening checks is not checked again. So a tag table may stand where the map has no such
- * names, or behind its end: a name that cannot be read there is an empty one without an inline value, and nothing is refused for it.
+ * and hands in what a call needs of them. So nothing is opened again, and a damaged header is refused by mapsforge_open alone. Any words
+ * are taken: with a layout or an interval that did not come from this map, a call reads the map by them, and what opening checks is not
+ * checked again. So a tag table may stand where the map has no such names, or behind its end: a name that cannot be read there is an empty
+ * one without an inline value, and nothing is refused for it. A zoom interval that is not in the map is refused with 1.
  *
  * The caller computes the grid. The library takes every grid that is not reversed and not too large (14): with a wrong one it reads wrong
  * tiles, and nothing tells. A sub file's grid is the tiles of its base zoom that the map's bounding box touches: columns x_min to x_max and
@@ -38,8 +39,8 @@
  * The positions of points and nodes are offsets in degrees, to be added to latitude and longitude of the tile's north-western corner; a
  * label's is an offset from the way's first node.
  *
- * Stack: at most 64 KB for mapsforge_open, mapsforge_interval and mapsforge_sub_file, 32 KB for mapsforge_collect and mapsforge_fetch,
- * 4 KB for the others (measured: 56, 27 and 3 KB). A thread of MAPSFORGE_STACK bytes has room for each of them and for its own start. */
+ * Stack: at most 8 KB for mapsforge_fetch, 4 KB for the others (measured: 6 and 3 KB). A thread of MAPSFORGE_STACK bytes has room for each
+ * of them and for its own start. */
 #ifndef MAPSFORGE_H
 #define MAPSFORGE_H
 
@@ -77,7 +78,8 @@ enum {
                                              more, 19 and 20 have 2^64 - 1 */
 };
 
-/* The refusal's values, words 0 to 5 of every call. Where a call names no other words, they are all that `words` has. */
+/* The refusal's values, words 0 to 5 of every call. Where a call names no other words, they are all that `words` has. Only those of the
+ * refusal that was answered are written. */
 #define MAPSFORGE_VALUE 0                       /* of refusals 3, 7, 19 and 20 */
 #define MAPSFORGE_NEEDED_NODE_COUNTS 0          /* of refusal 15: how many entries each list, and the buffer, must have */
 #define MAPSFORGE_NEEDED_LATITUDES 1
@@ -105,9 +107,10 @@ enum {
 
 #define MAPSFORGE_MAX_TAGS 15                   /* a feature has no more: the length of ids */
 #define MAPSFORGE_MAX_ROWS 256                  /* a zoom table has no more: the length of points and ways */
-#define MAPSFORGE_STACK 98304                   /* bytes: 96 KB */
+#define MAPSFORGE_STACK 32768                   /* bytes: 32 KB */
 
-/* Opens a map. */
+/* Opens a map.
+ *   a map writes words 6 to 33; degrees 0 to 5 (4 and 5 are 0.0 without a start position); layout 0 to 6 */
 #define MAPSFORGE_OPEN_END 6                    /* words: the place behind the header */
 #define MAPSFORGE_OPEN_HEADER_SIZE 7            /* as stored */
 #define MAPSFORGE_OPEN_VERSION 8
@@ -143,11 +146,16 @@ enum {
 #define MAPSFORGE_LAYOUT_POINT_TAG_COUNT 2
 #define MAPSFORGE_LAYOUT_WAY_TAGS 3
 #define MAPSFORGE_LAYOUT_WAY_TAG_COUNT 4
-#define MAPSFORGE_LAYOUT_WORDS 5
-uint64_t mapsforge_open(const uint8_t *map, size_t map_len, uint64_t words[34], double degrees[6], uint64_t layout[5]);
+#define MAPSFORGE_LAYOUT_INTERVALS 5            /* where the first zoom interval stands: each takes 19 bytes */
+#define MAPSFORGE_LAYOUT_INTERVAL_COUNT 6       /* taken modulo 256 */
+#define MAPSFORGE_LAYOUT_WORDS 7
+uint64_t mapsforge_open(const uint8_t *map, size_t map_len, uint64_t words[34], double degrees[6], uint64_t layout[7]);
 
-/* The zoom interval of a sub file; all 0 if there is none. It goes as it is to mapsforge_tile_count, mapsforge_tile_index,
- * mapsforge_index_entry, mapsforge_stream_open, mapsforge_collect and mapsforge_fetch. words: only the refusal's values. */
+/* The zoom interval of a sub file, which goes as it is to mapsforge_tile_count, mapsforge_tile_index, mapsforge_index_entry,
+ * mapsforge_stream_open, mapsforge_collect and mapsforge_fetch. Of a missing one, word 0 is all that they look at. Refused with 1 if the
+ * interval is not in the map, so never with a layout that mapsforge_open gave of this map.
+ *   an interval writes interval 0 to 5
+ *   a missing one writes interval 0 */
 #define MAPSFORGE_INTERVAL_THERE 0              /* interval: any word but 0 is taken for a sub file that is there */
 #define MAPSFORGE_INTERVAL_BASE_ZOOM 1          /* the grid's zoom. The three zooms are taken modulo 256 */
 #define MAPSFORGE_INTERVAL_MIN_ZOOM 2
@@ -155,15 +163,18 @@ uint64_t mapsforge_open(const uint8_t *map, size_t map_len, uint64_t words[34], 
 #define MAPSFORGE_INTERVAL_START 4              /* the sub file's place in the map */
 #define MAPSFORGE_INTERVAL_SIZE 5               /* as stored */
 #define MAPSFORGE_INTERVAL_WORDS 6
-uint64_t mapsforge_interval(const uint8_t *map, size_t map_len, size_t sub_file, uint64_t words[6], uint64_t interval[6]);
+uint64_t mapsforge_interval(const uint8_t *map, size_t map_len, const uint64_t layout[7], size_t sub_file, uint64_t words[6], uint64_t interval[6]);
 
-/* The first sub file whose interval has the zoom. */
+/* The first sub file whose interval has the zoom. Refused as mapsforge_interval is, at the first interval that is not in the map.
+ *   a sub file writes words 6, 7
+ *   none writes words 6 */
 #define MAPSFORGE_SUB_FILE_THERE 6              /* words: whether there is one */
 #define MAPSFORGE_SUB_FILE_NUMBER 7
 #define MAPSFORGE_SUB_FILE_WORDS 8
-uint64_t mapsforge_sub_file(const uint8_t *map, size_t map_len, uint8_t zoom, uint64_t words[8]);
+uint64_t mapsforge_sub_file(const uint8_t *map, size_t map_len, const uint64_t layout[7], uint8_t zoom, uint64_t words[8]);
 
-/* Tag k, from 0, of a table of the header (its place and count, as mapsforge_open gives them). */
+/* Tag k, from 0, of a table of the header (its place and count, as mapsforge_open gives them).
+ *   a tag writes words 6 to 9 */
 #define MAPSFORGE_TAG_PLACE 6                   /* words: where its text stands in the map */
 #define MAPSFORGE_TAG_SIZE 7
 #define MAPSFORGE_TAG_END 8                     /* the place behind the text: as a start it makes the next tag number 0, without a walk */
@@ -177,18 +188,23 @@ uint64_t mapsforge_sub_file(const uint8_t *map, size_t map_len, uint8_t zoom, ui
 #define MAPSFORGE_KIND_TEXT 5                   /* %s, a length and that many */
 uint64_t mapsforge_tag(const uint8_t *map, size_t map_len, size_t start, size_t count, size_t k, uint64_t words[10]);
 
-/* The text with each ill-formed part replaced by U+FFFD, to the front of the buffer; bytes behind it keep their values. */
+/* The text with each ill-formed part replaced by U+FFFD, to the front of the buffer; bytes behind it keep their values.
+ *   a text writes words 6 */
 #define MAPSFORGE_TEXT_SIZE 6                   /* words: its size there */
 #define MAPSFORGE_TEXT_WORDS 7
 uint64_t mapsforge_text(const uint8_t *text, size_t text_len, uint8_t *buffer, size_t buffer_len, uint64_t words[7]);
 
-/* How many tiles the sub file has, by its grid. */
+/* How many tiles the sub file has, by its grid.
+ *   a count writes words 6, 7
+ *   a missing sub file writes words 6 */
 #define MAPSFORGE_TILE_COUNT_THERE 6            /* words: whether there is such a sub file */
 #define MAPSFORGE_TILE_COUNT_TILES 7
 #define MAPSFORGE_TILE_COUNT_WORDS 8
 uint64_t mapsforge_tile_count(const uint64_t interval[6], int32_t x_min, int32_t y_min, int32_t x_max, int32_t y_max, uint64_t words[8]);
 
-/* The number of the tile x, y of the sub file. */
+/* The number of the tile x, y of the sub file.
+ *   a number writes words 6, 7
+ *   none writes words 6 */
 #define MAPSFORGE_TILE_INDEX_THERE 6            /* words: whether there is one: such a sub file, and x, y in the grid */
 #define MAPSFORGE_TILE_INDEX_NUMBER 7
 #define MAPSFORGE_TILE_INDEX_WORDS 8
@@ -199,20 +215,26 @@ uint64_t mapsforge_tile_index(const uint64_t interval[6], int32_t x_min, int32_t
  * last. This one stops behind 19.
  *
  * Some writers mark a tile without features by the offset of the next tile (of the last tile: by the sub file's size). The library does
- * not look at the mark and reads what stands there, which is another tile: compare the two offsets first. */
+ * not look at the mark and reads what stands there, which is another tile: compare the two offsets first.
+ *   an entry writes words 6 to 8 */
 #define MAPSFORGE_INDEX_ENTRY_WATER 6           /* words: whether the tile is marked as water */
 #define MAPSFORGE_INDEX_ENTRY_OFFSET 7          /* the tile's place from the sub file's start */
 #define MAPSFORGE_INDEX_ENTRY_PLACE 8           /* and from the map's; 2^64 - 1 stands for any larger place */
 #define MAPSFORGE_INDEX_ENTRY_WORDS 9
-uint64_t mapsforge_index_entry(const uint8_t *map, size_t map_len, const uint64_t layout[5], const uint64_t interval[6], int32_t x_min, int32_t y_min, int32_t x_max, int32_t y_max, size_t tile, uint64_t words[9]);
+uint64_t mapsforge_index_entry(const uint8_t *map, size_t map_len, const uint64_t layout[7], const uint64_t interval[6], int32_t x_min, int32_t y_min, int32_t x_max, int32_t y_max, size_t tile, uint64_t words[9]);
 
-/* The column that a longitude lies in, and the longitude at which a column starts. Nothing is clamped: 180.0 at zoom 13 is column 8192,
- * one behind the last. The column is cut toward 0 and kept within 32 bits; of a NaN it is 0. words: only the refusal's values. */
+/* The column that a longitude lies in, cut toward 0 and kept within 32 bits; of a NaN it is 0. Nothing is clamped: 180.0 at zoom 13 is
+ * column 8192, one behind the last.
+ *   a column writes column 0 */
 uint64_t mapsforge_column(double longitude, uint8_t zoom, uint64_t words[6], int64_t column[1]);
+
+/* The longitude at which a column starts.
+ *   a longitude writes longitude 0 */
 uint64_t mapsforge_longitude(uint32_t column, uint8_t zoom, uint64_t words[6], double longitude[1]);
 
 /* Opens a stream of a tile at a zoom, which is clamped into the sub file's interval. sub_file is only what the stream's end answers. The
- * state is the caller's to keep and these calls' to write; any seven words are taken for one. words: only the refusal's values. */
+ * state is the caller's to keep and these calls' to write; any seven words are taken for one.
+ *   a stream writes state 0 to 6 */
 #define MAPSFORGE_STATE_WAITS 0                 /* state: 1 while a way waits, else 0; any word but 0 is taken for yes */
 #define MAPSFORGE_STATE_SUB_FILE 5              /* what the end will answer */
 #define MAPSFORGE_STATE_WATER 6                 /* any word but 0 is taken for yes */
@@ -224,16 +246,19 @@ uint64_t mapsforge_longitude(uint32_t column, uint8_t zoom, uint64_t words[6], d
 #define MAPSFORGE_WAITING_WAYS 1                /* while one waits: how many ways are to come behind it, */
 #define MAPSFORGE_WAITING_PAST 2                /* the place that declining goes to, */
 #define MAPSFORGE_WAITING_BODY 3                /* and where its body starts; word 4 is 0 */
-uint64_t mapsforge_stream_open(const uint8_t *map, size_t map_len, const uint64_t layout[5], const uint64_t interval[6], size_t sub_file, int32_t x_min, int32_t y_min, int32_t x_max, int32_t y_max, size_t tile, uint8_t zoom, uint64_t state[7], uint64_t words[6]);
+uint64_t mapsforge_stream_open(const uint8_t *map, size_t map_len, const uint64_t layout[7], const uint64_t interval[6], size_t sub_file, int32_t x_min, int32_t y_min, int32_t x_max, int32_t y_max, size_t tile, uint8_t zoom, uint64_t state[7], uint64_t words[6]);
 
 /* The next point; after the last point the next way's head, which then waits; at last the end, again and again. 16 while a way waits.
- * signed_words: the layer, and a point's elevation. degrees: a point's position. ids: the tag ids, zeros behind them. */
+ * signed_words: the layer, and a point's elevation, 0 if it has none. degrees: a point's position. ids: the tag ids, zeros behind them.
+ *   a point writes words 6 to 17; signed_words 0, 1; degrees 0, 1; ids 0 to 14; state 0 to 6
+ *   a way writes words 6, 7, 18; signed_words 0; ids 0 to 14; state 0 to 6
+ *   the end writes words 6, 19, 20; state 0 to 6 */
 #define MAPSFORGE_NEXT_KIND 6                   /* words: what it is, one of the kinds below */
-#define MAPSFORGE_NEXT_TAG_COUNT 7
-#define MAPSFORGE_NEXT_SIGNATURE 8              /* 8 to 10 are always 0: a stream gives no signatures */
+#define MAPSFORGE_NEXT_TAG_COUNT 7              /* of a point or a way */
+#define MAPSFORGE_NEXT_SIGNATURE 8              /* 8 to 10, of a point, are always 0: a stream gives no signatures */
 #define MAPSFORGE_NEXT_NAME 11                  /* a part, 11 to 13, of a point: a way's texts come with its body */
 #define MAPSFORGE_NEXT_HOUSE_NUMBER 14          /* a part, 14 to 16, of a point */
-#define MAPSFORGE_NEXT_HAS_ELEVATION 17
+#define MAPSFORGE_NEXT_HAS_ELEVATION 17         /* of a point */
 #define MAPSFORGE_NEXT_BITMAP 18                /* of a way: which of 4 by 4 cells of the tile it touches, row by row, bit 15 the first */
 #define MAPSFORGE_NEXT_SUB_FILE 19              /* of the end */
 #define MAPSFORGE_NEXT_WATER 20                 /* of the end: whether the tile is marked as water */
@@ -241,10 +266,11 @@ uint64_t mapsforge_stream_open(const uint8_t *map, size_t map_len, const uint64_
 #define MAPSFORGE_POINT 0                       /* kinds, here and in mapsforge_fetch */
 #define MAPSFORGE_WAY 1
 #define MAPSFORGE_END 2                         /* only here */
-uint64_t mapsforge_stream_next(const uint8_t *map, size_t map_len, const uint64_t layout[5], uint64_t state[7], uint64_t words[21], int64_t signed_words[2], double degrees[2], uint64_t ids[15]);
+uint64_t mapsforge_stream_next(const uint8_t *map, size_t map_len, const uint64_t layout[7], uint64_t state[7], uint64_t words[21], int64_t signed_words[2], double degrees[2], uint64_t ids[15]);
 
 /* Decodes the waiting way. Its blocks' node counts, and all its latitudes and longitudes, go to the fronts of the lists; entries behind
- * them keep their values. degrees: the label's position. A refused call leaves the way waiting and the lists alone. */
+ * them keep their values. degrees: the label's position. A refused call leaves the way waiting and the lists alone.
+ *   a way writes words 6 to 17; degrees 0, 1 (0.0 without a label); state 0 to 6 */
 #define MAPSFORGE_ACCEPT_BLOCKS 6               /* words: how many node counts */
 #define MAPSFORGE_ACCEPT_NODES 7                /* and how many latitudes and longitudes went to the lists */
 #define MAPSFORGE_ACCEPT_NAME 8                 /* a part, 8 to 10 */
@@ -254,12 +280,15 @@ uint64_t mapsforge_stream_next(const uint8_t *map, size_t map_len, const uint64_
 #define MAPSFORGE_ACCEPT_WORDS 18
 uint64_t mapsforge_stream_accept(const uint8_t *map, size_t map_len, uint64_t state[7], uint64_t *node_counts, size_t node_counts_len, double *latitudes, size_t latitudes_len, double *longitudes, size_t longitudes_len, uint64_t words[18], double degrees[2]);
 
-/* Goes past the waiting way, by its stored size; astray, if that is wrong: see MAPSFORGE_COLLECT_EXACT. words: only the refusal's
- * values. */
+/* Goes past the waiting way, by its stored size; astray, if that is wrong: see MAPSFORGE_COLLECT_EXACT.
+ *   a way writes state 0 to 6 */
 uint64_t mapsforge_stream_decline(uint64_t state[7], uint64_t words[6]);
 
-/* Collects a tile: decodes every feature of it. points and ways: the zoom table, zeros behind its rows. Row r is how many features are
- * added at the interval's lowest zoom plus r. */
+/* Collects a tile: decodes every feature of it. points and ways: the zoom table. Row r is how many features are added at the interval's
+ * lowest zoom plus r. A tile that its index marks empty (the next entry has the same offset; of the last tile, its offset is the sub file's
+ * size) has no features, rows of 0, offset 0 and no signature; its stream is at its end, with its own water mark, and a fetch of it is refused
+ * with 17. So the next entry is read too, here, by mapsforge_stream_open and by mapsforge_fetch: a map that ends in it is refused with 19.
+ *   a tile writes words 6 to 13; points 0 to words[9] - 1; ways 0 to words[9] - 1 */
 #define MAPSFORGE_COLLECT_SIGNATURE 6           /* words: a part, 6 to 8 */
 #define MAPSFORGE_COLLECT_ROWS 9                /* how many rows the zoom table has */
 #define MAPSFORGE_COLLECT_FIRST_WAY_OFFSET 10   /* as stored, counted from behind it */
@@ -267,17 +296,20 @@ uint64_t mapsforge_stream_decline(uint64_t state[7], uint64_t words[6]);
 #define MAPSFORGE_COLLECT_WAYS 12
 #define MAPSFORGE_COLLECT_EXACT 13              /* whether every way's stored size is its decoded length: if so, ways can be declined */
 #define MAPSFORGE_COLLECT_WORDS 14
-uint64_t mapsforge_collect(const uint8_t *map, size_t map_len, const uint64_t layout[5], const uint64_t interval[6], int32_t x_min, int32_t y_min, int32_t x_max, int32_t y_max, size_t tile, uint64_t words[14], uint64_t points[256], uint64_t ways[256]);
+uint64_t mapsforge_collect(const uint8_t *map, size_t map_len, const uint64_t layout[7], const uint64_t interval[6], int32_t x_min, int32_t y_min, int32_t x_max, int32_t y_max, size_t tile, uint64_t words[14], uint64_t points[256], uint64_t ways[256]);
 
 /* Fetches feature k of a collected tile: points from 0, ways behind them. A way's node counts, latitudes and longitudes and its blocks'
  * initial latitudes and longitudes go to the fronts of the lists; the texts go to the buffer, one behind the other: the tags' strings in
- * the order of their ids, then name, house number and reference. signed_words: the layer, and a point's elevation. degrees: a point's
- * position, or a way's label's. ids: the tag ids, zeros behind them. tags: five words for each tag, zeros behind them. A refused call
- * leaves the lists and the buffer alone.
+ * the order of their ids, then name, house number and reference; all that stands behind keeps its values. signed_words: the layer, and a
+ * point's elevation, 0 if it has none. degrees: a point's position, or a way's label's. ids: the tag ids, zeros behind them. tags: five
+ * words for each tag, zeros behind them. A refused call leaves the lists and the buffer alone.
+ *   a point writes words 6 to 29; signed_words 0, 1; degrees 0, 1; ids 0 to 14; tags 0 to 74
+ *   a way writes words 6 to 28, 30 to 34; signed_words 0; degrees 0, 1 (0.0 without a label); ids 0 to 14; tags 0 to 74
  *
- * A text in the buffer has five words. They tell of the text, and of a tag: of a tag's string, split at its first = (which counts to
- * neither side; without one the value is empty); of a name, house number or reference, the tag with the key "name", "addr:housenumber" or
- * "ref" and the text as its value. The hash of n characters c: h = 0; for i from 0: h = (h + c[i]) * 31^(n - i + 1), modulo 2^64. */
+ * A text in the buffer has five words, zeros if it is not there. They tell of the text, and of a tag: of a tag's string, split at its
+ * first = (which counts to neither side; without one the value is empty); of a name, house number or reference, the tag with the key
+ * "name", "addr:housenumber" or "ref" and the text as its value. The hash of n characters c: h = 0; for i from 0:
+ * h = (h + c[i]) * 31^(n - i + 1), modulo 2^64. */
 #define MAPSFORGE_FETCH_KIND 6                  /* words: MAPSFORGE_POINT or MAPSFORGE_WAY */
 #define MAPSFORGE_FETCH_TAG_COUNT 7
 #define MAPSFORGE_FETCH_SIGNATURE 8             /* a part, 8 to 10 */
@@ -286,7 +318,7 @@ uint64_t mapsforge_collect(const uint8_t *map, size_t map_len, const uint64_t la
 #define MAPSFORGE_FETCH_HAS_HOUSE_NUMBER 17
 #define MAPSFORGE_FETCH_HOUSE_NUMBER 18         /* a text, 18 to 22 */
 #define MAPSFORGE_FETCH_HAS_REFERENCE 23
-#define MAPSFORGE_FETCH_REFERENCE 24            /* a text, 24 to 28, of a way */
+#define MAPSFORGE_FETCH_REFERENCE 24            /* a text, 24 to 28; a point has none, so that 23 to 28 are 0 */
 #define MAPSFORGE_FETCH_HAS_ELEVATION 29        /* of a point */
 #define MAPSFORGE_FETCH_BITMAP 30               /* of a way, as are those that follow; see MAPSFORGE_NEXT_BITMAP */
 #define MAPSFORGE_FETCH_DOUBLE_DELTA 31         /* whether its nodes are stored as differences of differences */
@@ -300,10 +332,11 @@ uint64_t mapsforge_collect(const uint8_t *map, size_t map_len, const uint64_t la
 #define MAPSFORGE_STRING_KEY_HASH 3
 #define MAPSFORGE_STRING_VALUE_HASH 4
 #define MAPSFORGE_STRING_WORDS 5
-uint64_t mapsforge_fetch(const uint8_t *map, size_t map_len, const uint64_t layout[5], const uint64_t interval[6], int32_t x_min, int32_t y_min, int32_t x_max, int32_t y_max, size_t tile, uint64_t feature, uint64_t *node_counts, size_t node_counts_len, double *latitudes, size_t latitudes_len, double *longitudes, size_t longitudes_len, double *initial_latitudes, size_t initial_latitudes_len, double *initial_longitudes, size_t initial_longitudes_len, uint8_t *buffer, size_t buffer_len, uint64_t words[35], int64_t signed_words[2], double degrees[2], uint64_t ids[15], uint64_t tags[75]);
+uint64_t mapsforge_fetch(const uint8_t *map, size_t map_len, const uint64_t layout[7], const uint64_t interval[6], int32_t x_min, int32_t y_min, int32_t x_max, int32_t y_max, size_t tile, uint64_t feature, uint64_t *node_counts, size_t node_counts_len, double *latitudes, size_t latitudes_len, double *longitudes, size_t longitudes_len, double *initial_latitudes, size_t initial_latitudes_len, double *initial_longitudes, size_t initial_longitudes_len, uint8_t *buffer, size_t buffer_len, uint64_t words[35], int64_t signed_words[2], double degrees[2], uint64_t ids[15], uint64_t tags[75]);
 
 /* The data of a way alone, from a place in the map on: measured, and read to the fronts of three lists. A refused call leaves the lists
- * alone. */
+ * alone.
+ *   a way writes words 6 to 8 */
 #define MAPSFORGE_WAY_DATA_BLOCKS 6             /* words: how many blocks */
 #define MAPSFORGE_WAY_DATA_NODES 7              /* and how many nodes there are */
 #define MAPSFORGE_WAY_DATA_END 8                /* the place behind them */

@@ -88,7 +88,7 @@ static inline uint64_t mapsforge_grid_of_box(const double box[4], uint8_t zoom, 
     return 0;
 }
 
-/* The grid of a sub file: degrees as mapsforge_open gave them, interval as mapsforge_interval gave it. */
+/* The grid of a sub file: degrees as mapsforge_open gave them, interval as mapsforge_interval gave it of one that is there. */
 static inline uint64_t mapsforge_grid_of_sub_file(const double degrees[6], const uint64_t interval[6], mapsforge_grid *grid) {
     return mapsforge_grid_of_box(degrees, (uint8_t)interval[MAPSFORGE_INTERVAL_BASE_ZOOM], grid);
 }

@@ -11,7 +11,7 @@ use crate::ours::Ours;
 use crate::rust::Rust;
 use crate::tally::Tally;
 use crate::way_data;
-use crate::work::{Side, WORKS};
+use crate::work::{Side, OURS_ALONE, WORKS};
 
 const SIDES: [&str; 2] = ["ours", "rust"];
 pub const WAY_DATA: &str = "way-data";
@@ -20,9 +20,13 @@ pub fn table(files: &[&str]) {
     println!("| map | work | ours | Rust | ours / Rust |");
     println!("|---|---|---:|---:|---:|");
     for file in files {
-        let name = Map::read(file).name;
+        let map = Map::read(file);
         for work in WORKS {
-            print_line(&name, work.name(), work.word(), Some(file));
+            print_line(&map.name, work.name(), work.word(), Some(file));
+        }
+        for work in OURS_ALONE.into_iter().filter(|_| map.left_out()[0] > 0) {
+            let ours = instructions(SIDES[0], work.word(), Some(file));
+            println!("| {} | {} | {ours} | | |", map.name, work.name());
         }
     }
     print_line("(none)", way_data::COUNTED.name, WAY_DATA, None);
@@ -31,6 +35,13 @@ pub fn table(files: &[&str]) {
 fn print_line(map: &str, name: &str, work: &str, file: Option<&str>) {
     let [ours, rust] = SIDES.map(|side| instructions(side, work, file));
     println!("| {map} | {name} | {ours} | {rust} | {:.2} |", ours as f64 / rust as f64);
+}
+
+/// Our side alone: each work on a map, and reading way data.
+pub fn ours(file: &str) -> Vec<(&'static str, u64)> {
+    let of_map = WORKS.map(|work| (work.word(), Some(file)));
+    let all = of_map.into_iter().chain([(WAY_DATA, None)]);
+    all.map(|(work, file)| (work, instructions(SIDES[0], work, file))).collect()
 }
 
 /// What callgrind collects inside of `bench_counted`. Its file stays, for callgrind_annotate.
@@ -66,7 +77,8 @@ fn total(profile: &str) -> u64 {
 /// Does a work, with all that it needs made before.
 pub fn alone(side: &str, work: &str, file: &str, times: u32) {
     let map = Map::read(file);
-    let work = WORKS.into_iter().find(|known| known.word() == work).expect("a known work");
+    let mut works = WORKS.into_iter().chain(OURS_ALONE);
+    let work = works.find(|known| known.word() == work).expect("a known work");
     let mut side: Box<dyn Side> =
         if is_ours(side) { Box::new(Ours::new(&map)) } else { Box::new(Rust::new(&map)) };
     let mut tally = Tally::counts();

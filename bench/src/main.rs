@@ -1,13 +1,15 @@
 //! The library measured against the Rust map reader, on the same bytes in one process.
 //!
 //! `bench [MAP...]` prints tables of times, `bench --instructions [MAP...]` a table of instructions.
-//! For a profiler, `bench count SIDE WORK MAP [TIMES]` does a work once or so many times, and
+//! `bench --check` compares our instructions on the shipped map with those that are kept, and
+//! `bench --keep` keeps them. For a profiler, `bench count SIDE WORK MAP [TIMES]` does a work once or so many times, and
 //! `bench count SIDE way-data` reads way data once.
 
 #[path = "../../compare/src/answer.rs"]
 #[allow(dead_code)]
 mod answer;
 mod counted;
+mod guard;
 mod map;
 mod ours;
 mod rust;
@@ -20,10 +22,13 @@ mod way_data;
 mod work;
 
 use std::env;
+use std::process::ExitCode;
 
 use map::Map;
 
-fn main() {
+const SHIPPED: &str = concat!(env!("CARGO_MANIFEST_DIR"), "/../maps/islands.map");
+
+fn main() -> ExitCode {
     let words: Vec<String> = env::args().skip(1).collect();
     match words.iter().map(String::as_str).collect::<Vec<_>>()[..] {
         ["count", side, counted::WAY_DATA] => counted::way_data(side),
@@ -32,13 +37,15 @@ fn main() {
             counted::alone(side, work, file, times.parse().expect("a number of times"))
         }
         ["--instructions", ref files @ ..] => counted::table(&or_shipped(files)),
+        ["--check"] => return guard::check(),
+        ["--keep"] => guard::keep(),
         ref files => tables(&or_shipped(files)),
     }
+    ExitCode::SUCCESS
 }
 
 /// The named maps, or the shipped one.
 fn or_shipped<'a>(files: &[&'a str]) -> Vec<&'a str> {
-    const SHIPPED: &str = concat!(env!("CARGO_MANIFEST_DIR"), "/../maps/islands.map");
     if files.is_empty() {
         vec![SHIPPED]
     } else {

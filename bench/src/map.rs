@@ -5,7 +5,7 @@ use std::fs;
 use std::path::Path;
 use std::process;
 
-use mapsforge_rs::grid::Grid;
+use mapsforge_rs::grid::{self, Grid};
 use mapsforge_rs::types::{BoundingBox, MapFile, ZoomInterval};
 
 use crate::source::Source;
@@ -18,11 +18,22 @@ pub struct Map {
 
 pub struct SubFile {
     pub grid: Grid,
-    pub tiles: usize,
     pub lowest_zoom: u8,
+    /// The tiles that both sides read.
+    pub tiles: Vec<usize>,
+    /// Those that the index marks empty: ours reads nothing of them, and the Rust the next tile's bytes.
+    pub empty: Vec<usize>,
+    /// How many are left out besides: ours refuses them since the next entry is cut off, at which the Rust does not look.
+    pub cut_off: u64,
 }
 
 impl Map {
+    /// How many tiles are marked empty, and how many have no next entry.
+    pub fn left_out(&self) -> [u64; 2] {
+        let empty = self.sub_files.iter().map(|sub_file| sub_file.empty.len() as u64).sum();
+        [empty, self.sub_files.iter().map(|sub_file| sub_file.cut_off).sum()]
+    }
+
     /// A file that is no map to measure ends the program, with status 2.
     pub fn read(file: &str) -> Self {
         Map::of(file).unwrap_or_else(|why| {
@@ -41,20 +52,34 @@ impl Map {
 
 fn sub_files(map: &[u8]) -> Result<Vec<SubFile>, String> {
     let opened = MapFile::from_source(Source::new(map));
-    let file = opened.map_err(|error| format!("is not a map that opens: {error}"))?;
-    let header = &file.header;
-    let intervals = header.zoom_interval_configuration.iter();
-    intervals.map(|interval| sub_file(&header.bounding_box, interval)).collect()
+    let mut file = opened.map_err(|error| format!("is not a map that opens: {error}"))?;
+    let count = file.header.zoom_interval_configuration.len();
+    (0..count).map(|number| sub_file(&mut file, number)).collect()
 }
 
-fn sub_file(bounds: &BoundingBox, interval: &ZoomInterval) -> Result<SubFile, String> {
-    let grid = grid(bounds, interval.base_zoom_level);
+/// The tiles by their entries, as the Rust reads them.
+fn sub_file(file: &mut MapFile<Source>, number: usize) -> Result<SubFile, String> {
+    let ZoomInterval { base_zoom_level, min_zoom_level: lowest_zoom, sub_file_size, .. } =
+        file.header.zoom_interval_configuration[number];
+    let grid = grid_of(&file.header.bounding_box, base_zoom_level);
     let tiles = grid.tiles().ok_or("has a bounding box that gives no grid of tiles")? as usize;
-    Ok(SubFile { grid, tiles, lowest_zoom: interval.min_zoom_level })
+    grid::lend(grid);
+    let offset = |tile| file.tile_index_entry(number, tile).ok().map(|entry| entry.offset);
+    let mut offsets: Vec<Option<u64>> = (0..tiles).map(offset).collect();
+    offsets.push(Some(sub_file_size));
+    let mut found = SubFile { grid, lowest_zoom, tiles: Vec::new(), empty: Vec::new(), cut_off: 0 };
+    for (tile, pair) in offsets.windows(2).enumerate() {
+        match pair {
+            [Some(own), Some(next)] if own == next => found.empty.push(tile),
+            [Some(_), None] => found.cut_off += 1,
+            _ => found.tiles.push(tile),
+        }
+    }
+    Ok(found)
 }
 
 /// The Rust's own grid, reckoned as its `get_tiles` does.
-fn grid(bounds: &BoundingBox, zoom: u8) -> Grid {
+fn grid_of(bounds: &BoundingBox, zoom: u8) -> Grid {
     let n = (1u64 << zoom) as f64;
     let column = |longitude: f64| (n * (longitude + 180.0) / 360.0) as i32;
     let row = |latitude: f64| {

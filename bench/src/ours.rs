@@ -34,17 +34,24 @@ impl Side for Ours<'_> {
             return tally.digest(|fold| header(fold, &self.calls));
         }
         for (sub_file, of) in self.map.sub_files.iter().enumerate() {
-            if work == Work::Interval {
-                self.interval(sub_file, tally);
-                continue;
+            match work {
+                Work::Interval => {
+                    self.interval(sub_file, tally);
+                    continue;
+                }
+                Work::SubFile => {
+                    self.sub_file(of.lowest_zoom, tally);
+                    continue;
+                }
+                _ => (),
             }
-            let SubFile { grid, tiles, lowest_zoom } = *of;
+            let SubFile { grid, lowest_zoom, .. } = *of;
             let zoom = if work == Work::Lowest { lowest_zoom } else { u8::MAX };
-            for tile in 0..tiles {
+            for &tile in work.tiles(of) {
                 tally.tiles += 1;
                 let address = Address { sub_file, grid, tile };
                 let done = match work {
-                    Work::Collect => self.collect(&address, tally),
+                    Work::Collect | Work::EmptyCollect => self.collect(&address, tally),
                     Work::Fetch => self.fetch(&address, tally),
                     _ => self.stream(&address, zoom, work != Work::Decline, tally),
                 };
@@ -64,10 +71,15 @@ fn done(number: u64) -> Result<(), u64> {
 
 impl Ours<'_> {
     fn interval(&mut self, sub_file: usize, tally: &mut Tally) {
-        let mut interval = [0; 6];
-        assert_eq!(self.calls.interval(sub_file, &mut interval), 0, "it opened before");
-        tally.intervals += 1;
-        tally.digest(|fold| fold.words(&interval[1..]));
+        assert_eq!(self.calls.interval(sub_file), 0, "it opened before");
+        tally.calls += 1;
+        tally.digest(|fold| fold.words(&self.calls.interval[1..]));
+    }
+
+    fn sub_file(&mut self, zoom: u8, tally: &mut Tally) {
+        assert_eq!(self.calls.sub_file(zoom), 0, "it opened before");
+        tally.calls += 1;
+        tally.digest(|fold| fold.words(&self.calls.found[6..]));
     }
 
     fn stream(
@@ -121,8 +133,11 @@ impl Ours<'_> {
         let [points, ways] = [calls.collected.words[11], calls.collected.words[12]];
         for feature in 0..points + ways {
             done(calls.fetch(address, feature))?;
-            tally.blocks += calls.fetched.words[32];
-            tally.nodes += calls.fetched.words[33];
+            // a point leaves the words of a way as they were
+            if calls.fetched.words[6] == WAY {
+                tally.blocks += calls.fetched.words[32];
+                tally.nodes += calls.fetched.words[33];
+            }
             tally.digest(|fold| fetched(fold, calls));
         }
         Ok(())

@@ -34,13 +34,20 @@ impl Side for Rust<'_> {
             return tally.digest(|fold| header(fold, &file.header));
         }
         for (sub_file, of) in self.map.sub_files.iter().enumerate() {
-            if work == Work::Interval {
-                self.interval(sub_file, tally);
-                continue;
+            match work {
+                Work::Interval => {
+                    self.interval(sub_file, tally);
+                    continue;
+                }
+                Work::SubFile => {
+                    self.sub_file(of.lowest_zoom, tally);
+                    continue;
+                }
+                _ => (),
             }
             grid::lend(of.grid);
             let zoom = if work == Work::Lowest { of.lowest_zoom } else { u8::MAX };
-            for tile in 0..of.tiles {
+            for &tile in work.tiles(of) {
                 tally.tiles += 1;
                 match work {
                     Work::Collect => self.collect(sub_file, tile, tally, collected),
@@ -56,8 +63,14 @@ impl Rust<'_> {
     fn interval(&self, sub_file: usize, tally: &mut Tally) {
         let got = self.file.header.zoom_interval_configuration.get(black_box(sub_file));
         let got = black_box(got.expect("a sub file"));
-        tally.intervals += 1;
+        tally.calls += 1;
         tally.digest(|fold| interval(fold, got));
+    }
+
+    fn sub_file(&self, zoom: u8, tally: &mut Tally) {
+        let found = black_box(self.file.sub_file_for_zoom(black_box(zoom)));
+        tally.calls += 1;
+        tally.digest(|fold| fold.words(&[1, found.expect("a sub file") as u64]));
     }
 
     fn stream(&mut self, sub_file: usize, tile: usize, zoom: u8, accept: bool, tally: &mut Tally) {

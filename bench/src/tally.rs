@@ -4,7 +4,7 @@ use crate::answer::Fold;
 
 #[derive(Default, PartialEq, Debug)]
 pub struct Tally {
-    pub intervals: u64,
+    pub calls: u64,
     pub tiles: u64,
     pub points: u64,
     pub ways: u64,
@@ -27,8 +27,7 @@ impl Tally {
 
     /// Whether what was counted is the same.
     pub fn same_counts(&self, other: &Tally) -> bool {
-        let counts =
-            |t: &Tally| [t.intervals, t.tiles, t.points, t.ways, t.blocks, t.nodes, t.refused];
+        let counts = |t: &Tally| [t.calls, t.tiles, t.points, t.ways, t.blocks, t.nodes, t.refused];
         counts(self) == counts(other)
     }
 

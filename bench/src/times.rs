@@ -6,7 +6,7 @@ use crate::map::Map;
 use crate::ours::Ours;
 use crate::rust::Rust;
 use crate::tally::Tally;
-use crate::work::{Side, Work, WORKS};
+use crate::work::{Side, Work, OURS_ALONE, WORKS};
 
 /// What a side should take in a round, so that the clock's own time does not count.
 const SECONDS: f64 = 0.002;
@@ -17,15 +17,17 @@ const MOST_ROUNDS: usize = 400;
 
 type Sides<'a> = [Box<dyn Side + 'a>; 2];
 
-/// What is in the maps, by their streams.
+/// What is in the maps, by their streams. Both sides read the tiles that are counted first; those that are marked empty
+/// are left out, and so are those whose next entry is cut off.
 pub fn contents(maps: &[Map]) {
-    println!("| map | bytes | sub files | tiles | refused tiles | points | ways | nodes |");
-    println!("|---|---:|---:|---:|---:|---:|---:|---:|");
+    println!("| map | bytes | sub files | tiles | left out: empty | cut off | refused tiles | points | ways | nodes |");
+    println!("|---|---:|---:|---:|---:|---:|---:|---:|---:|---:|");
     for map in maps {
         let Tally { tiles, refused, points, ways, nodes, .. } =
             same(&map.name, Work::Accept, &mut sides(map));
+        let [empty, cut_off] = map.left_out();
         println!(
-            "| {} | {} | {} | {tiles} | {refused} | {points} | {ways} | {nodes} |",
+            "| {} | {} | {} | {tiles} | {empty} | {cut_off} | {refused} | {points} | {ways} | {nodes} |",
             map.name,
             map.bytes.len(),
             map.sub_files.len()
@@ -45,7 +47,24 @@ pub fn table(maps: &[Map]) {
             due.for_each(|line| line.round(&mut sides));
         }
         lines.into_iter().for_each(|line| line.print(&map.name));
+        if map.left_out()[0] > 0 {
+            OURS_ALONE.iter().for_each(|&work| alone(map, work, sides[0].as_mut()));
+        }
     }
+}
+
+/// A line of ours alone: the least time of its rounds.
+fn alone(map: &Map, work: Work, ours: &mut dyn Side) {
+    let mut wanted = Tally::counts();
+    ours.run(work, &mut wanted);
+    assert_eq!([wanted.points, wanted.ways, wanted.refused], [0; 3], "an empty tile has nothing");
+    let once = seconds(ours, work, 1, &wanted);
+    let times = (SECONDS / once).ceil() as u32;
+    let round = || seconds(ours, work, times, &wanted);
+    let least = std::iter::repeat_with(round).take(MOST_ROUNDS).fold(f64::MAX, f64::min);
+    let (item, count) = work.items(&wanted);
+    let ours = least * 1e9 / count as f64;
+    println!("| {} | {} | {count} {item}s | {ours:.1} | | | |", map.name, work.name());
 }
 
 /// A work on a map, and its times so far.
@@ -87,6 +106,10 @@ impl Line {
 
     fn print(mut self, map: &str) {
         let (item, count) = self.work.items(&self.wanted);
+        // a map may have no tile but empty ones
+        if count == 0 {
+            return;
+        }
         let plural = if count == 1 { "" } else { "s" };
         let [ours, rust] = self.least.map(|seconds| seconds * 1e9 / count as f64);
         self.ratios.sort_by(f64::total_cmp);

@@ -47,7 +47,7 @@ compare/run [--rust FOLDER] COMMAND ARGS...
   figures             checks document 01's worked figures; fails on a difference
   help                this text
 
-scale, book, zooming and altered link target/staticlib/libexports.a, which host/library builds first, or that of the folder
+scale, book, zooming and altered link target/staticlib/libmapsforge.a, which host/library builds first, or that of the folder
 MAPSFORGE_LIB names.
 
 FOLDER holds the Rust: error.rs, io.rs and so on. By default it is compare/mapsforge-rs.

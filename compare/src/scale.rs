@@ -16,6 +16,7 @@ mod damage;
 mod foreign;
 mod held;
 mod indexed;
+mod intervals;
 mod known;
 mod lent;
 mod library;

@@ -10,17 +10,12 @@ fn main() -> Result<(), Box<dyn Error>> {
     for sub_file in map.sub_files() {
         let sub_file = sub_file?;
         for place in sub_file.tiles()? {
-            // The writer marks tiles without features; there is nothing of theirs to read.
-            if sub_file.marked_empty(place.number)? {
-                continue;
-            }
             let corner = sub_file.corner(place)?;
             for point in sub_file.collect(place.number)?.points() {
                 let point = point?;
-                let Some(name) = point.name else { continue };
-                // Behind the first name come those in other languages.
-                let name = name.split('\r').next().unwrap_or("");
-                let at = corner.offset(point.position);
+                // In English where the map has that, else as it is called there.
+                let Some(name) = point.name_in("en") else { continue };
+                let at = corner + point.offset;
                 println!("{:.6} {:.6} {name}", at.latitude, at.longitude);
             }
         }

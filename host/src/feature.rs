@@ -1,7 +1,7 @@
 //! Fetched features.
 
 use crate::raw::{self, FetchLists, FetchWords};
-use crate::{word, Lengths, Part, Position, Refusal, SubFile};
+use crate::{word, Lengths, Name, Offset, Part, Refusal, SubFile};
 
 /// A tag of a feature, with the hashes that the format's readers look it up by.
 #[derive(Clone, Debug, PartialEq, Eq)]
@@ -22,7 +22,7 @@ pub struct Point<'a> {
     /// The signature, in a debug map.
     pub signature: Option<Part<'a>>,
     /// The offset from the tile's north-western corner.
-    pub position: Position,
+    pub offset: Offset,
     /// The layer, from -5 to 10.
     pub layer: i8,
     /// The tags' numbers in [`crate::Map::point_tags`].
@@ -37,13 +37,20 @@ pub struct Point<'a> {
     pub elevation: Option<i32>,
 }
 
+impl Point<'_> {
+    /// The name in a language; see [`Name::name_in`].
+    pub fn name_in(&self, language: &str) -> Option<&str> {
+        self.name.as_deref().map(|name| Name::new(name).name_in(language))
+    }
+}
+
 /// A part of a way: of an area, its outline or a hole.
 #[derive(Clone, Debug, PartialEq)]
 pub struct Block {
-    /// The first node's position, or zeros where there is no node.
-    pub initial: Position,
+    /// The first node's offset, or zeros where there is no node.
+    pub initial: Offset,
     /// The nodes, as offsets from the tile's north-western corner.
-    pub nodes: Vec<Position>,
+    pub nodes: Vec<Offset>,
 }
 
 impl Block {
@@ -55,7 +62,7 @@ impl Block {
 
 /// Whether a block's last node is its first one again. Nodes are sums of rounded steps, so that the two may differ by
 /// less than the microdegree in which positions are stored.
-pub fn closed(nodes: &[Position]) -> bool {
+pub fn closed(nodes: &[Offset]) -> bool {
     let [first, .., last] = nodes else {
         return false;
     };
@@ -83,11 +90,18 @@ pub struct Way<'a> {
     /// The reference.
     pub reference: Option<String>,
     /// Where to put a label, as an offset from the first node.
-    pub label: Option<Position>,
+    pub label: Option<Offset>,
     /// The blocks of nodes.
     pub blocks: Vec<Block>,
     /// Whether the nodes are stored as differences of differences.
     pub double_delta: bool,
+}
+
+impl Way<'_> {
+    /// The name in a language; see [`Name::name_in`].
+    pub fn name_in(&self, language: &str) -> Option<&str> {
+        self.name.as_deref().map(|name| Name::new(name).name_in(language))
+    }
 }
 
 /// A point or a way.
@@ -184,10 +198,10 @@ impl Buffers {
         if words[word::FETCH_KIND] == word::POINT {
             let elevation = got.signed_words[word::ELEVATION] as i32;
             let elevation = (words[word::FETCH_HAS_ELEVATION] != 0).then_some(elevation);
-            let position = Position::of(got.degrees);
+            let offset = Offset::of(got.degrees);
             return Feature::Point(Point {
                 signature,
-                position,
+                offset,
                 layer,
                 tag_ids,
                 tags,
@@ -205,7 +219,7 @@ impl Buffers {
             name,
             house_number,
             reference,
-            label: (words[word::FETCH_HAS_LABEL] != 0).then(|| Position::of(got.degrees)),
+            label: (words[word::FETCH_HAS_LABEL] != 0).then(|| Offset::of(got.degrees)),
             blocks: self.blocks(words[word::FETCH_BLOCKS] as usize),
             double_delta: words[word::FETCH_DOUBLE_DELTA] != 0,
         })
@@ -217,7 +231,7 @@ impl Buffers {
         initial
             .zip(nodes)
             .map(|((&latitude, &longitude), nodes)| Block {
-                initial: Position { latitude, longitude },
+                initial: Offset { latitude, longitude },
                 nodes,
             })
             .collect()
@@ -237,11 +251,11 @@ pub(crate) fn split_nodes(
     node_counts: &[u64],
     latitudes: &[f64],
     longitudes: &[f64],
-) -> Vec<Vec<Position>> {
+) -> Vec<Vec<Offset>> {
     let mut nodes = latitudes
         .iter()
         .zip(longitudes)
-        .map(|(&latitude, &longitude)| Position { latitude, longitude });
+        .map(|(&latitude, &longitude)| Offset { latitude, longitude });
     node_counts.iter().map(|&count| nodes.by_ref().take(count as usize).collect()).collect()
 }
 

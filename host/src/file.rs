@@ -4,6 +4,7 @@ use crate::raw::Mapping;
 use crate::{Map, Refusal};
 use std::fs::{self, File};
 use std::io::{self, Read};
+use std::os::unix::fs::FileTypeExt;
 use std::path::Path;
 
 /// A map file's bytes, mapped into memory: only the parts that are read are loaded.
@@ -25,6 +26,32 @@ pub struct MapFile {
     content: Content,
 }
 
+/// How much is read before the header is looked at.
+const FIRST_READ: u64 = 1 << 16;
+
+/// Refuses what is no regular file. It is asked before opening, which would wait at a pipe for somebody to write to it.
+fn regular(path: &Path) -> io::Result<()> {
+    let about = fs::metadata(path)?;
+    if about.is_file() {
+        return Ok(());
+    }
+    let text = format!("is {}, no file", file_kind(about.file_type()));
+    Err(io::Error::new(io::ErrorKind::InvalidInput, text))
+}
+
+/// What a file is that is none, in a word.
+fn file_kind(kind: fs::FileType) -> &'static str {
+    if kind.is_dir() {
+        "a folder"
+    } else if kind.is_fifo() {
+        "a pipe"
+    } else if kind.is_socket() {
+        "a socket"
+    } else {
+        "a device"
+    }
+}
+
 #[derive(Debug)]
 enum Content {
     Mapped(Mapping),
@@ -32,21 +59,46 @@ enum Content {
 }
 
 impl MapFile {
-    /// Maps a file into memory. What cannot be mapped (an empty file, a pipe) is read.
+    /// Maps a file into memory. What is no regular file (a folder, a pipe, a device) is refused: reading it may never end. Pipes
+    /// are for [`MapFile::from_reader`].
     pub fn open(path: impl AsRef<Path>) -> io::Result<MapFile> {
-        let mut file = File::open(path)?;
-        let about = file.metadata()?;
-        let length = usize::try_from(about.len()).map_err(io::Error::other)?;
-        if !about.is_file() || length == 0 {
-            let mut bytes = Vec::new();
-            file.read_to_end(&mut bytes)?;
-            return Ok(MapFile { content: Content::Read(bytes) });
+        regular(path.as_ref())?;
+        let file = File::open(path)?;
+        let length = usize::try_from(file.metadata()?.len()).map_err(io::Error::other)?;
+        if length == 0 {
+            return Ok(MapFile { content: Content::Read(Vec::new()) });
         }
         Ok(MapFile { content: Content::Mapped(Mapping::new(&file, length)?) })
     }
 
+    /// Reads a map from something that may have no end. It reads until the map opens, then as far as the header says that
+    /// the file goes and one byte more, by which what is behind it is noticed. It stops at once where this is no map, and
+    /// at `most` bytes with an error.
+    pub fn from_reader(mut reader: impl Read, most: u64) -> io::Result<MapFile> {
+        let mut bytes = Vec::new();
+        let mut wanted = FIRST_READ.min(most);
+        loop {
+            let missing = wanted.saturating_sub(bytes.len() as u64);
+            let ended = (reader.by_ref().take(missing).read_to_end(&mut bytes)? as u64) < missing;
+            let next = match Map::open(&bytes) {
+                Ok(map) => map.header().file_size.saturating_add(1),
+                Err(Refusal::Source) => wanted.saturating_mul(2),
+                Err(_) => wanted,
+            };
+            if ended || next <= wanted {
+                return Ok(MapFile { content: Content::Read(bytes) });
+            }
+            if wanted == most {
+                let text = format!("has more than {most} bytes");
+                return Err(io::Error::new(io::ErrorKind::FileTooLarge, text));
+            }
+            wanted = next.min(most);
+        }
+    }
+
     /// Reads a file whole into this program's own memory, so that nobody can change it.
     pub fn read(path: impl AsRef<Path>) -> io::Result<MapFile> {
+        regular(path.as_ref())?;
         Ok(MapFile { content: Content::Read(fs::read(path)?) })
     }
 

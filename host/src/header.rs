@@ -1,27 +1,6 @@
 //! What a map's header says.
 
-use crate::{raw, word, Part, Refusal};
-
-/// A position in degrees, or an offset in degrees.
-#[derive(Clone, Copy, Debug, Default, PartialEq)]
-pub struct Position {
-    /// Degrees to the north.
-    pub latitude: f64,
-    /// Degrees to the east.
-    pub longitude: f64,
-}
-
-impl Position {
-    /// A position of two degrees as the library gives them.
-    pub(crate) fn of(degrees: [f64; word::POSITION_DEGREES]) -> Position {
-        Position { latitude: degrees[word::LATITUDE], longitude: degrees[word::LONGITUDE] }
-    }
-
-    /// The position that lies by an offset from this one.
-    pub fn offset(self, by: Position) -> Position {
-        Position { latitude: self.latitude + by.latitude, longitude: self.longitude + by.longitude }
-    }
-}
+use crate::{raw, word, Part, Position, Refusal};
 
 /// The box that a map covers, in degrees.
 #[derive(Clone, Copy, Debug, PartialEq)]
@@ -53,9 +32,13 @@ pub struct ZoomInterval {
 
 impl ZoomInterval {
     /// The interval of a sub file that the header has.
-    pub(crate) fn read(map: &[u8], sub_file: usize) -> Result<ZoomInterval, Refusal> {
+    pub(crate) fn read(
+        map: &[u8],
+        layout: &[u64; word::LAYOUT_WORDS],
+        sub_file: usize,
+    ) -> Result<ZoomInterval, Refusal> {
         let (mut words, mut interval) = ([0; word::VALUES], [0; word::INTERVAL_WORDS]);
-        Refusal::check(raw::interval(map, sub_file, &mut words, &mut interval), &words)?;
+        Refusal::check(raw::interval(map, layout, sub_file, &mut words, &mut interval), &words)?;
         if interval[word::INTERVAL_THERE] == 0 {
             return Err(Refusal::InvalidTileIndex);
         }

@@ -1,6 +1,6 @@
 //! Reads Mapsforge binary maps by a library in which every function is proved to meet its contract.
 //!
-//! This crate wraps that library (target/staticlib/libexports.a of the repository) for Rust. The library keeps no state
+//! This crate wraps that library (target/staticlib/libmapsforge.a of the repository) for Rust. The library keeps no state
 //! and allocates nothing; this crate keeps what it gave of the header, so that no tile's call opens the map again, and
 //! adds the memory that grows, the latitude rows of a sub file's grid, and types.
 //!
@@ -34,8 +34,9 @@
 //! # Ok::<(), Box<dyn std::error::Error>>(())
 //! ```
 //!
-//! Where to start: [`MapFile`] or [`Map`], then [`SubFile`], then [`Tile`] or [`Stream`]. [`check`] tells of each tile of
-//! a map whether stream and collected tile agree. [`raw`] has every function of the library as it is, safe to call.
+//! Where to start: [`MapFile`] or [`Map`], then [`SubFile`], then [`Tile`] or [`Stream`], or [`Placed`] for features at
+//! their places on earth. [`check`] tells of each tile of a map whether stream and collected tile agree, [`diff`] what
+//! changed from one map to another. [`raw`] has every function of the library as it is, safe to call.
 
 #![deny(unsafe_code)]
 #![warn(missing_docs)]
@@ -44,13 +45,18 @@
 compile_error!("the library is built for x86-64 Linux");
 
 pub mod check;
+pub mod diff;
 mod feature;
 mod file;
 mod grid;
 mod header;
 mod map;
+mod name;
 mod part;
-#[allow(unsafe_code)]
+mod placed;
+mod position;
+// Its functions take what the library's take.
+#[allow(unsafe_code, clippy::too_many_arguments)]
 pub mod raw;
 mod refusal;
 mod stream;
@@ -65,11 +71,14 @@ pub mod word;
 pub use feature::{closed, Block, Buffers, Feature, Point, Tag, Way};
 pub use file::MapFile;
 pub use grid::{latitude_of_row, row_of_latitude, Grid, LATITUDE_LIMIT};
-pub use header::{BoundingBox, Header, Position, ZoomInterval};
+pub use header::{BoundingBox, Header, ZoomInterval};
 pub use map::Map;
+pub use name::Name;
 pub use part::Part;
+pub use placed::{Kind, Line, Placed, PlacedStream};
+pub use position::{Offset, Position, EARTH_RADIUS};
 pub use refusal::{Lengths, Refusal, TileRefusal};
-pub use stream::{Lists, Step, Stream, StreamEnd, StreamedBody, StreamedPoint, WayHead};
+pub use stream::{Lists, Step, Stream, StreamEnd, StreamedBody, StreamedPoint, ToCome, WayHead};
 pub use sub_file::{IndexEntry, SubFile, TilePlace, TilePlaces};
-pub use tags::{InlineKind, TagName, TagNames};
+pub use tags::{InlineKind, NoKey, TagFilter, TagName, TagNames};
 pub use tile::{Features, Tile};

@@ -33,7 +33,7 @@ impl<'a> Map<'a> {
         Refusal::check(raw::open(bytes, &mut words, &mut degrees, &mut layout), &words)?;
         let table = |place: usize, count: usize| TagNames::read(bytes, words[place], words[count]);
         let intervals = (0..words[word::OPEN_SUB_FILES] as usize)
-            .map(|sub_file| ZoomInterval::read(bytes, sub_file))
+            .map(|sub_file| ZoomInterval::read(bytes, &layout, sub_file))
             .collect::<Result<_, _>>()?;
         Ok(Map {
             bytes,
@@ -55,7 +55,7 @@ impl<'a> Map<'a> {
         &self.header
     }
 
-    /// What the calls of [`raw`] about a tile take of the header.
+    /// What the calls of [`raw`] about tiles and sub files take of the header.
     pub fn layout(&self) -> &[u64; word::LAYOUT_WORDS] {
         &self.layout
     }
@@ -88,7 +88,7 @@ impl<'a> Map<'a> {
     /// The first sub file that serves the zoom, if there is one.
     pub fn sub_file_for_zoom(&self, zoom: u8) -> Result<Option<SubFile<'_, 'a>>, Refusal> {
         let mut words = [0; word::SUB_FILE_WORDS];
-        Refusal::check(raw::sub_file(self.bytes, zoom, &mut words), &words)?;
+        Refusal::check(raw::sub_file(self.bytes, &self.layout, zoom, &mut words), &words)?;
         if words[word::SUB_FILE_THERE] == 0 {
             return Ok(None);
         }

@@ -1,16 +1,20 @@
 //! The library's functions as they are, with slices and arrays for addresses: safe to call with anything.
 //!
 //! include/mapsforge.h says what each word is; [`crate::word`] has their names. Each function gives 0, or the number of a
-//! refusal, whose values are then words 0 to 5 (see [`crate::Refusal::check`]). A layout is what [`open`] gave, an interval
-//! what [`interval`] gave of the sub file, and any other words will do. All `unsafe` code of this crate is in this file.
+//! refusal, whose values are then at the front of the words (see [`crate::Refusal::check`]). An answer writes its own
+//! words, which mapsforge.h lists, and the others keep the values that were lent. A layout is what [`open`] gave, an
+//! interval what [`interval`] gave of the sub file, and any other words will do. All `unsafe` code of this crate is in this
+//! file.
 //!
 //! ```
 //! use mapsforge::raw;
 //!
-//! // Nothing waits in a stream of zeros: refusal 16.
-//! assert_eq!(raw::stream_decline(&mut [0; 7], &mut [0; 6]), 16);
+//! // Nothing waits in a stream of zeros: refusal 16, which has no values and touches nothing.
+//! let mut values = [7; 6];
+//! assert_eq!(raw::stream_decline(&mut [0; 7], &mut values), 16);
+//! assert_eq!(values, [7; 6]);
 //! // An interval of zeros is that of no sub file: refusal 8.
-//! assert_eq!(raw::index_entry(&[], &[0; 5], &[0; 6], [0; 4], 0, &mut [0; 9]), 8);
+//! assert_eq!(raw::index_entry(&[], &[0; 7], &[0; 6], [0; 4], 0, &mut [0; 9]), 8);
 //! ```
 //!
 //! Each call is sound for one reason, which holds for every block below unless it says otherwise: a slice or array is
@@ -37,18 +41,24 @@ pub fn open(
 /// The zoom interval of a sub file, as other calls take it.
 pub fn interval(
     map: &[u8],
+    layout: &[u64; word::LAYOUT_WORDS],
     sub_file: usize,
     words: &mut [u64; word::VALUES],
     interval: &mut [u64; word::INTERVAL_WORDS],
 ) -> u64 {
     // SAFETY: borrowed for the call, at their lengths.
-    unsafe { sys::mapsforge_interval(map.as_ptr(), map.len(), sub_file, words, interval) }
+    unsafe { sys::mapsforge_interval(map.as_ptr(), map.len(), layout, sub_file, words, interval) }
 }
 
 /// The first sub file whose interval has the zoom.
-pub fn sub_file(map: &[u8], zoom: u8, words: &mut [u64; word::SUB_FILE_WORDS]) -> u64 {
+pub fn sub_file(
+    map: &[u8],
+    layout: &[u64; word::LAYOUT_WORDS],
+    zoom: u8,
+    words: &mut [u64; word::SUB_FILE_WORDS],
+) -> u64 {
     // SAFETY: borrowed for the call, at their lengths.
-    unsafe { sys::mapsforge_sub_file(map.as_ptr(), map.len(), zoom, words) }
+    unsafe { sys::mapsforge_sub_file(map.as_ptr(), map.len(), layout, zoom, words) }
 }
 
 /// Tag k of a table of the header.
@@ -286,7 +296,7 @@ pub struct FetchLists<'a> {
     pub buffer: &'a mut [u8],
 }
 
-/// The words that [`fetch`] writes.
+/// The words that are lent to [`fetch`]; a point and a way each write their own.
 #[derive(Clone, Debug)]
 pub struct FetchWords {
     /// As mapsforge.h has them.

@@ -1,7 +1,7 @@
 //! A tile's stream.
 
 use crate::feature::{grow, split_nodes};
-use crate::{raw, word, Map, Part, Position, Refusal, SubFile, TagName, TagNames};
+use crate::{raw, word, Map, Name, Offset, Part, Refusal, SubFile, TagName, TagNames};
 
 /// A tile's stream: points, then ways' heads, each of which waits until it is accepted or declined, then the end.
 ///
@@ -32,7 +32,7 @@ pub struct Stream<'m, 'a> {
 pub struct StreamedPoint<'m, 'a> {
     names: &'m TagNames<'a>,
     /// The offset from the tile's north-western corner.
-    pub position: Position,
+    pub offset: Offset,
     /// The layer, from -5 to 10.
     pub layer: i8,
     /// The tags' numbers in [`Map::point_tags`].
@@ -66,6 +66,19 @@ pub struct StreamEnd {
     pub water: bool,
 }
 
+/// What is still to come in a stream; see [`Stream::to_come`].
+#[derive(Clone, Copy, Debug, PartialEq, Eq)]
+pub struct ToCome {
+    /// How many points.
+    pub points: u64,
+    /// How many ways.
+    pub ways: u64,
+    /// Where the next point stands in the map; behind the last one, where the points end.
+    pub next_point: u64,
+    /// Where the next way stands; behind the last one, where the ways end.
+    pub next_way: u64,
+}
+
 /// What [`Stream::next`] gives.
 #[derive(Clone, Debug)]
 pub enum Step<'m, 'a> {
@@ -79,7 +92,7 @@ pub enum Step<'m, 'a> {
 
 /// An accepted way's body. Texts are parts of the map, empty where they are no UTF-8.
 #[derive(Clone, Debug, PartialEq)]
-pub struct StreamedBody<'a, Blocks = Vec<Vec<Position>>> {
+pub struct StreamedBody<'a, Blocks = Vec<Vec<Offset>>> {
     /// The name.
     pub name: Option<Part<'a>>,
     /// The house number.
@@ -87,7 +100,7 @@ pub struct StreamedBody<'a, Blocks = Vec<Vec<Position>>> {
     /// The reference.
     pub reference: Option<Part<'a>>,
     /// Where to put a label, as an offset from the first node.
-    pub label: Option<Position>,
+    pub label: Option<Offset>,
     /// The blocks of nodes, as offsets from the tile's north-western corner; or, with lent lists, how many node counts
     /// and how many nodes went to their fronts.
     pub blocks: Blocks,
@@ -121,6 +134,18 @@ impl<'a> StreamedPoint<'_, 'a> {
     /// Whether the point has this tag.
     pub fn has_tag(&self, key: &str, value: &str) -> bool {
         self.tags().any(|tag| tag.is(key, value))
+    }
+
+    /// The name in a language; see [`Name::name_in`].
+    pub fn name_in(&self, language: &str) -> Option<&'a str> {
+        self.name.and_then(Part::as_str).map(|name| Name::new(name).name_in(language))
+    }
+}
+
+impl<'a, Blocks> StreamedBody<'a, Blocks> {
+    /// The name in a language; see [`Name::name_in`].
+    pub fn name_in(&self, language: &str) -> Option<&'a str> {
+        self.name.and_then(Part::as_str).map(|name| Name::new(name).name_in(language))
     }
 }
 
@@ -160,14 +185,37 @@ impl<'m, 'a> Stream<'m, 'a> {
         &self.state
     }
 
+    /// Whether a way waits to be accepted or declined.
+    pub fn waits(&self) -> bool {
+        self.state[word::STATE_WAITS] != 0
+    }
+
+    /// Where the library goes on while no way waits: how many points and ways are still to come, and where the next ones
+    /// stand in the map. 2^64 - 1 stands for any larger place.
+    pub fn to_come(&self) -> Option<ToCome> {
+        (!self.waits()).then(|| ToCome {
+            points: self.state[word::IDLE_POINTS],
+            ways: self.state[word::IDLE_WAYS],
+            next_point: self.state[word::IDLE_POINT],
+            next_way: self.state[word::IDLE_WAY],
+        })
+    }
+
+    /// Whether its tile is empty; see [`SubFile::is_empty`]. An empty tile has no bytes, and the library has 0 for the place
+    /// of its features; those of any other tile stand behind its head, which has three bytes at least.
+    pub fn of_empty_tile(&self) -> bool {
+        self.to_come().is_some_and(|to_come| to_come.next_point == 0)
+    }
+
+    /// Where the library goes on if the way that waits is declined.
+    pub fn past(&self) -> Option<u64> {
+        self.waits().then(|| self.state[word::WAITING_PAST])
+    }
+
     /// The next point; after the last one the next way's head; at last the end.
     #[allow(clippy::should_implement_trait)]
     pub fn next(&mut self) -> Result<Step<'m, 'a>, Refusal> {
-        self.next_in(self.map.bytes())
-    }
-
-    /// The same in another map of the same layout: here, the front of this one.
-    pub(crate) fn next_in(&mut self, bytes: &'a [u8]) -> Result<Step<'m, 'a>, Refusal> {
+        let bytes = self.map.bytes();
         let (mut words, mut ids) = ([0; word::NEXT_WORDS], [0; word::MAX_TAGS]);
         let mut signed = [0; word::SIGNED_WORDS];
         let mut degrees = [0.0; word::POSITION_DEGREES];
@@ -181,25 +229,28 @@ impl<'m, 'a> Stream<'m, 'a> {
             &mut ids,
         );
         Refusal::check(number, &words)?;
-        let count = words[word::NEXT_TAG_COUNT] as usize;
-        let tag_ids = ids.iter().take(count).map(|&id| id as usize).collect();
-        let layer = signed[word::LAYER] as i8;
-        let elevation = signed[word::ELEVATION] as i32;
+        // An answer writes its own words: of the others nothing is read.
+        let tag_ids = || {
+            let count = words[word::NEXT_TAG_COUNT] as usize;
+            ids.iter().take(count).map(|&id| id as usize).collect()
+        };
+        let layer = || signed[word::LAYER] as i8;
         Ok(match words[word::NEXT_KIND] {
             word::POINT => Step::Point(StreamedPoint {
                 names: self.map.point_tags(),
-                position: Position::of(degrees),
-                layer,
-                tag_ids,
+                offset: Offset::of(degrees),
+                layer: layer(),
+                tag_ids: tag_ids(),
                 name: Part::from_words(bytes, &words[word::NEXT_NAME..]),
                 house_number: Part::from_words(bytes, &words[word::NEXT_HOUSE_NUMBER..]),
-                elevation: (words[word::NEXT_HAS_ELEVATION] != 0).then_some(elevation),
+                elevation: (words[word::NEXT_HAS_ELEVATION] != 0)
+                    .then_some(signed[word::ELEVATION] as i32),
             }),
             word::WAY => Step::Way(WayHead {
                 names: self.map.way_tags(),
                 bitmap: words[word::NEXT_BITMAP] as u16,
-                layer,
-                tag_ids,
+                layer: layer(),
+                tag_ids: tag_ids(),
             }),
             _ => Step::End(StreamEnd {
                 sub_file: words[word::NEXT_SUB_FILE] as usize,
@@ -211,8 +262,7 @@ impl<'m, 'a> Stream<'m, 'a> {
     /// Decodes the waiting way, into lists of the stream's own that grow as needed.
     pub fn accept(&mut self) -> Result<StreamedBody<'a>, Refusal> {
         let mut lists = std::mem::take(&mut self.lists);
-        let got = self.accept_growing(self.map.bytes(), &mut lists);
-        let got = got.map(|body| {
+        let got = self.accept_with(&mut lists).map(|body| {
             let (blocks, nodes) = body.blocks;
             StreamedBody {
                 name: body.name,
@@ -236,29 +286,9 @@ impl<'m, 'a> Stream<'m, 'a> {
         &mut self,
         lists: &mut Lists,
     ) -> Result<StreamedBody<'a, (usize, usize)>, Refusal> {
-        self.accept_growing(self.map.bytes(), lists)
-    }
-
-    /// Decodes the waiting way into slices that are lent. Refusal 15 with the lengths needed if one is too short: the way
-    /// then still waits, and the slices have what they had.
-    pub fn accept_into(
-        &mut self,
-        node_counts: &mut [u64],
-        latitudes: &mut [f64],
-        longitudes: &mut [f64],
-    ) -> Result<StreamedBody<'a, (usize, usize)>, Refusal> {
-        self.accept_in(self.map.bytes(), node_counts, latitudes, longitudes)
-    }
-
-    /// As [`Stream::accept_with`], in the front of this map.
-    pub(crate) fn accept_growing(
-        &mut self,
-        bytes: &'a [u8],
-        lists: &mut Lists,
-    ) -> Result<StreamedBody<'a, (usize, usize)>, Refusal> {
         loop {
             let Lists { node_counts, latitudes, longitudes } = lists;
-            match self.accept_in(bytes, node_counts, latitudes, longitudes) {
+            match self.accept_into(node_counts, latitudes, longitudes) {
                 Err(Refusal::TooShort(needed)) => {
                     grow(node_counts, needed.lists[0]);
                     grow(latitudes, needed.lists[1]);
@@ -269,13 +299,15 @@ impl<'m, 'a> Stream<'m, 'a> {
         }
     }
 
-    fn accept_in(
+    /// Decodes the waiting way into slices that are lent. Refusal 15 with the lengths needed if one is too short: the way
+    /// then still waits, and the slices have what they had.
+    pub fn accept_into(
         &mut self,
-        bytes: &'a [u8],
         node_counts: &mut [u64],
         latitudes: &mut [f64],
         longitudes: &mut [f64],
     ) -> Result<StreamedBody<'a, (usize, usize)>, Refusal> {
+        let bytes = self.map.bytes();
         let (mut words, mut degrees) = ([0; word::ACCEPT_WORDS], [0.0; word::POSITION_DEGREES]);
         let number = raw::stream_accept(
             bytes,
@@ -291,7 +323,7 @@ impl<'m, 'a> Stream<'m, 'a> {
             name: Part::from_words(bytes, &words[word::ACCEPT_NAME..]),
             house_number: Part::from_words(bytes, &words[word::ACCEPT_HOUSE_NUMBER..]),
             reference: Part::from_words(bytes, &words[word::ACCEPT_REFERENCE..]),
-            label: (words[word::ACCEPT_HAS_LABEL] != 0).then(|| Position::of(degrees)),
+            label: (words[word::ACCEPT_HAS_LABEL] != 0).then(|| Offset::of(degrees)),
             blocks: (words[word::ACCEPT_BLOCKS] as usize, words[word::ACCEPT_NODES] as usize),
         })
     }

@@ -52,6 +52,7 @@ pub struct SubFile<'m, 'a> {
     tiles: Result<u64, Refusal>,
 }
 
+/// How many tiles a sub file that is there has.
 fn count(interval: &[u64; word::INTERVAL_WORDS], grid: Grid) -> Result<u64, Refusal> {
     let mut words = [0; word::TILE_COUNT_WORDS];
     Refusal::check(raw::tile_count(interval, grid.corners(), &mut words), &words)?;
@@ -110,6 +111,14 @@ impl<'m, 'a> SubFile<'m, 'a> {
         (self.map.bytes().len() as u64).saturating_sub(start) / 5
     }
 
+    /// Whether the map has room for the whole index: refusal 14 or 19 if not, and then the tiles should not be walked.
+    pub fn whole_index(&self) -> Result<(), Refusal> {
+        match self.tile_count()?.checked_sub(1) {
+            Some(last) => self.entry(last as usize).map(|_| ()),
+            None => Ok(()),
+        }
+    }
+
     /// Where a tile's entry stands in the map, unless that is past 64 bits.
     pub fn entry_place(&self, tile: usize) -> Option<u64> {
         let signature = if self.map.header().debug() { 16 } else { 0 };
@@ -133,8 +142,10 @@ impl<'m, 'a> SubFile<'m, 'a> {
         let mut words = [0; word::TILE_INDEX_WORDS];
         let number = raw::tile_index(&self.words, self.grid.corners(), x, y, &mut words);
         Refusal::check(number, &words)?;
-        let number = words[word::TILE_INDEX_NUMBER] as usize;
-        Ok((words[word::TILE_INDEX_THERE] != 0).then_some(TilePlace { number, x, y }))
+        if words[word::TILE_INDEX_THERE] == 0 {
+            return Ok(None);
+        }
+        Ok(Some(TilePlace { number: words[word::TILE_INDEX_NUMBER] as usize, x, y }))
     }
 
     /// The tile's north-western corner, from which its features' positions are counted.
@@ -146,7 +157,19 @@ impl<'m, 'a> SubFile<'m, 'a> {
         Ok(Position { latitude: latitude_of_row(place.y as u32, zoom)?, longitude: longitude[0] })
     }
 
-    /// A tile's entry in the index. Refusal 19 if the map ends before it does.
+    /// The tile's middle.
+    pub fn middle(&self, place: TilePlace) -> Result<Position, Refusal> {
+        let next =
+            TilePlace { x: place.x.saturating_add(1), y: place.y.saturating_add(1), ..place };
+        let (here, there) = (self.corner(place)?, self.corner(next)?);
+        Ok(Position {
+            latitude: (here.latitude + there.latitude) / 2.0,
+            longitude: (here.longitude + there.longitude) / 2.0,
+        })
+    }
+
+    /// A tile's entry in the index. Refusal 19 if the map ends before it does. Of an empty tile it has the place of the next
+    /// one; see [`SubFile::is_empty`].
     pub fn entry(&self, tile: usize) -> Result<IndexEntry, Refusal> {
         let mut words = [0; word::INDEX_ENTRY_WORDS];
         let (map, corners) = (self.map, self.grid.corners());
@@ -160,27 +183,21 @@ impl<'m, 'a> SubFile<'m, 'a> {
         })
     }
 
-    /// Whether the map's writer marked the tile as one without features: the next tile has the same offset, or the sub
-    /// file ends there.
-    ///
-    /// The library does not look at the next entry: [`SubFile::collect`] and [`SubFile::stream`] read whatever stands at
-    /// the offset, which is another tile. Ask this first.
-    pub fn marked_empty(&self, tile: usize) -> Result<bool, Refusal> {
-        let offset = self.entry(tile)?.offset;
-        if tile as u64 + 1 == self.tile_count()? {
-            return Ok(offset == self.interval.size);
-        }
-        Ok(self.entry(tile + 1)?.offset == offset)
+    /// Whether the map's writer marked the tile as one without features: the next tile has the same offset, or, of the last
+    /// tile, the offset is the sub file's size. Such a tile has no bytes. It collects with rows of zeros, its stream is at its
+    /// end, and its water mark is its own. The library looks at the mark: its stream tells ([`Stream::of_empty_tile`]).
+    pub fn is_empty(&self, tile: usize) -> Result<bool, Refusal> {
+        Ok(self.stream(tile, self.interval.min_zoom)?.of_empty_tile())
     }
 
-    /// Collects a tile: decodes every feature of it. If the map is cut off, refusal 19 is for the tile's entry, 20 for its
-    /// head, 1 for a feature.
+    /// Collects a tile: decodes every feature of it. If the map is cut off, refusal 19 is for the tile's entry or the next
+    /// one, 20 for its head, 1 for a feature.
     pub fn collect(&self, tile: usize) -> Result<Tile<'m, 'a>, Refusal> {
         Tile::collect(*self, tile)
     }
 
     /// Opens a stream of a tile at a zoom, which is clamped into the interval. Refusal 19 or 20 if the map is cut off in the
-    /// tile's entry or head.
+    /// tile's entry, the next one, or the tile's head.
     pub fn stream(&self, tile: usize, zoom: u8) -> Result<Stream<'m, 'a>, Refusal> {
         Stream::open(*self, tile, zoom)
     }

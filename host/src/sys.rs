@@ -8,12 +8,13 @@ extern "C" {
         map_len: usize,
         words: *mut [u64; 34],
         degrees: *mut [f64; 6],
-        layout: *mut [u64; 5],
+        layout: *mut [u64; 7],
     ) -> u64;
 
     pub fn mapsforge_interval(
         map: *const u8,
         map_len: usize,
+        layout: *const [u64; 7],
         sub_file: usize,
         words: *mut [u64; 6],
         interval: *mut [u64; 6],
@@ -22,6 +23,7 @@ extern "C" {
     pub fn mapsforge_sub_file(
         map: *const u8,
         map_len: usize,
+        layout: *const [u64; 7],
         zoom: u8,
         words: *mut [u64; 8],
     ) -> u64;
@@ -66,7 +68,7 @@ extern "C" {
     pub fn mapsforge_index_entry(
         map: *const u8,
         map_len: usize,
-        layout: *const [u64; 5],
+        layout: *const [u64; 7],
         interval: *const [u64; 6],
         x_min: i32,
         y_min: i32,
@@ -93,7 +95,7 @@ extern "C" {
     pub fn mapsforge_stream_open(
         map: *const u8,
         map_len: usize,
-        layout: *const [u64; 5],
+        layout: *const [u64; 7],
         interval: *const [u64; 6],
         sub_file: usize,
         x_min: i32,
@@ -109,7 +111,7 @@ extern "C" {
     pub fn mapsforge_stream_next(
         map: *const u8,
         map_len: usize,
-        layout: *const [u64; 5],
+        layout: *const [u64; 7],
         state: *mut [u64; 7],
         words: *mut [u64; 21],
         signed_words: *mut [i64; 2],
@@ -136,7 +138,7 @@ extern "C" {
     pub fn mapsforge_collect(
         map: *const u8,
         map_len: usize,
-        layout: *const [u64; 5],
+        layout: *const [u64; 7],
         interval: *const [u64; 6],
         x_min: i32,
         y_min: i32,
@@ -151,7 +153,7 @@ extern "C" {
     pub fn mapsforge_fetch(
         map: *const u8,
         map_len: usize,
-        layout: *const [u64; 5],
+        layout: *const [u64; 7],
         interval: *const [u64; 6],
         x_min: i32,
         y_min: i32,

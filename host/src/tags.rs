@@ -1,6 +1,8 @@
 //! The names of tags in the header.
 
 use crate::{raw, word, Part, Refusal};
+use std::fmt;
+use std::str::FromStr;
 
 /// What a feature stores for a tag whose name ends in `%` and a letter.
 #[derive(Clone, Copy, Debug, PartialEq, Eq)]
@@ -54,6 +56,76 @@ impl<'a> TagName<'a> {
         self.key_value() == (key.as_bytes(), value.as_bytes())
     }
 }
+
+/// A tag to look for: a key with any value, or with one.
+///
+/// ```
+/// use mapsforge::TagFilter;
+///
+/// let any: TagFilter = "highway".parse()?;
+/// let one: TagFilter = "amenity=ferry_terminal".parse()?;
+/// assert!(any.matches(b"highway", b"primary") && !one.matches(b"amenity", b"bench"));
+/// assert_eq!(one.to_string(), "amenity=ferry_terminal");
+/// assert!("=yes".parse::<TagFilter>().is_err());
+/// # Ok::<(), mapsforge::NoKey>(())
+/// ```
+#[derive(Clone, Debug, PartialEq, Eq, Hash)]
+pub struct TagFilter {
+    key: String,
+    value: Option<String>,
+}
+
+/// A text that names no key.
+#[derive(Clone, Copy, Debug, PartialEq, Eq)]
+pub struct NoKey;
+
+impl FromStr for TagFilter {
+    type Err = NoKey;
+
+    fn from_str(text: &str) -> Result<TagFilter, NoKey> {
+        let (key, value) = match text.split_once('=') {
+            Some((key, value)) => (key, Some(value.to_string())),
+            None => (text, None),
+        };
+        if key.is_empty() {
+            return Err(NoKey);
+        }
+        Ok(TagFilter { key: key.into(), value })
+    }
+}
+
+impl TagFilter {
+    /// Whether a tag of this key and value is meant.
+    pub fn matches(&self, key: &[u8], value: &[u8]) -> bool {
+        let wanted = self.value.as_ref();
+        self.key.as_bytes() == key && wanted.is_none_or(|wanted| wanted.as_bytes() == value)
+    }
+
+    /// Whether one of the tags is meant.
+    pub fn is_among<'a>(&self, mut tags: impl Iterator<Item = TagName<'a>>) -> bool {
+        tags.any(|tag| {
+            let (key, value) = tag.key_value();
+            self.matches(key, value)
+        })
+    }
+}
+
+impl fmt::Display for TagFilter {
+    fn fmt(&self, f: &mut fmt::Formatter<'_>) -> fmt::Result {
+        match &self.value {
+            Some(value) => write!(f, "{}={value}", self.key),
+            None => write!(f, "{}", self.key),
+        }
+    }
+}
+
+impl fmt::Display for NoKey {
+    fn fmt(&self, f: &mut fmt::Formatter<'_>) -> fmt::Result {
+        write!(f, "a tag is KEY or KEY=VALUE")
+    }
+}
+
+impl std::error::Error for NoKey {}
 
 /// The tag names of points, or of ways; a feature has their numbers.
 #[derive(Clone, Debug, Default)]

@@ -67,7 +67,7 @@ impl<'m, 'a> Tile<'m, 'a> {
         self.number
     }
 
-    /// The tile's signature, in a debug map.
+    /// The tile's signature, in a debug map; an empty tile has none there either.
     pub fn signature(&self) -> Option<Part<'a>> {
         self.signature
     }

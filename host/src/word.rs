@@ -31,7 +31,7 @@ pub const SIGNED_WORDS: usize = 2;
 // Limits.
 pub const MAX_TAGS: usize = 15;
 pub const MAX_ROWS: usize = 256;
-pub const STACK: usize = 98304;
+pub const STACK: usize = 32768;
 
 // `mapsforge_open`: words, degrees, layout.
 pub const OPEN_END: usize = 6;
@@ -69,7 +69,9 @@ pub const LAYOUT_POINT_TAGS: usize = 1;
 pub const LAYOUT_POINT_TAG_COUNT: usize = 2;
 pub const LAYOUT_WAY_TAGS: usize = 3;
 pub const LAYOUT_WAY_TAG_COUNT: usize = 4;
-pub const LAYOUT_WORDS: usize = 5;
+pub const LAYOUT_INTERVALS: usize = 5;
+pub const LAYOUT_INTERVAL_COUNT: usize = 6;
+pub const LAYOUT_WORDS: usize = 7;
 
 // `mapsforge_interval`: interval.
 pub const INTERVAL_THERE: usize = 0;

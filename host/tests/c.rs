@@ -107,7 +107,7 @@ fn the_example_is_built_as_the_readme_says() {
         let line = readme.lines().find(|line| line.starts_with(start)).expect(start);
         let line = line.split('#').next().unwrap().trim_end();
         let words = line.split_whitespace().map(|word| match word {
-            "target/staticlib/libexports.a" => common::library(),
+            "target/staticlib/libmapsforge.a" => common::library(),
             "list_tile" | "./list_tile" => program.clone(),
             other => PathBuf::from(other),
         });
@@ -301,8 +301,7 @@ fn grids_are_the_wrappers() {
 /// The stack that mapsforge.h says a call takes at most.
 fn stack_limit(function: &str) -> usize {
     match function.trim_start_matches("mapsforge_") {
-        "open" | "interval" | "sub_file" => 64 * 1024,
-        "collect" | "fetch" => 32 * 1024,
+        "fetch" => 8 * 1024,
         _ => 4 * 1024,
     }
 }

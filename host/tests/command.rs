@@ -2,57 +2,22 @@
 
 mod common;
 
-use common::{map_bytes, map_path, with_box, written};
-use std::io::Read;
-use std::path::Path;
-use std::process::{Command, Output, Stdio};
-use std::time::{Duration, Instant};
+use common::{answer, closed_early, command, complaint, cut, shipped, text, written};
 
-fn command() -> Command {
-    Command::new(env!("CARGO_BIN_EXE_mapsforge"))
-}
-
-fn run(words: &[&str]) -> Output {
-    command().args(words).output().expect("the command runs")
-}
-
-/// Standard output of a run that should end with this status and complain of nothing.
-fn answer(words: &[&str], status: i32) -> String {
-    let output = run(words);
-    assert_eq!(String::from_utf8_lossy(&output.stderr), "", "{words:?}");
-    assert_eq!(output.status.code(), Some(status), "{words:?}");
-    String::from_utf8(output.stdout).expect("the answer is UTF-8")
-}
-
-/// The one sentence of a run that fails with this status.
-fn complaint(words: &[&str], status: i32) -> String {
-    let output = run(words);
-    assert_eq!(output.status.code(), Some(status), "{words:?}");
-    let text = String::from_utf8(output.stderr).expect("the complaint is UTF-8");
-    assert!(text.starts_with("mapsforge: ") && text.ends_with('\n'), "{text:?}");
-    assert_eq!(text.lines().count(), 1, "{text:?}");
-    text
-}
-
-fn shipped(name: &str) -> String {
-    text(&map_path(name))
-}
-
-fn text(path: &Path) -> String {
-    path.to_str().expect("the path is UTF-8").to_string()
-}
+const COMMANDS: [&str; 10] =
+    ["check", "diff", "report", "svg", "list", "at", "export", "info", "tiles", "show"];
 
 #[test]
 fn help_and_version() {
     for words in [&["--help"][..], &["-h"], &["help"]] {
         let help = answer(words, 0);
-        for name in ["info", "tiles", "show", "check", "svg"] {
-            assert!(help.contains(&format!("mapsforge {name} MAP")));
+        for name in COMMANDS {
+            assert!(help.contains(&format!("mapsforge {name} ")), "{name}");
         }
     }
-    for name in ["info", "tiles", "show", "check", "svg"] {
+    for name in COMMANDS {
         let help = answer(&[name, "--help"], 0);
-        assert!(help.starts_with(&format!("mapsforge {name} MAP")));
+        assert!(help.starts_with(&format!("mapsforge {name} ")), "{name}");
         assert_eq!(answer(&["help", name], 0), help);
         assert_eq!(answer(&[name, "no-such.map", "-h"], 0), help);
     }
@@ -120,133 +85,6 @@ fn show_gives_features() {
 }
 
 #[test]
-fn check_tells_whether_all_is_well() {
-    for name in ["islands.map", "islands-debug.map"] {
-        let checked = answer(&["check", &shipped(name)], 0);
-        assert_eq!(
-            checked,
-            "20 tiles in 3 sub files, 94 points, 408 ways: stream and list agree\n"
-        );
-    }
-    let checked = answer(&["check", &shipped("short-size.map")], 1);
-    let lines: Vec<_> = checked.lines().collect();
-    assert_eq!(lines.len(), 2);
-    assert!(lines[0].starts_with(
-        "sub file 2, tile 10 (13/4096/2272): way 9, byte 23258: its stored size is 34"
-    ));
-    assert!(lines[1].ends_with(": 1 finding"));
-}
-
-/// Tile 10 has the offset of tile 11, so that this one's features are read there; tile 11 that of the sub file's end.
-#[test]
-fn check_reads_tiles_that_are_marked_empty() {
-    let (start, size) = (12233, 17582u64);
-    let mut map = map_bytes("islands.map");
-    let entry = |tile: usize| start + 5 * tile..start + 5 * tile + 5;
-    map.copy_within(entry(11), entry(10).start);
-    let path = text(&written("marked.map", &map));
-    let checked = answer(&["check", &path], 0);
-    assert!(checked.starts_with("1 tile is marked empty, by the offset of the next one"));
-    assert!(checked.contains("another tile's features in 1, and refuses 0;"), "{checked}");
-    assert!(checked.ends_with(": stream and list agree\n"), "{checked}");
-
-    map[entry(11)].copy_from_slice(&size.to_be_bytes()[3..]);
-    let path = text(&written("marked-last.map", &map));
-    let checked = answer(&["check", &path], 1);
-    let refused = "sub file 2, tile 11 (13/4097/2272), marked empty: refused with 20: the head of \
-                   tile 11 is cut off at byte 29815:";
-    assert!(checked.contains(refused), "{checked}");
-    assert!(checked.ends_with(": 1 finding\n"), "{checked}");
-    let skipped = answer(&["check", "--skip-empty", &path], 0);
-    assert!(skipped.starts_with("1 tile is marked empty, and left out\n"), "{skipped}");
-}
-
-#[test]
-fn check_stays_quick_on_absurd_maps() {
-    let start = Instant::now();
-    let world = with_box(map_bytes("islands.map"), [-90000000, -180000000, 90000000, 180000000]);
-    let path = text(&written("world.map", &world));
-    let checked = answer(&["check", &path], 1);
-    assert!(checked.contains("sub file 2: refused with 19: the index is cut off at byte 29813:"));
-    assert!(checked.contains(". Its grid has 67108864 tiles, but from its start at byte 12233 on"));
-    assert!(answer(&["tiles", &path], 0).contains(". Its grid has 67108864 tiles, but from"));
-    assert!(start.elapsed() < Duration::from_secs(5));
-}
-
-/// A shipped map without its end, in a file of the test's own, since tests run at once.
-fn cut(test: &str, name: &str, length: usize) -> String {
-    text(&written(&format!("{test}-{length}-{name}"), &map_bytes(name)[..length]))
-}
-
-/// Cut off behind the index: every finding has a line, the last the count.
-#[test]
-fn check_tells_of_heads_that_are_cut_off() {
-    let checked = answer(&["check", &cut("head", "islands.map", 12300)], 1);
-    assert!(checked.starts_with("the header says that the file has 29815 bytes, but it has 12300"));
-    // The map ends in tile 0's zoom table, and before tile 1.
-    for refused in [
-        "sub file 2, tile 0 (13/4094/2270): refused with 20: the head of tile 0 is cut off at byte 12300: the file is incomplete",
-        "sub file 2, tile 1 (13/4095/2270): refused with 20: the head of tile 1 is cut off at byte 12312: the file is incomplete",
-    ] {
-        assert!(checked.contains(refused), "{refused:?} is missing in {checked}");
-    }
-    assert!(checked.ends_with(": 13 findings\n"), "{checked}");
-
-    // The signature of tile 0 of the debug map lacks its last byte: all of it is missing.
-    let debug = map_bytes("islands-debug.map");
-    let map = mapsforge::Map::open(&debug).unwrap();
-    let place = map.sub_file(2).unwrap().entry(0).unwrap().place;
-    let path = cut("head", "islands-debug.map", place as usize + 31);
-    let refused = format!("refused with 20: the head of tile 0 is cut off at byte {place}: ");
-    for command in ["check", "tiles"] {
-        let told = answer(&[command, &path], i32::from(command == "check"));
-        assert!(told.contains(&refused), "{refused:?} is missing in {told}");
-    }
-}
-
-/// Cut off in an index: a line for the sub file, whose tiles are not read.
-#[test]
-fn check_and_tiles_tell_of_an_index_that_is_cut_off() {
-    let path = cut("index", "islands.map", 12250);
-    let refused = "sub file 2: refused with 19: the index is cut off at byte 12248: the file is incomplete, or its \
-                   header is damaged; copy or fetch the map anew. Its grid has 12 tiles, but from its start at byte \
-                   12233 on the map has room for 3 index entries: its tiles are not read\n";
-    let checked = answer(&["check", &path], 1);
-    assert!(checked.contains(refused), "{checked}");
-    assert!(
-        checked.ends_with("8 tiles in 3 sub files, 16 points, 78 ways: 2 findings\n"),
-        "{checked}"
-    );
-    assert!(answer(&["tiles", &path], 0).ends_with(refused));
-}
-
-/// Cut off in a feature: that is 1, at the feature.
-#[test]
-fn check_tells_a_feature_that_is_cut_off_from_a_head() {
-    let checked = answer(&["check", &cut("feature", "islands.map", 20000)], 1);
-    for refused in [
-        "sub file 2, tile 6 (13/4096/2271): way 49, byte 19999: refused with 1: the map ends",
-        "sub file 2, tile 7 (13/4097/2271): refused with 20: the head of tile 7 is cut off at byte 20320: ",
-    ] {
-        assert!(checked.contains(refused), "{refused:?} is missing in {checked}");
-    }
-}
-
-#[test]
-fn svg_draws_a_tile() {
-    let map = shipped("islands.map");
-    let drawn = answer(&["svg", &map, "2:10"], 0);
-    assert!(drawn.starts_with("<svg ") && drawn.ends_with("</svg>\n"));
-    assert!(drawn.contains(">Havnby</text>") && drawn.contains("<title>sub file 2, tile 10"));
-    assert_eq!(drawn.matches("<circle").count() + drawn.matches("l7 12h-14Z").count(), 34);
-    let path = text(&written("tile.svg", &[]));
-    assert_eq!(answer(&["svg", &map, "2:10", "-o", &path], 0), "");
-    assert_eq!(std::fs::read_to_string(&path).unwrap(), drawn);
-    // Fewer features at a lower zoom.
-    assert!(answer(&["svg", &map, "2:10", "--zoom", "13"], 0).len() < drawn.len() / 2);
-}
-
-#[test]
 fn mistakes_are_told_in_a_sentence() {
     let map = shipped("islands.map");
     let told = |words: &[&str], part: &str| {
@@ -275,12 +113,12 @@ fn mistakes_are_told_in_a_sentence() {
         "cannot write /no/such/folder/a.svg",
     );
     told(&["info", "no-such.map"], "cannot read no-such.map: no such file or directory");
-    told(&["info", &text(&common::repository("maps"))], "is a directory");
+    told(&["info", &text(&common::repository("maps"))], "is a folder, no file: name a map in it");
     told(
         &["check", &text(&written("text.map", b"This is a text, and it is no map at all."))],
         "this is not a Mapsforge map",
     );
-    told(&["check", &text(&written("nothing.map", b""))], "the map ends");
+    told(&["check", &text(&written("nothing.map", b""))], "it is empty");
 }
 
 #[test]
@@ -320,16 +158,7 @@ fn a_tile_that_is_refused_is_told() {
 
 #[test]
 fn a_closed_pipe_is_quiet() {
-    let mut child = command()
-        .args(["show", &shipped("islands-debug.map"), "2:10", "--nodes"])
-        .stdout(Stdio::piped())
-        .stderr(Stdio::piped())
-        .spawn()
-        .expect("the command runs");
-    let mut first = [0];
-    child.stdout.take().expect("it is piped").read_exact(&mut first).expect("there is an answer");
-    let mut complaints = String::new();
-    child.stderr.take().expect("it is piped").read_to_string(&mut complaints).expect("it is UTF-8");
-    assert_eq!(complaints, "");
-    assert_eq!(child.wait().expect("it ends").code(), Some(0));
+    let output = closed_early(&["show", &shipped("islands-debug.map"), "2:10", "--nodes"]);
+    assert_eq!(String::from_utf8_lossy(&output.stderr), "");
+    assert_eq!(output.status.code(), Some(0));
 }

@@ -49,7 +49,7 @@ int main(int argc, char **argv) {
     /* What the calls about tiles take in place of the map's header. */
     uint64_t refused[MAPSFORGE_VALUES], interval[MAPSFORGE_INTERVAL_WORDS], count[MAPSFORGE_TILE_COUNT_WORDS];
     mapsforge_grid grid;
-    check("interval", mapsforge_interval(map, len, SUB_FILE, refused, interval));
+    check("interval", mapsforge_interval(map, len, layout, SUB_FILE, refused, interval));
     check("grid", mapsforge_grid_of_sub_file(degrees, interval, &grid));
     check("tile_count", mapsforge_tile_count(interval, MAPSFORGE_CORNERS(grid), count));
     printf("columns %" PRId32 " to %" PRId32 ", rows %" PRId32 " to %" PRId32 "\n", grid.x_min, grid.x_max, grid.y_min, grid.y_max);

@@ -231,20 +231,21 @@ fn header_library_and_wrapper_declare_the_same() {
 /// Each of these small changes must be noticed: else the test above compares nothing.
 #[test]
 fn changes_are_noticed() {
-    let edits: [(&str, &str, &str); 26] = [
+    let edits: [(&str, &str, &str); 28] = [
         ("header", "mapsforge_open(", "mapsforge_opened("),
         ("header", "uint64_t words[34]", "uint64_t words[33]"),
         (
             "header",
-            "double degrees[6], uint64_t layout[5]",
-            "uint64_t layout[5], double degrees[6]",
+            "double degrees[6], uint64_t layout[7]",
+            "uint64_t layout[7], double degrees[6]",
         ),
-        ("header", "const uint64_t layout[5]", "uint64_t layout[5]"),
+        ("header", "const uint64_t layout[7]", "uint64_t layout[7]"),
+        ("header", "const uint64_t layout[7], size_t sub_file", "size_t sub_file"),
         ("header", "const uint64_t interval[6]", "uint64_t interval[6]"),
         (
             "header",
-            "const uint64_t layout[5], const uint64_t interval[6]",
-            "const uint64_t interval[6], const uint64_t layout[5]",
+            "const uint64_t layout[7], const uint64_t interval[6]",
+            "const uint64_t interval[6], const uint64_t layout[7]",
         ),
         ("header", "int32_t x, int32_t y,", "int32_t y, int32_t x,"),
         ("header", "double *latitudes, size_t latitudes_len, ", ""),
@@ -261,7 +262,8 @@ fn changes_are_noticed() {
         ("rattle", "pub extern \"C\" fn mapsforge_text", "pub fn mapsforge_text"),
         ("rattle", "data_blocks: u64", "blocks: u64"),
         ("rust", "column: *mut [i64; 1]", "column: *mut [i64; 2]"),
-        ("rust", "layout: *const [u64; 5]", "layout: *mut [u64; 5]"),
+        ("rust", "layout: *const [u64; 7]", "layout: *mut [u64; 7]"),
+        ("rust", "layout: *const [u64; 7],\n        zoom: u8,", "zoom: u8,"),
         ("rust", "interval: *const [u64; 6]", "interval: *const [u64; 5]"),
         ("rust", "latitudes: *mut f64,\n        latitudes_len: usize,", "latitudes: *mut f64,"),
         (
@@ -317,10 +319,13 @@ fn refusals() -> Vec<String> {
     named.collect()
 }
 
-/// The refusals have the names that the library's source has for them.
+/// The refusals have the names that the library's source has for them, where 15 is a case of its own.
 #[test]
 fn refusals_have_the_librarys_names() {
-    let cases = first_enum(&text("crates/error/src/lib.rt"), "pub enum Refusal {");
+    let source = text("crates/error/src/lib.rt");
+    let mut cases = first_enum(&source, "pub enum Refusal {");
+    cases.insert(14, "TooShort".into());
+    assert!(source.contains("LentRefusal::Short(_) => 15,"));
     assert_eq!(refusals(), cases.iter().map(|case| c_name(case)).collect::<Vec<_>>());
 }
 

@@ -2,9 +2,10 @@
 
 mod common;
 
+use common::lent::Layout;
 use common::{map_bytes, Random, SHIPPED, VERSION};
 use mapsforge::raw::{self, FetchLists, FetchWords};
-use mapsforge::Map;
+use mapsforge::{word, Map};
 
 impl Random {
     /// Mostly a place in the map, sometimes anything.
@@ -46,43 +47,105 @@ impl<T> Drop for Guarded<T> {
 const GRID: [i32; 4] = [4094, 2270, 4097, 2272];
 
 /// A map's layout, and the interval of its sub file 2.
-fn opened(map: &[u8]) -> ([u64; 5], [u64; 6]) {
-    let (mut layout, mut interval) = ([7; 5], [7; 6]);
+fn opened(map: &[u8]) -> (Layout, [u64; 6]) {
+    let (mut layout, mut interval) = ([7; 7], [7; 6]);
     assert_eq!(raw::open(map, &mut [7; 34], &mut [7.0; 6], &mut layout), 0);
-    assert_eq!(raw::interval(map, 2, &mut [7; 6], &mut interval), 0);
+    assert_eq!(raw::interval(map, &layout, 2, &mut [7; 6], &mut interval), 0);
     (layout, interval)
 }
 
-/// What is asked for a sub file's interval: the answer, the refusal's values and the interval.
-fn interval(map: &[u8], sub_file: usize) -> (u64, [u64; 6], [u64; 6]) {
+/// What is asked for a sub file's interval: the answer and the interval. No values are written.
+fn interval(map: &[u8], layout: &Layout, sub_file: usize) -> (u64, [u64; 6]) {
     let (mut words, mut interval) = (Guarded::new([7; 6]), Guarded::new([7; 6]));
-    let number = raw::interval(map, sub_file, &mut words.inner, &mut interval.inner);
-    (number, words.inner, interval.inner)
+    let number = raw::interval(map, layout, sub_file, &mut words.inner, &mut interval.inner);
+    assert_eq!(words.inner, [7; 6]);
+    (number, interval.inner)
 }
 
 #[test]
-fn an_interval_is_all_there_or_all_zeros() {
+fn an_interval_is_there_or_is_missing() {
+    const MISSING: [u64; 6] = [0, 7, 7, 7, 7, 7];
     for name in SHIPPED {
         let map = map_bytes(name);
+        let (layout, _) = opened(&map);
         for (number, known) in Map::open(&map).unwrap().intervals().iter().enumerate() {
             let [base, min, max] = [known.base_zoom, known.min_zoom, known.max_zoom].map(u64::from);
             let words = [1, base, min, max, known.start, known.size];
-            assert_eq!(interval(&map, number), (0, [0; 6], words));
+            assert_eq!(interval(&map, &layout, number), (0, words));
+        }
+        for missing in [3, 255, usize::MAX] {
+            assert_eq!(interval(&map, &layout, missing), (0, MISSING));
         }
     }
     let mut map = map_bytes("islands.map");
-    for missing in [3, 255, usize::MAX] {
-        assert_eq!(interval(&map, missing), (0, [0; 6], [0; 6]));
-    }
-    assert_eq!(interval(&map[..50], 2), (1, [0; 6], [0; 6]));
+    let (layout, found) = opened(&map);
+    assert_eq!(interval(&map[..50], &layout, 2), (1, [7; 6]));
+    assert_eq!(interval(&map[..50], &layout, 3), (0, MISSING));
+    // The map is not opened again: what is damaged elsewhere in its header says nothing.
     map[VERSION..VERSION + 4].copy_from_slice(&[0, 0, 0, 2]);
-    assert_eq!(interval(&map, 2), (3, [2, 0, 0, 0, 0, 0], [0; 6]));
+    assert_eq!(interval(&map, &layout, 2), (0, found));
+}
+
+/// An interval where the layout says, 19 bytes each, if the map has it.
+fn row(map: &[u8], start: u64, k: u64) -> Option<[u64; 6]> {
+    let at = usize::try_from(start.checked_add(19 * k)?).ok()?;
+    let row = map.get(at..at.checked_add(19)?)?;
+    let number = |at: usize| u64::from_be_bytes(row[at..at + 8].try_into().unwrap());
+    let [base, min, max] = [row[0], row[1], row[2]].map(u64::from);
+    Some([1, base, min, max, number(3), number(11)])
+}
+
+/// The first of so many rows that has the zoom; None if a row is not in the map.
+fn first_row(map: &[u8], start: u64, count: u64, zoom: u8) -> Option<[u64; 2]> {
+    for k in 0..count {
+        let [_, _, min, max, ..] = row(map, start, k)?;
+        if (min..=max).contains(&zoom.into()) {
+            return Some([1, k]);
+        }
+    }
+    Some([0, 7])
+}
+
+/// Intervals are read where the layout says, whatever it says, and nothing else of it matters.
+#[test]
+fn any_layout_has_intervals() {
+    let map = map_bytes("islands.map");
+    let mut random = Random(13);
+    let mut seen = [[0; 3]; 2];
+    for case in 0..100_000 {
+        let mut layout = [(); 7].map(|_| random.word(&map));
+        // Where places end.
+        if case % 4 == 0 {
+            layout[word::LAYOUT_INTERVALS] = u64::MAX - random.next() % 5000;
+        }
+        let start = layout[word::LAYOUT_INTERVALS];
+        let count = layout[word::LAYOUT_INTERVAL_COUNT] % 256;
+        let (asked, zoom) = (random.next() % 300, random.next() as u8 % 25);
+        let sub_file = if case % 9 == 0 { random.next() } else { asked };
+        let expected = match row(&map, start, sub_file.min(255)) {
+            _ if sub_file >= count => (0, [0, 7, 7, 7, 7, 7]),
+            Some(row) => (0, row),
+            None => (1, [7; 6]),
+        };
+        assert_eq!(interval(&map, &layout, sub_file as usize), expected, "{layout:?} {sub_file}");
+        seen[0][if expected.0 == 1 { 2 } else { expected.1[0] as usize }] += 1;
+
+        let mut words = Guarded::new([7; 8]);
+        let number = raw::sub_file(&map, &layout, zoom, &mut words.inner);
+        let found = first_row(&map, start, count, zoom);
+        assert_eq!(words.inner[..6], [7; 6]);
+        let expected = found.map_or((1, [7; 2]), |found| (0, found));
+        assert_eq!((number, [words.inner[6], words.inner[7]]), expected, "{layout:?} {zoom}");
+        seen[1][if number == 1 { 2 } else { words.inner[6] as usize }] += 1;
+    }
+    // Missing ones, those that are there, and refused ones.
+    assert!(seen.as_flattened().iter().all(|&count| count > 500), "{seen:?}");
 }
 
 /// A tile's calls with a layout and an interval, the state and the lists of which nobody may write behind a refusal.
 struct Asked<'a> {
     map: &'a [u8],
-    layout: [u64; 5],
+    layout: Layout,
     interval: [u64; 6],
 }
 
@@ -93,7 +156,7 @@ impl Asked<'_> {
         assert_eq!(raw::tile_count(&self.interval, GRID, &mut count.inner), 0);
         assert_eq!(raw::tile_index(&self.interval, GRID, 4095, 2271, &mut index.inner), 0);
         [count.inner, index.inner].map(|words| {
-            assert_eq!(words[..6], [0; 6]);
+            assert_eq!(words[..6], [7; 6]);
             [words[6], words[7]]
         })
     }
@@ -135,9 +198,9 @@ impl Asked<'_> {
             &mut points.inner,
             &mut ways.inner,
         );
-        let rows = words.inner[9] as usize;
-        assert!(points.inner[rows..].iter().chain(&ways.inner[rows..]).all(|&row| row == 0));
-        assert!(number == 0 || words.inner[6..] == [0; 8]);
+        let rows = if number == 0 { words.inner[9] as usize } else { 0 };
+        assert!(points.inner[rows..].iter().chain(&ways.inner[rows..]).all(|&row| row == 7));
+        assert!(number == 0 || words.inner[6..] == [7; 8]);
         (number, words.inner)
     }
 
@@ -153,12 +216,21 @@ impl Asked<'_> {
             initial_longitudes,
             buffer,
         };
-        let mut got = Box::<FetchWords>::default();
+        let mut got = Box::new(FetchWords {
+            words: [7; 35],
+            signed_words: [7; 2],
+            degrees: [7.0; 2],
+            ids: [7; 15],
+            tags: [7; 75],
+        });
         let number =
             raw::fetch(self.map, &self.layout, &self.interval, GRID, tile, feature, lent, &mut got);
         let untouched = ([7; 8], [[7.0; 20]; 4], [b'#'; 60]);
-        assert!(number == 0 || lists.inner == untouched);
-        assert!(number == 0 || got.words[6..].iter().chain(&got.ids).all(|&word| word == 0));
+        if number != 0 {
+            let words = got.words[6..].iter().chain(&got.ids).chain(&got.tags);
+            assert!(lists.inner == untouched && words.copied().all(|word| word == 7));
+            assert_eq!((got.signed_words, got.degrees), ([7; 2], [7.0; 2]));
+        }
         (number, got)
     }
 }
@@ -180,7 +252,7 @@ fn any_layout_and_any_interval_will_do() {
         let (tile, feature) = (random.next() as usize % 13, random.next() % 60);
         let asked = Asked { map: &map, layout, interval };
         let there = interval[0] != 0;
-        assert_eq!(asked.on_grid(), if there { [[1, 12], [1, 5]] } else { [[0; 2]; 2] });
+        assert_eq!(asked.on_grid(), if there { [[1, 12], [1, 5]] } else { [[0, 7]; 2] });
         let numbers = [
             asked.entry(tile).0,
             asked.stream(tile, random.next() as u8).0,
@@ -232,7 +304,7 @@ fn any_state_and_any_layout_will_do() {
     let mut seen = [0; 21];
     for _ in 0..20_000 {
         let mut state = Guarded::new([0; 7]);
-        let mut layout = [0; 5];
+        let mut layout = [0; 7];
         state.inner.fill_with(|| random.word(&map));
         layout.fill_with(|| random.word(&map));
         let before = state.inner;
@@ -249,7 +321,8 @@ fn any_state_and_any_layout_will_do() {
         );
         seen[number as usize] += 1;
         if number != 0 {
-            assert!(words.inner[6..].iter().all(|&word| word == 0) && ids.inner == [0; 15]);
+            assert_eq!((&words.inner[1..], ids.inner), (&[1; 20][..], [1; 15]));
+            assert_eq!((signed_words.inner, degrees.inner), ([1; 2], [1.0; 2]));
             assert_eq!(state.inner, before);
         }
 
@@ -309,8 +382,9 @@ fn fetching_writes_nothing_but_its_lists() {
                 },
                 &mut got,
             );
-            let (blocks, nodes) =
-                if number == 0 { (got.words[32] as usize, got.words[33] as usize) } else { (0, 0) };
+            let is_way = number == 0 && got.words[word::FETCH_KIND] == word::WAY;
+            let counts_of = |k: usize| if is_way { got.words[k] as usize } else { 0 };
+            let (blocks, nodes) = (counts_of(word::FETCH_BLOCKS), counts_of(word::FETCH_NODES));
             assert!(counts[blocks..].iter().all(|&count| count == 7));
             let ends = [nodes, nodes, blocks, blocks];
             for (list, end) in [latitudes, longitudes, firsts, seconds].into_iter().zip(ends) {
@@ -345,10 +419,10 @@ fn columns_of_any_number() {
     assert_eq!(column(f64::NEG_INFINITY, 8), (0, i64::from(i32::MIN)));
     assert_eq!(column(44.99999999999998, 3), (0, 4));
     assert_eq!(column(0.0, 63), (0, i64::from(i32::MAX)));
-    assert_eq!(column(0.0, 64), (18, 0));
+    assert_eq!(column(0.0, 64), (18, 9));
     let mut longitude = [9.0];
+    assert_eq!((raw::longitude(1, 64, &mut [0; 6], &mut longitude), longitude), (18, [9.0]));
     assert_eq!((raw::longitude(1, 1, &mut [0; 6], &mut longitude), longitude), (0, [0.0]));
-    assert_eq!((raw::longitude(1, 64, &mut [0; 6], &mut longitude), longitude), (18, [0.0]));
 }
 
 #[test]
@@ -366,9 +440,9 @@ fn texts_are_replaced_as_rust_replaces_them() {
         assert_eq!(&buffer[..words[6] as usize], expected.as_bytes());
         // A byte too short: how long it has to be, and nothing written.
         if let Some(short) = expected.len().checked_sub(1) {
-            let mut buffer = [b'#'; 32];
+            let (mut buffer, mut words) = ([b'#'; 32], [7; 7]);
             assert_eq!(raw::text(&text, &mut buffer[..short], &mut words), 15);
-            assert_eq!(words, [0, 0, 0, 0, 0, expected.len() as u64, 0]);
+            assert_eq!(words, [0, 0, 0, 0, 0, expected.len() as u64, 7]);
             assert_eq!(buffer, [b'#'; 32]);
         }
     }
@@ -406,6 +480,7 @@ fn tags_and_way_data_of_any_place() {
             &mut longitudes[..8],
             &mut [7; 9],
         );
+        assert!(number == 0 || measured.inner == [7; 9]);
         let fits = measured.inner[6] <= 4 && measured.inner[7] <= 8;
         let expected = if number == 0 && !fits { 15 } else { number };
         assert_eq!(read, expected);

@@ -2,9 +2,9 @@
 
 mod common;
 
+use common::lent::{self, twice, Layout, State, Tiles, Told};
 use common::repository;
-use mapsforge::raw::{self, FetchLists, FetchWords};
-use mapsforge::Refusal;
+use mapsforge::{word, Refusal};
 use std::collections::BTreeSet;
 
 fn text(path: &str) -> String {
@@ -107,7 +107,7 @@ struct Example {
     text: String,
     call: String,
     map: Vec<u8>,
-    layout: [u64; 5],
+    layout: Layout,
     interval: [u64; 6],
     grid: [i32; 4],
     tile: usize,
@@ -126,7 +126,7 @@ impl Example {
         let mut example = Example {
             call: call.into(),
             map: bytes.split_whitespace().flat_map(repeated).collect(),
-            layout: [0; 5],
+            layout: [0, 0, 0, 0, 0, 0, 1],
             interval: [1, 0, 0, 0, 0, 0],
             grid: [0; 4],
             tile: 0,
@@ -160,76 +160,77 @@ impl Example {
         }
     }
 
-    /// The answer of a call. The lists are empty.
-    fn ask(&self, call: &str) -> Answer {
-        let Example { map, layout, interval, grid, tile, .. } = self;
-        match call {
-            "open" => asked::<34>(|words| raw::open(map, words, &mut [0.0; 6], &mut [0; 5])),
-            "interval" => asked::<6>(|words| raw::interval(map, 0, words, &mut [0; 6])),
-            "sub_file" => asked::<8>(|words| raw::sub_file(map, self.zoom, words)),
-            "tag" => asked::<10>(|words| raw::tag(map, 0, self.tag[1], self.tag[0], words)),
-            "text" => asked::<7>(|words| raw::text(map, &mut [], words)),
-            "tile_count" => asked::<8>(|words| raw::tile_count(interval, *grid, words)),
-            "tile_index" => asked::<8>(|words| raw::tile_index(interval, *grid, 0, 0, words)),
-            "index_entry" => {
-                asked::<9>(|words| raw::index_entry(map, layout, interval, *grid, *tile, words))
-            }
-            "column" => asked::<6>(|words| raw::column(0.0, self.zoom, words, &mut [0])),
-            "longitude" => asked::<6>(|words| raw::longitude(0, self.zoom, words, &mut [0.0])),
-            "stream_open" => self.open_stream(&mut [0; 7]),
-            "stream_next" => next(map, layout, &mut [0; 7]).0,
-            "stream_accept" => accept(map, &mut [0; 7], 0),
-            "stream_decline" => decline(&mut [0; 7]),
-            "collect" => asked::<14>(|words| {
-                let (mut points, mut ways) = ([0; 256], [0; 256]);
-                raw::collect(map, layout, interval, *grid, *tile, words, &mut points, &mut ways)
-            }),
-            "fetch" => {
-                let (lists, mut got) = (no_lists(), FetchWords::default());
-                let feature = self.feature;
-                let number =
-                    raw::fetch(map, layout, interval, *grid, *tile, feature, lists, &mut got);
-                answer(number, &got.words[..6])
-            }
-            "measure_way_data" => asked::<9>(|words| raw::measure_way_data(map, 0, 1, words)),
-            "read_way_data" => asked::<9>(|words| {
-                raw::read_way_data(map, 0, 1, false, &mut [], &mut [], &mut [], words)
-            }),
-            other => panic!("{other} is not known"),
-        }
+    fn tiles(&self) -> Tiles<'_> {
+        let Example { map, layout, interval, grid, .. } = self;
+        Tiles { map, layout: *layout, interval: *interval, grid: *grid }
     }
 
-    fn open_stream(&self, state: &mut [u64; 7]) -> Answer {
+    /// The answer of a call. The lists are empty.
+    fn ask(&self, call: &str) -> Answer {
         let Example { map, layout, interval, grid, tile, zoom, .. } = self;
-        asked::<6>(|words| {
-            raw::stream_open(map, layout, interval, 0, *grid, *tile, *zoom, state, words)
-        })
+        let (tiles, [k, count]) = (self.tiles(), self.tag);
+        let told = twice(|lent| match call {
+            "open" => lent::open(map, lent),
+            "interval" => lent::interval(map, layout, 0, lent),
+            "sub_file" => lent::sub_file(map, layout, *zoom, lent),
+            "tag" => lent::tag(map, 0, count, k, lent),
+            "text" => lent::text(map, 0, lent),
+            "tile_count" => lent::tile_count(interval, *grid, lent),
+            "tile_index" => lent::tile_index(interval, *grid, 0, 0, lent),
+            "index_entry" => tiles.entry(*tile, lent),
+            "column" => lent::column(0.0, *zoom, lent),
+            "longitude" => lent::longitude(0, *zoom, lent),
+            "stream_open" => tiles.stream(0, *tile, *zoom, lent),
+            "stream_next" => lent::next(map, layout, &[0; 7], lent),
+            "stream_accept" => lent::accept(map, &[0; 7], &[0; 6], lent),
+            "stream_decline" => lent::decline(&[0; 7], lent),
+            "collect" => tiles.collect(*tile, lent),
+            "fetch" => tiles.fetch(*tile, self.feature, &[0; 6], lent),
+            "measure_way_data" => lent::measure_way_data(map, 0, 1, lent),
+            "read_way_data" => lent::read_way_data(map, 1, &[0; 6], lent),
+            other => panic!("{other} is not known"),
+        });
+        answered(&told)
     }
 
     /// What the calls of a stream answer, with calls out of turn at each place. Each way is accepted, or else declined.
     fn stream(&self) -> Vec<(&'static str, u64)> {
         let (map, layout) = (&self.map, &self.layout);
-        let mut state = [0; 7];
-        let (opened, _) = self.open_stream(&mut state);
-        let mut seen = vec![("stream_open", opened)];
-        while seen[0].1 == 0 {
-            seen.push(("stream_accept", accept(map, &mut state, 0).0));
-            seen.push(("stream_decline", decline(&mut state).0));
-            let ((number, _), what) = next(map, layout, &mut state);
-            seen.push(("stream_next", number));
-            if number != 0 || what == END {
+        let opened = twice(|lent| self.tiles().stream(0, self.tile, self.zoom, lent));
+        let mut seen = vec![("stream_open", answered(&opened).0)];
+        let mut state = opened.state();
+        let mut call = |name: &'static str, told: Told, state: &mut State| {
+            seen.push((name, answered(&told).0));
+            *state = if told.number == 0 { told.state() } else { *state };
+            told
+        };
+        let next = |state: &State| twice(|lent| lent::next(map, layout, state, lent));
+        let accept = |state: &State, room: u64| {
+            twice(|lent| lent::accept(map, state, &[room, room, room, 0, 0, 0], lent))
+        };
+        let decline = |state: &State| twice(|lent| lent::decline(state, lent));
+        while opened.number == 0 {
+            call("stream_accept", accept(&state, 0), &mut state);
+            call("stream_decline", decline(&state), &mut state);
+            let told = call("stream_next", next(&state), &mut state);
+            if told.number != 0 || told.word(word::NEXT_KIND) == word::END {
                 break;
             }
-            if what == WAY {
-                seen.push(("stream_next", next(map, layout, &mut state).0 .0));
-                let accepts = [0, 8].map(|room| accept(map, &mut state, room).0);
-                seen.extend(accepts.map(|number| ("stream_accept", number)));
+            if told.word(word::NEXT_KIND) == word::WAY {
+                call("stream_next", next(&state), &mut state);
+                call("stream_accept", accept(&state, 0), &mut state);
+                call("stream_accept", accept(&state, 8), &mut state);
                 // Out of turn if the way was accepted.
-                seen.push(("stream_decline", decline(&mut state).0));
+                call("stream_decline", decline(&state), &mut state);
             }
         }
         seen
     }
+}
+
+/// The number, and a refusal's values; a refused call writes nothing but these.
+fn answered(told: &Told) -> Answer {
+    (told.number, if told.number == 0 { [0; 6] } else { told.refusal() })
 }
 
 /// A byte, so many of them, or the magic bytes.
@@ -242,57 +243,6 @@ fn repeated(word: &str) -> Vec<u8> {
     vec![u8::from_str_radix(byte, 16).expect(word); times.parse().expect(word)]
 }
 
-/// A call that writes the refusal's values to the front of its words.
-fn asked<const N: usize>(call: impl FnOnce(&mut [u64; N]) -> u64) -> Answer {
-    let mut words = [7; N];
-    let number = call(&mut words);
-    answer(number, &words[..6])
-}
-
-fn no_lists() -> FetchLists<'static> {
-    FetchLists {
-        node_counts: &mut [],
-        latitudes: &mut [],
-        longitudes: &mut [],
-        initial_latitudes: &mut [],
-        initial_longitudes: &mut [],
-        buffer: &mut [],
-    }
-}
-
-/// What next says that it gives.
-const WAY: u64 = 1;
-const END: u64 = 2;
-
-/// Next, and what it gives.
-fn next(map: &[u8], layout: &[u64; 5], state: &mut [u64; 7]) -> (Answer, u64) {
-    let mut words = [7; 21];
-    let (mut signed_words, mut degrees, mut ids) = ([0; 2], [0.0; 2], [0; 15]);
-    let number =
-        raw::stream_next(map, layout, state, &mut words, &mut signed_words, &mut degrees, &mut ids);
-    (answer(number, &words[..6]), words[6])
-}
-
-fn accept(map: &[u8], state: &mut [u64; 7], room: usize) -> Answer {
-    let (mut counts, mut latitudes, mut longitudes) =
-        (vec![0; room], vec![0.0; room], vec![0.0; room]);
-    asked::<18>(|words| {
-        raw::stream_accept(
-            map,
-            state,
-            &mut counts,
-            &mut latitudes,
-            &mut longitudes,
-            words,
-            &mut [0.0; 2],
-        )
-    })
-}
-
-fn decline(state: &mut [u64; 7]) -> Answer {
-    asked::<6>(|words| raw::stream_decline(state, words))
-}
-
 // ---- tests
 
 #[test]
@@ -300,19 +250,23 @@ fn every_refusal_has_a_row() {
     let page = text("docs/REFUSALS.md");
     let rows = table(&page, HEAD);
     let source = text("crates/error/src/lib.rt");
-    let body = source.split("pub enum Refusal {").nth(1).and_then(|rest| rest.split("\n}").next());
-    let cases = body.expect("the enum").lines().map(str::trim).filter(|line| !line.is_empty());
-    let cases: Vec<&str> = cases.filter(|line| !line.starts_with("//")).collect();
-    assert_eq!(rows.len(), cases.len(), "a row for each case of the library's Refusal");
-    for (k, (row, case)) in rows.iter().zip(cases).enumerate() {
+    for (k, row) in rows.iter().enumerate() {
         let number = k as u64 + 1;
         assert_eq!(row[0], number.to_string());
-        let plain = |text: &str| text.split(['(', ',']).next().map(String::from);
-        assert_eq!(plain(case), Some(name(&row[1]).to_string()));
         let wrapped = format!("{:?}", Refusal::check(number, &[]).unwrap_err());
-        assert_eq!(plain(&wrapped), plain(case));
+        let case = name(&row[1]);
+        assert_eq!(wrapped.split('(').next(), Some(case));
+        // In the library a list that is too short is a case of its own.
+        let known =
+            if number == 15 { "LentRefusal::Short".into() } else { format!("Refusal::{case}") };
+        let arms = ["", "(_)"].map(|value| format!("        {known}{value} => {number},\n"));
+        assert!(arms.iter().any(|arm| source.contains(arm)), "{known} has the number {number}");
         assert!(row.iter().all(|cell| !cell.is_empty()), "{row:?}");
     }
+    // No other case of the library has a number.
+    let body = source.split("pub enum Refusal {").nth(1).and_then(|rest| rest.split("\n}").next());
+    let cases = body.expect("the enum").lines().map(str::trim).filter(|line| !line.is_empty());
+    assert_eq!(cases.filter(|line| !line.starts_with("//")).count() + 1, rows.len());
     let constants = text("include/mapsforge.h").matches("    MAPSFORGE_").count();
     assert_eq!(constants, rows.len());
     let hex: Vec<String> = MAGIC.iter().map(|byte| format!("{byte:02X}")).collect();

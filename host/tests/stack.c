@@ -25,8 +25,8 @@ static double latitudes[ROOM], longitudes[ROOM], initial_latitudes[ROOM], initia
 
 static void nothing(void) {}
 static void open_map(void) { refusal = mapsforge_open(map, len, header, degrees, layout); }
-static void find_interval(void) { refusal = mapsforge_interval(map, len, sub_file, words, interval); }
-static void find_sub_file(void) { refusal = mapsforge_sub_file(map, len, ZOOM, words); }
+static void find_interval(void) { refusal = mapsforge_interval(map, len, layout, sub_file, words, interval); }
+static void find_sub_file(void) { refusal = mapsforge_sub_file(map, len, layout, ZOOM, words); }
 static void tag(void) {
     size_t count = (size_t)layout[MAPSFORGE_LAYOUT_WAY_TAG_COUNT];
     refusal = mapsforge_tag(map, len, (size_t)layout[MAPSFORGE_LAYOUT_WAY_TAGS], count, count - 1, words);

@@ -1,10 +1,13 @@
-//! What include/mapsforge.h says of words: those that the wrapper does not read, and what arrays hold after a refusal.
+//! What include/mapsforge.h says of words: which of them each answer writes, and what those say that the wrapper does not
+//! read.
 
 mod common;
 
+use common::lent::{self, twice, Answered, Entry, Lengths, Told, Writes};
 use common::{map_bytes, SHIPPED};
 use mapsforge::raw::{self, FetchLists, FetchWords};
 use mapsforge::{word, Map};
+use std::collections::BTreeSet;
 
 const SUB_FILE: usize = 2;
 const GRID: [i32; 4] = [4094, 2270, 4097, 2272];
@@ -23,10 +26,15 @@ type Body = [u64; word::ACCEPT_WORDS];
 impl Tiles {
     fn of(name: &str) -> Tiles {
         let bytes = map_bytes(name);
-        let (mut layout, mut interval) = ([7; 5], [7; 6]);
+        let (mut layout, mut interval) = ([7; word::LAYOUT_WORDS], [7; 6]);
         assert_eq!(raw::open(&bytes, &mut [7; 34], &mut [7.0; 6], &mut layout), 0);
-        assert_eq!(raw::interval(&bytes, SUB_FILE, &mut [7; 6], &mut interval), 0);
+        assert_eq!(raw::interval(&bytes, &layout, SUB_FILE, &mut [7; 6], &mut interval), 0);
         Tiles { bytes, layout, interval }
+    }
+
+    fn lent(&self) -> lent::Tiles<'_> {
+        let (layout, interval) = (self.layout, self.interval);
+        lent::Tiles { map: &self.bytes, layout, interval, grid: GRID }
     }
 
     fn collect(&self, tile: usize) -> [u64; word::COLLECT_WORDS] {
@@ -171,9 +179,12 @@ impl Made {
 
     /// A header with the fields that the flags say, and two intervals.
     fn with(flags: u64) -> Made {
+        // The values of a refusal keep what is lent.
+        let mut words = [0; word::OPEN_WORDS];
+        words[..word::VALUES].fill(7);
         let mut made = Made {
             bytes: b"mapsforge binary OSM".to_vec(),
-            words: [0; word::OPEN_WORDS],
+            words,
             degrees: [0.0; word::OPEN_DEGREES],
             layout: [0; word::LAYOUT_WORDS],
         };
@@ -212,6 +223,8 @@ impl Made {
             &["e=f", "g=h", "i=j"],
         );
         made.word(word::OPEN_SUB_FILES, 2, 1);
+        made.layout[word::LAYOUT_INTERVALS] = made.bytes.len() as u64;
+        made.layout[word::LAYOUT_INTERVAL_COUNT] = 2;
         for interval in INTERVALS {
             for (number, size) in interval.into_iter().zip([1, 1, 1, 8, 8]) {
                 made.number(number, size);
@@ -230,12 +243,13 @@ fn opening_gives_the_headers_fields() {
     // Each of the five fields that a header may do without is there, or is not.
     for flags in (0..0x80).step_by(4) {
         let made = Made::with(flags);
-        let (mut words, mut degrees, mut layout) = ([7; 34], [7.0; 6], [7; 5]);
+        let (mut words, mut degrees, mut layout) = ([7; 34], [7.0; 6], [7; 7]);
         assert_eq!(raw::open(&made.bytes, &mut words, &mut degrees, &mut layout), 0);
         assert_eq!((words, degrees, layout), (made.words, made.degrees, made.layout));
         for (sub_file, known) in INTERVALS.into_iter().enumerate() {
             let mut interval = [7; word::INTERVAL_WORDS];
-            assert_eq!(raw::interval(&made.bytes, sub_file, &mut [7; 6], &mut interval), 0);
+            let number = raw::interval(&made.bytes, &layout, sub_file, &mut [7; 6], &mut interval);
+            assert_eq!(number, 0);
             assert_eq!(interval[word::INTERVAL_THERE], 1);
             let fields = [
                 word::INTERVAL_BASE_ZOOM,
@@ -252,7 +266,7 @@ fn opening_gives_the_headers_fields() {
 #[test]
 fn shipped_maps_have_their_magic_and_their_debug_flag() {
     for name in SHIPPED {
-        let (bytes, mut words, mut layout) = (map_bytes(name), [7; word::OPEN_WORDS], [7; 5]);
+        let (bytes, mut words, mut layout) = (map_bytes(name), [7; word::OPEN_WORDS], [7; 7]);
         assert_eq!(raw::open(&bytes, &mut words, &mut [7.0; 6], &mut layout), 0);
         let (magic, size) = (words[word::OPEN_MAGIC] as usize, words[word::OPEN_MAGIC_SIZE]);
         assert_eq!(&bytes[magic..][..size as usize], b"mapsforge binary OSM");
@@ -267,7 +281,7 @@ fn a_tile_count_and_a_kind_may_be_of_nothing() {
     assert_eq!(raw::tile_count(&tiles.interval, GRID, &mut words), 0);
     assert_eq!(words[word::TILE_COUNT_THERE..], [1, 12]);
     assert_eq!(raw::tile_count(&[0; 6], GRID, &mut words), 0);
-    assert_eq!(words[word::TILE_COUNT_THERE..], [0, 0]);
+    assert_eq!(words[word::TILE_COUNT_THERE..], [0, 12]);
 
     let map = Map::open(&tiles.bytes).unwrap();
     for (k, tag) in map.point_tags().iter().enumerate() {
@@ -298,11 +312,13 @@ fn a_state_has_what_is_to_come() {
                 assert_eq!(state[word::STATE_SUB_FILE], SUB_FILE as u64);
                 assert_eq!([state[word::IDLE_POINTS], state[word::IDLE_WAYS]], [points, ways]);
                 let next = tiles.next(&mut state);
-                // A stream gives no signatures, in a debug map either.
-                let signature = word::NEXT_SIGNATURE..word::NEXT_SIGNATURE + word::PART_WORDS;
-                assert!(next[signature].iter().all(|&word| word == 0));
                 match next[word::NEXT_KIND] {
-                    word::POINT => points -= 1,
+                    word::POINT => {
+                        points -= 1;
+                        // A stream gives no signatures, in a debug map either.
+                        let signature = &next[word::NEXT_SIGNATURE..][..word::PART_WORDS];
+                        assert_eq!(signature, [0; word::PART_WORDS]);
+                    }
                     word::WAY => {
                         ways -= 1;
                         state = waiting(&tiles, state, ways);
@@ -365,137 +381,181 @@ fn names_behind_the_map_are_empty() {
     // Asked for itself, such a name is refused.
     let mut words = [7; word::TAG_WORDS];
     assert_eq!(raw::tag(&tiles.bytes, behind, 43, 0, &mut words), 1);
-    assert_eq!(words, [0; word::TAG_WORDS]);
+    assert_eq!(words, [7; word::TAG_WORDS]);
 }
 
-// ---- refusals
+// ---- which words are written
 
-/// Whether arrays hold nothing but zeros, of which a float's is that without a sign.
-fn zeros(words: &[&[u64]], signed: &[i64], degrees: &[f64]) -> bool {
-    words.iter().copied().flatten().all(|&word| word == 0)
-        && signed.iter().all(|&word| word == 0)
-        && degrees.iter().all(|degree| degree.to_bits() == 0)
+/// The calls and answers that were tried, against what the header says of them.
+struct Tried {
+    writes: Writes,
+    answers: BTreeSet<(String, String)>,
 }
 
-/// On a refusal every array is 0 but for the values; the state and the lists are as before.
-#[test]
-fn refused_calls_leave_zeros() {
-    let tiles = Tiles::of("islands.map");
-    let (bytes, layout, interval) = (&tiles.bytes, &tiles.layout, &tiles.interval);
-
-    let (mut words, mut degrees, mut other) = ([7; 34], [7.0; 6], [7; 5]);
-    assert_eq!(raw::open(&bytes[..300], &mut words, &mut degrees, &mut other), 1);
-    assert!(zeros(&[&words, &other], &[], &degrees));
-    let (mut words, mut other) = ([7; 6], [7; 6]);
-    assert_eq!(raw::interval(&bytes[..300], 0, &mut words, &mut other), 1);
-    assert!(zeros(&[&words, &other], &[], &[]));
-    let mut words = [7; 8];
-    assert_eq!(raw::sub_file(&bytes[..300], 14, &mut words), 1);
-    assert!(zeros(&[&words], &[], &[]));
-    let reversed = [5, 0, 4, 0];
-    let mut words = [7; 8];
-    assert_eq!(raw::tile_count(interval, reversed, &mut words), 14);
-    assert!(zeros(&[&words], &[], &[]));
-    let mut words = [7; 8];
-    assert_eq!(raw::tile_index(interval, reversed, 5, 0, &mut words), 14);
-    assert!(zeros(&[&words], &[], &[]));
-    let mut words = [7; 9];
-    assert_eq!(raw::index_entry(bytes, layout, interval, reversed, 0, &mut words), 14);
-    assert!(zeros(&[&words], &[], &[]));
-    let (mut words, mut column) = ([7; 6], [7]);
-    assert_eq!(raw::column(0.0, 64, &mut words, &mut column), 18);
-    assert!(zeros(&[&words], &column, &[]));
-    let (mut words, mut longitude) = ([7; 6], [7.0]);
-    assert_eq!(raw::longitude(0, 64, &mut words, &mut longitude), 18);
-    assert!(zeros(&[&words], &[], &longitude));
-    let (mut words, mut buffer) = ([7; 7], *b"####");
-    assert_eq!(raw::text(b"12345", &mut buffer, &mut words), 15);
-    assert_eq!((words[word::NEEDED_BUFFER], buffer), (5, *b"####"));
-    words[word::NEEDED_BUFFER] = 0;
-    assert!(zeros(&[&words], &[], &[]));
-}
-
-#[test]
-fn refused_calls_about_a_tile_leave_zeros() {
-    let tiles = Tiles::of("islands.map");
-    let (bytes, layout, interval) = (&tiles.bytes, &tiles.layout, &tiles.interval);
-    let missing = 12;
-
-    let (mut state, mut words) = ([7; 7], [7; 6]);
-    let number =
-        raw::stream_open(bytes, layout, interval, 2, GRID, missing, 13, &mut state, &mut words);
-    assert_eq!((number, state), (8, [7; 7]));
-    assert!(zeros(&[&words], &[], &[]));
-    let (mut words, mut points, mut ways) = ([7; 14], [7; 256], [7; 256]);
-    let number =
-        raw::collect(bytes, layout, interval, GRID, missing, &mut words, &mut points, &mut ways);
-    assert_eq!(number, 8);
-    assert!(zeros(&[&words, &points, &ways], &[], &[]));
-
-    let mut got = FetchWords {
-        words: [7; 35],
-        signed_words: [7; 2],
-        degrees: [7.0; 2],
-        ids: [7; 15],
-        tags: [7; 75],
-    };
-    let mut lists = ([7; 3], [[7.0; 3]; 4], *b"###");
-    let (node_counts, [latitudes, longitudes, initial_latitudes, initial_longitudes], buffer) =
-        (&mut lists.0, &mut lists.1, &mut lists.2);
-    let lent = FetchLists {
-        node_counts,
-        latitudes,
-        longitudes,
-        initial_latitudes,
-        initial_longitudes,
-        buffer,
-    };
-    assert_eq!(raw::fetch(bytes, layout, interval, GRID, missing, 0, lent, &mut got), 8);
-    assert!(zeros(&[&got.words, &got.ids, &got.tags], &got.signed_words, &got.degrees));
-    assert_eq!(lists, ([7; 3], [[7.0; 3]; 4], *b"###"));
-}
-
-#[test]
-fn refused_calls_of_a_stream_leave_zeros() {
-    let tiles = Tiles::of("islands.map");
-    // Tile 9 has ways only, so that one waits.
-    let idle = tiles.open(9);
-    let mut waits = idle;
-    tiles.next(&mut waits);
-
-    let (mut state, mut words, mut ids) = (waits, [7; 21], [7; 15]);
-    let (mut signed, mut degrees) = ([7; 2], [7.0; 2]);
-    let number = raw::stream_next(
-        &tiles.bytes,
-        &tiles.layout,
-        &mut state,
-        &mut words,
-        &mut signed,
-        &mut degrees,
-        &mut ids,
-    );
-    assert_eq!((number, state), (16, waits));
-    assert!(zeros(&[&words, &ids], &signed, &degrees));
-
-    for (before, expected) in [(idle, 16), (waits, 15)] {
-        let (mut state, mut words, mut degrees) = (before, [7; 18], [7.0; 2]);
-        let number = raw::stream_accept(
-            &tiles.bytes,
-            &mut state,
-            &mut [],
-            &mut [],
-            &mut [],
-            &mut words,
-            &mut degrees,
-        );
-        assert_eq!((number, state), (expected, before));
-        assert!(zeros(&[&words[word::VALUES..]], &[], &degrees));
+impl Tried {
+    /// An answer that writes its own words of arrays, and these fronts of lists.
+    fn of_lists(&mut self, call: &str, answer: &str, told: &Told, fronts: &[(&'static str, u64)]) {
+        assert_eq!(told.number, 0, "{call}: {answer}");
+        let rows = if call == "collect" { told.word(word::COLLECT_ROWS) } else { 0 };
+        let mut own = self.writes.own(call, answer, rows);
+        for &(list, length) in fronts {
+            own.extend((0..length as usize).map(|k| -> Entry { (list, k) }));
+        }
+        told.wrote(&own);
+        self.answers.insert((call.into(), answer.into()));
     }
-    let (mut state, mut words) = (idle, [7; 6]);
-    assert_eq!((raw::stream_decline(&mut state, &mut words), state), (16, idle));
-    assert!(zeros(&[&words], &[], &[]));
 
-    let mut words = [7; 9];
-    assert_eq!(raw::measure_way_data(&[1], 0, 1, &mut words), 1);
-    assert!(zeros(&[&words], &[], &[]));
+    fn of(&mut self, call: &str, answer: &str, asked: impl FnMut(u64) -> Answered) -> Told {
+        let told = twice(asked);
+        self.of_lists(call, answer, &told, &[]);
+        told
+    }
+
+    /// A call that needs lists: refused without, then made with some entries more than it needs.
+    fn with_lists(
+        &mut self,
+        call: &str,
+        answer: impl Fn(&Told) -> &'static str,
+        mut asked: impl FnMut(&Lengths, u64) -> Answered,
+    ) -> Told {
+        let empty = twice(|lent| asked(&[0; 6], lent));
+        let needed = if empty.number == 15 { empty.refusal() } else { [0; 6] };
+        let enough = needed.map(|length| length + 3);
+        // Each list by one entry too short.
+        for k in (0..6).filter(|&k| needed[k] > 0) {
+            let mut lengths = enough;
+            lengths[k] = needed[k] - 1;
+            let short = twice(|lent| asked(&lengths, lent));
+            assert_eq!((short.number, short.refusal()), (15, needed));
+        }
+        let told = twice(|lent| asked(&enough, lent));
+        let names = [
+            "node_counts",
+            "latitudes",
+            "longitudes",
+            "initial_latitudes",
+            "initial_longitudes",
+            "buffer",
+        ];
+        let fronts: Vec<_> = names.into_iter().zip(needed).filter(|(_, n)| *n > 0).collect();
+        self.of_lists(call, answer(&told), &told, &fronts);
+        told
+    }
+}
+
+#[test]
+fn each_answer_writes_its_own_words() {
+    let mut tried = Tried { writes: Writes::read(), answers: BTreeSet::new() };
+    for flags in [0, 0x7c] {
+        tried.of("open", "a map", |lent| lent::open(&Made::with(flags).bytes, lent));
+    }
+    for name in SHIPPED {
+        let tiles = Tiles::of(name);
+        of_header(&mut tried, &tiles);
+        for tile in 0..12 {
+            of_tile(&mut tried, &tiles, tile);
+        }
+    }
+    tried.of("column", "a column", |lent| lent::column(0.5, 13, lent));
+    tried.of("longitude", "a longitude", |lent| lent::longitude(4096, 13, lent));
+    let text = b"\xff text";
+    let told = twice(|lent| lent::text(text, 9, lent));
+    tried.of_lists("text", "a text", &told, &[("buffer", 8)]);
+    // Two nodes in one block.
+    let data = [1, 2, 1, 1, 2, 2];
+    tried.of("measure_way_data", "a way", |lent| lent::measure_way_data(&data, 0, 1, lent));
+    tried.with_lists(
+        "read_way_data",
+        |_| "a way",
+        |lengths, lent| lent::read_way_data(&data, 1, lengths, lent),
+    );
+    // Each answer that the header tells of was there.
+    assert_eq!(tried.answers, tried.writes.answers());
+    assert_eq!(tried.answers.len(), 25);
+}
+
+/// Opening, intervals, tags, and places in a grid.
+fn of_header(tried: &mut Tried, tiles: &Tiles) {
+    let Tiles { bytes, layout, interval } = tiles;
+    tried.of("open", "a map", |lent| lent::open(bytes, lent));
+    for sub_file in 0..3 {
+        tried.of("interval", "an interval", |lent| lent::interval(bytes, layout, sub_file, lent));
+    }
+    tried.of("interval", "a missing one", |lent| lent::interval(bytes, layout, 3, lent));
+    tried.of("sub_file", "a sub file", |lent| lent::sub_file(bytes, layout, 14, lent));
+    tried.of("sub_file", "none", |lent| lent::sub_file(bytes, layout, 22, lent));
+    let [start, count] =
+        [word::LAYOUT_WAY_TAGS, word::LAYOUT_WAY_TAG_COUNT].map(|k| layout[k] as usize);
+    for k in 0..count {
+        tried.of("tag", "a tag", |lent| lent::tag(bytes, start, count, k, lent));
+    }
+    let missing = [0; word::INTERVAL_WORDS];
+    tried.of("tile_count", "a count", |lent| lent::tile_count(interval, GRID, lent));
+    tried.of("tile_count", "a missing sub file", |lent| lent::tile_count(&missing, GRID, lent));
+    let index = |of: &lent::Interval, x, lent| lent::tile_index(of, GRID, x, 2271, lent);
+    tried.of("tile_index", "a number", |lent| index(interval, 4095, lent));
+    tried.of("tile_index", "none", |lent| index(interval, 4098, lent));
+    tried.of("tile_index", "none", |lent| index(&missing, 4095, lent));
+}
+
+/// A tile's entry, its features fetched, and its stream with each way declined and accepted.
+fn of_tile(tried: &mut Tried, tiles: &Tiles, tile: usize) {
+    let (asked, kind) = (tiles.lent(), |told: &Told| {
+        if told.word(word::FETCH_KIND) == word::POINT {
+            "a point"
+        } else {
+            "a way"
+        }
+    });
+    tried.of("index_entry", "an entry", |lent| asked.entry(tile, lent));
+    let whole = tried.of("collect", "a tile", |lent| asked.collect(tile, lent));
+    let features = whole.word(word::COLLECT_POINTS) + whole.word(word::COLLECT_WAYS);
+    for k in 0..features {
+        tried.with_lists("fetch", kind, |lengths, lent| asked.fetch(tile, k, lengths, lent));
+    }
+    let opened = tried.of("stream_open", "a stream", |lent| asked.stream(2, tile, 21, lent));
+    let (map, layout, mut state) = (&tiles.bytes, &tiles.layout, opened.state());
+    loop {
+        let told = twice(|lent| lent::next(map, layout, &state, lent));
+        let answer = ["a point", "a way", "the end"][told.word(word::NEXT_KIND) as usize];
+        tried.of_lists("stream_next", answer, &told, &[]);
+        state = told.state();
+        if answer == "the end" {
+            return;
+        }
+        if answer == "a way" {
+            assert_eq!(twice(|lent| lent::next(map, layout, &state, lent)).refusal(), [0; 6]);
+            tried.of("stream_decline", "a way", |lent| lent::decline(&state, lent));
+            let accepted = tried.with_lists(
+                "stream_accept",
+                |_| "a way",
+                |lengths, lent| lent::accept(map, &state, lengths, lent),
+            );
+            state = accepted.state();
+        }
+    }
+}
+
+/// A refused call writes its values and nothing else. tests/refusals.rs tries this of each call with each of its refusals;
+/// here are some with arrays that hold results.
+#[test]
+fn refused_calls_leave_all_else_alone() {
+    let tiles = Tiles::of("islands.map");
+    let Tiles { bytes, interval, .. } = &tiles;
+    let (asked, reversed) = (tiles.lent(), lent::Tiles { grid: [5, 0, 4, 0], ..tiles.lent() });
+    let front = lent::Tiles { map: &bytes[..23_000], ..asked };
+    let refused = |number: u64, values: [u64; 6], told: Told| {
+        assert_eq!((told.number, told.refusal()), (number, values));
+    };
+    let none = [0; 6];
+    refused(1, none, twice(|lent| lent::open(&bytes[..300], lent)));
+    refused(14, none, twice(|lent| lent::tile_count(interval, reversed.grid, lent)));
+    refused(14, none, twice(|lent| reversed.entry(0, lent)));
+    refused(8, none, twice(|lent| asked.stream(2, 12, 13, lent)));
+    refused(8, none, twice(|lent| asked.collect(12, lent)));
+    refused(17, none, twice(|lent| asked.fetch(10, 176, &[9; 6], lent)));
+    // The zoom table can be read here, and the points too.
+    refused(1, none, twice(|lent| front.collect(10, lent)));
+    refused(1, none, twice(|lent| front.fetch(10, 0, &[99; 6], lent)));
+    refused(15, [0, 0, 0, 0, 0, 8], twice(|lent| lent::text(b"\xff text", 7, lent)));
 }

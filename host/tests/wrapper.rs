@@ -2,13 +2,17 @@
 
 mod common;
 
-use common::{interval_place, map_bytes, map_path, repository, with_box, written, SHIPPED};
-use mapsforge::check::{self, Finding, MapFinding, Spot};
+use common::{
+    interval_place, map_bytes, map_path, offset_place, repository, stored, with_box, written,
+    SHIPPED,
+};
+use mapsforge::check;
 use mapsforge::{
-    raw, row_of_latitude, BoundingBox, Feature, Grid, Lengths, Map, MapFile, Refusal, Step, SubFile,
+    raw, row_of_latitude, BoundingBox, Feature, Grid, Lengths, Map, MapFile, Name, Refusal, Step,
+    SubFile,
 };
 use std::f64::consts::PI;
-use std::io::ErrorKind;
+use std::io::{ErrorKind, Read};
 
 // ---- what maps/islands.txt says
 
@@ -77,7 +81,7 @@ fn tile_is(sub_file: &SubFile<'_, '_>, line: &str) {
     assert_eq!([place.x.to_string(), place.y.to_string()], words[1..3]);
     assert_eq!(sub_file.tile_at(place.x, place.y), Ok(Some(place)));
     assert_eq!(sub_file.entry(tile).unwrap().water, water);
-    assert_eq!(sub_file.marked_empty(tile), Ok(false));
+    assert_eq!(sub_file.is_empty(tile), Ok(false));
 
     let collected = sub_file.collect(tile).unwrap();
     assert_eq!((collected.point_count(), collected.way_count()), pair(words[4]));
@@ -134,7 +138,7 @@ fn seen(feature: &Feature<'_>) -> String {
     match feature {
         Feature::Point(point) => format!(
             "{:?} {} {:?} {:?} {:?} {:?}",
-            point.position,
+            point.offset,
             point.layer,
             point.tag_ids,
             point.name,
@@ -166,7 +170,7 @@ fn streamed(sub_file: &SubFile<'_, '_>, tile: usize, zoom: u8, skipped: usize) -
         match stream.next().unwrap() {
             Step::Point(point) => all.push(format!(
                 "{:?} {} {:?} {:?} {:?} {:?}",
-                point.position,
+                point.offset,
                 point.layer,
                 point.tag_ids,
                 point.name.map(|name| name.to_text()),
@@ -406,8 +410,12 @@ fn a_cut_map_is_refused_where_something_is_missing() {
             let cut_off = Refusal::IndexCutOff(entry as u64);
             refused(length, Some(cut_off), cut_off);
         }
+        // The next entry is read right after the tile's own.
+        for length in entry + 5..entry + 10 {
+            refused(length, None, Refusal::IndexCutOff(entry as u64 + 5));
+        }
         // The tile is not there at all, or the map ends in its signature.
-        for length in (entry + 5..head).step_by(7).chain(head..head + signature) {
+        for length in (entry + 10..head).step_by(7).chain(head..head + signature) {
             refused(length, None, Refusal::TileHeadCutOff(head as u64));
         }
         // A number is read byte by byte.
@@ -450,7 +458,8 @@ fn fetch_refused(sub_file: &SubFile<'_, '_>, tile: usize) -> Refusal {
 
 fn interval_words(map: &Map<'_>, sub_file: usize) -> [u64; 6] {
     let mut interval = [0; 6];
-    assert_eq!(raw::interval(map.bytes(), sub_file, &mut [0; 6], &mut interval), 0);
+    let number = raw::interval(map.bytes(), map.layout(), sub_file, &mut [0; 6], &mut interval);
+    assert_eq!(number, 0);
     interval
 }
 
@@ -545,188 +554,103 @@ fn corners_lead_back_to_their_tiles() {
     }
 }
 
-// ---- checks
-
-/// All findings of a map's tiles, with sub file and tile.
-fn findings(map: &Map<'_>) -> Vec<(usize, usize, Finding)> {
-    let mut all = Vec::new();
-    for sub_file in map.sub_files().map(Result::unwrap) {
-        for place in sub_file.tiles().unwrap() {
-            let report = check::tile(&sub_file, place);
-            all.extend(
-                report.findings.iter().map(|found| (sub_file.number(), place.number, *found)),
-            );
-        }
-    }
-    all
-}
+// ---- names and places
 
 #[test]
-fn check_finds_the_short_size_and_nothing_else() {
+fn names_in_languages() {
+    let bytes = map_bytes("islands.map");
+    let map = Map::open(&bytes).unwrap();
+    let sub_file = map.sub_file(2).unwrap();
+    let tile = sub_file.collect(10).unwrap();
+    let town = tile.point(0).unwrap();
+    assert_eq!(town.name.as_deref(), Some("Havnby\ren\u{8}Harbour Town"));
+    for (language, name) in [("en", "Harbour Town"), ("EN-gb", "Harbour Town"), ("nb", "Havnby")] {
+        assert_eq!(town.name_in(language), Some(name), "{language}");
+    }
+    assert_eq!(tile.way(32).unwrap().name_in("ja"), Some("ハウンビー港"));
+    assert_eq!(tile.point(8).unwrap().name_in("en"), None);
+    let name = Name::new("a\rb\rxx\u{8}c\ryy\u{8}d");
+    assert_eq!(
+        name.others().collect::<Vec<_>>(),
+        [(None, "b"), (Some("xx"), "c"), (Some("yy"), "d")]
+    );
+    // Streamed, they are the same.
+    let mut stream = sub_file.stream(10, 21).unwrap();
+    let Ok(Step::Point(point)) = stream.next() else { panic!("the first is a point") };
+    assert_eq!(point.name_in("en"), Some("Harbour Town"));
+    let ferry = sub_file.placed(sub_file.tile(10).unwrap(), 21).unwrap().nth(35 + 32).unwrap();
+    assert_eq!(ferry.unwrap().name_in("en"), Some("Havnby Ferry Terminal"));
+}
+
+/// A feature at its place is the collected one, its offsets added to the tile's corner.
+#[test]
+fn placed_features_are_the_collected_ones() {
     for name in SHIPPED {
         let bytes = map_bytes(name);
         let map = Map::open(&bytes).unwrap();
-        assert_eq!(check::map(&map), []);
-        let size = Finding::Size { way: 9, at: 23258, stored: 0x22, decoded: 0x23 };
-        let expected = if name == "short-size.map" { vec![(2, 10, size)] } else { vec![] };
-        assert_eq!(findings(&map), expected, "{name}");
+        for sub_file in map.sub_files().map(Result::unwrap) {
+            for place in sub_file.tiles().unwrap() {
+                let corner = sub_file.corner(place).unwrap();
+                let tile = sub_file.collect(place.number).unwrap();
+                let placed = sub_file.placed(place, 255).unwrap().map(Result::unwrap);
+                let mut count = 0;
+                for (feature, collected) in placed.zip(tile.features().map(Result::unwrap)) {
+                    count += 1;
+                    let (name, lines, label) = match &collected {
+                        Feature::Point(point) => (&point.name, vec![vec![point.offset]], None),
+                        Feature::Way(way) => {
+                            let lines = way.blocks.iter().map(|block| block.nodes.clone());
+                            (&way.name, lines.collect(), way.label)
+                        }
+                    };
+                    assert_eq!(feature.name, name.as_deref());
+                    let nodes: Vec<Vec<_>> =
+                        feature.lines.iter().map(|line| line.nodes.clone()).collect();
+                    let expected: Vec<Vec<_>> = lines
+                        .iter()
+                        .map(|nodes| nodes.iter().map(|&node| corner + node).collect())
+                        .collect();
+                    assert_eq!(nodes, expected);
+                    let label = label.map(|label| corner + (lines[0][0] + label));
+                    assert_eq!(feature.label, label);
+                }
+                assert_eq!(count, tile.point_count() + tile.way_count());
+            }
+        }
     }
 }
 
+/// A map is read from a pipe as far as its header says, and one byte more.
 #[test]
-fn check_names_the_place_of_a_refusal() {
+fn maps_are_read_from_pipes() {
     let whole = map_bytes("islands.map");
-    let at = |tile| Map::open(&whole).unwrap().sub_file(2).unwrap().entry(tile).unwrap().place;
-
-    // Cut in the last tile: its last way, which starts at the same place whole or cut.
-    let cut = &whole[..whole.len() - 1];
-    let map = Map::open(cut).unwrap();
-    let size = MapFinding::FileSize { stored: 29815, actual: 29814 };
-    assert_eq!(check::map(&map), [size]);
-    let found = findings(&map);
-    let [(2, 11, Finding::Refused { tile: 11, refusal, spot: Spot::Way(52), at: Some(way) })] =
-        found[..]
-    else {
-        panic!("{found:?}");
-    };
-    assert_eq!(refusal, Refusal::Source);
-    assert_eq!(way + 1 + u64::from(whole[way as usize]), whole.len() as u64);
-
-    // Cut in the last tile's head.
-    let cut = &whole[..at(11) as usize + 3];
-    let found = findings(&Map::open(cut).unwrap());
-    let refusal = Refusal::TileHeadCutOff(at(11) + 3);
-    let head = Finding::Refused { tile: 11, refusal, spot: Spot::Head, at: Some(at(11)) };
-    assert_eq!(found, [(2, 11, head)]);
-    let told = format!("refused with 20: the head of tile 11 is cut off at byte {}: ", at(11) + 3);
-    assert!(head.to_string().starts_with(&told), "{head}");
-
-    // Cut behind the header: each tile's entry.
-    let end = Map::open(&whole).unwrap().header().end as usize;
-    let map = Map::open(&whole[..end]).unwrap();
-    let index = MapFinding::Index { sub_file: 0, start: 1852, tiles: 4, room: 0, cut_off: 1852 };
-    assert_eq!(check::map(&map)[1], index);
-    let found = findings(&map);
-    assert_eq!(found.len(), 20);
-    let (refusal, entry) = (Refusal::IndexCutOff(12288), Some(12233 + 5 * 11));
-    let last = Finding::Refused { tile: 11, refusal, spot: Spot::Entry, at: entry };
-    assert_eq!(found[19], (2, 11, last));
-    assert!(last.to_string().starts_with("refused with 19: the index is cut off at byte 12288: "));
-
-    // A point with a tag that the header does not have.
-    let map = Map::open(&whole).unwrap();
-    let tile = map.sub_file(2).unwrap().collect(8).unwrap();
-    let id = tile.points().next().unwrap().unwrap().tag_ids[0] as u8;
-    let head = at(8) as usize + 19;
-    let place = (head..).find(|&k| whole[k] == id && whole[k - 1] & 0xf0 == 0x50).unwrap();
-    let mut tagged = whole.clone();
-    tagged[place] = 0x7f;
-    let found = findings(&Map::open(&tagged).unwrap());
-    let refusal = Refusal::InvalidTagId(0x7f);
-    let spot = Finding::Refused { tile: 8, refusal, spot: Spot::Point(0), at: Some(head as u64) };
-    assert_eq!(found, [(2, 8, spot)]);
-}
-
-/// The place that is told of a cut index is the one by which the library refuses the first entry that is missing.
-#[test]
-fn check_names_the_place_of_a_cut_index() {
-    for (name, signature) in [("islands.map", 0), ("islands-debug.map", 16)] {
-        let whole = map_bytes(name);
-        let start = Map::open(&whole).unwrap().intervals()[2].start;
-        let entries = start + signature;
-        for length in entries..entries + 60 {
-            let map = Map::open(&whole[..length as usize]).unwrap();
-            let room = (length - entries) / 5;
-            let cut_off = entries + 5 * room;
-            let index = MapFinding::Index { sub_file: 2, start, tiles: 12, room, cut_off };
-            assert_eq!(check::map(&map)[1..], [index]);
-            let refused = map.sub_file(2).unwrap().entry(room as usize).unwrap_err();
-            assert_eq!(refused, Refusal::IndexCutOff(cut_off));
-            let told =
-                format!("sub file 2: refused with 19: the index is cut off at byte {cut_off}: ");
-            assert!(index.to_string().starts_with(&told), "{index}");
-        }
+    let read = |bytes: &[u8], most: u64| MapFile::from_reader(bytes, most);
+    assert_eq!(read(&whole, 1 << 20).unwrap().bytes(), whole);
+    assert_eq!(read(&whole[..100], 1 << 20).unwrap().bytes(), &whole[..100]);
+    assert_eq!(read(&[], 1 << 20).unwrap().bytes(), &[]);
+    assert_eq!(read(&whole, 1000).unwrap_err().kind(), ErrorKind::FileTooLarge);
+    // Something without end behind it.
+    let endless = whole.chain(std::io::repeat(7));
+    let file = MapFile::from_reader(endless, 1 << 30).unwrap();
+    assert!(file.bytes().starts_with(&whole) && file.bytes().len() <= 1 << 16);
+    // A large map: copies of itself behind it, and a header that says so.
+    let mut large = whole.repeat(10);
+    let size = large.len() as u64;
+    large[common::FILE_SIZE..][..8].copy_from_slice(&size.to_be_bytes());
+    assert_eq!(read(&large, 1 << 30).unwrap().bytes(), large);
+    let file = MapFile::from_reader(large.chain(std::io::repeat(7)), 1 << 30).unwrap();
+    assert_eq!(file.bytes().len() as u64, size + 1);
+    // What is no map is not read on.
+    let file = MapFile::from_reader(std::io::repeat(0), 1 << 30).unwrap();
+    assert_eq!(file.bytes().len(), 1 << 16);
+    // Nor is what is no file opened.
+    for path in ["/dev/zero", "/dev"] {
+        assert_eq!(MapFile::open(path).unwrap_err().kind(), ErrorKind::InvalidInput);
+        assert_eq!(MapFile::read(path).unwrap_err().kind(), ErrorKind::InvalidInput);
     }
 }
 
-/// An unsigned number and the place behind it.
-fn stored(bytes: &[u8], at: usize) -> (usize, usize) {
-    let end = (at..).find(|&k| bytes[k] & 0x80 == 0).unwrap() + 1;
-    (bytes[at..end].iter().rev().fold(0, |value, byte| value << 7 | usize::from(byte & 0x7f)), end)
-}
-
-/// Where a tile's first-way offset stands: behind a pair of counts for each zoom.
-fn offset_place(sub_file: &SubFile<'_, '_>, tile: usize) -> usize {
-    let (map, interval) = (sub_file.map(), sub_file.interval());
-    let signature = if map.header().debug() { 32 } else { 0 };
-    let start = sub_file.entry(tile).unwrap().place as usize + signature;
-    let numbers = 2 * (interval.max_zoom - interval.min_zoom + 1);
-    (0..numbers).fold(start, |at, _| stored(map.bytes(), at).1)
-}
-
-/// Each way of a tile in turn gets a wrong size, and just that one is found.
-#[test]
-fn check_finds_each_wrong_size() {
-    for (name, signature) in [("islands.map", 0), ("islands-debug.map", 32)] {
-        let mut bytes = map_bytes(name);
-        let whole = bytes.clone();
-        let map = Map::open(&whole).unwrap();
-        let sub_file = map.sub_file(2).unwrap();
-        let ways = sub_file.collect(10).unwrap().way_count();
-        let (offset, head_end) = stored(&whole, offset_place(&sub_file, 10));
-        let mut at = head_end + offset;
-        for way in 0..ways {
-            at += signature;
-            let (size, start) = stored(&whole, at);
-            // One less for an odd way, one more for an even one, by the number's lowest bits.
-            bytes[at] = if way % 2 == 1 { bytes[at] - 1 } else { bytes[at] + 1 };
-            let changed = Map::open(&bytes).unwrap();
-            let (wrong, end) = stored(&bytes, at);
-            assert_eq!((wrong.abs_diff(size), end), (1, start), "the change is small");
-            let finding =
-                Finding::Size { way, at: at as u64, stored: wrong as u64, decoded: size as u64 };
-            let sub_file = changed.sub_file(2).unwrap();
-            assert_eq!(check::tile(&sub_file, sub_file.tile(10).unwrap()).findings, [finding]);
-            bytes[at] = whole[at];
-            at = start + size;
-        }
-        assert_eq!(at as u64, sub_file.entry(11).unwrap().place);
-    }
-}
-
-/// A byte between the points and the ways of the last tile, which the offset leads past.
-#[test]
-fn check_finds_an_offset_that_leads_elsewhere() {
-    let mut bytes = map_bytes("islands.map");
-    let whole = bytes.clone();
-    let map = Map::open(&whole).unwrap();
-    let place = offset_place(&map.sub_file(2).unwrap(), 11);
-    let (offset, head_end) = stored(&whole, place);
-    let first_way = head_end + offset;
-    bytes[place] += 1;
-    bytes.insert(first_way, 0);
-    let changed = Map::open(&bytes).unwrap();
-    let finding = Finding::Offset { leads_to: first_way as u64 + 1, points_end: first_way as u64 };
-    assert_eq!(findings(&changed), [(2, 11, finding)]);
-    // The tile is the same all the same.
-    let ways = |map: &Map<'_>| -> Vec<String> {
-        let tile = map.sub_file(2).unwrap().collect(11).unwrap();
-        let ways = tile.ways().map(|way| seen(&Feature::Way(way.unwrap())));
-        ways.collect()
-    };
-    assert_eq!(ways(&changed), ways(&map));
-}
-
-#[test]
-fn an_absurd_grid_is_a_finding() {
-    let bytes = with_box(map_bytes("islands.map"), [-90000000, -180000000, 90000000, 180000000]);
-    let map = Map::open(&bytes).unwrap();
-    let found = check::map(&map);
-    assert_eq!(found.len(), 3);
-    let (tiles, room) = (1 << 26, (29815 - 12233) / 5);
-    let cut_off = 12233 + 5 * room;
-    assert_eq!(found[2], MapFinding::Index { sub_file: 2, start: 12233, tiles, room, cut_off });
-}
+// ---- damage
 
 /// Whatever a map's bytes are, every call ends, and nothing panics.
 #[test]
@@ -755,11 +679,14 @@ fn damaged_maps_are_read_without_harm() {
 
 fn read_all(sub_file: &SubFile<'_, '_>, place: mapsforge::TilePlace) {
     let report = check::tile(sub_file, place);
-    for finding in &report.findings {
-        assert!(!finding.to_string().is_empty());
+    let findings = check::explain(sub_file, &report);
+    assert!(findings.len() >= report.faults.len());
+    for finding in &findings {
+        assert!(!finding.to_string().is_empty() && !finding.remedy().is_empty());
+        assert!(!finding.collected().is_empty() && !finding.streamed().is_empty());
     }
     let Ok(tile) = sub_file.collect(place.number) else {
-        assert!(!report.findings.is_empty());
+        assert!(!report.faults.is_empty());
         return;
     };
     assert!(tile.features().step_by(7).all(|feature| feature.is_ok()));

@@ -17,6 +17,10 @@ pub struct Calls<'a> {
     pub opened: Opened,
     /// Of each sub file, which the calls about its tiles take.
     intervals: Vec<[u64; 6]>,
+    /// A refusal's values, for the calls whose words have nothing else.
+    values: [u64; 6],
+    pub interval: [u64; 6],
+    pub found: [u64; 8],
     state: [u64; 7],
     pub next: Next,
     pub accepted: Accepted,
@@ -28,7 +32,7 @@ pub struct Calls<'a> {
 pub struct Opened {
     pub words: [u64; 34],
     pub degrees: [f64; 6],
-    layout: [u64; 5],
+    layout: [u64; 7],
 }
 
 pub struct Next {
@@ -89,8 +93,11 @@ impl<'a> Calls<'a> {
     pub fn new(map: &'a [u8]) -> Self {
         Calls {
             map,
-            opened: Opened { words: [0; 34], degrees: [0.0; 6], layout: [0; 5] },
+            opened: Opened { words: [0; 34], degrees: [0.0; 6], layout: [0; 7] },
             intervals: Vec::new(),
+            values: [0; 6],
+            interval: [0; 6],
+            found: [0; 8],
             state: [0; 7],
             next: Next { words: [0; 21], signed: [0; 2], degrees: [0.0; 2], ids: [0; 15] },
             accepted: Accepted { words: [0; 18], degrees: [0.0; 2] },
@@ -112,23 +119,36 @@ impl<'a> Calls<'a> {
         unsafe { sys::mapsforge_open(map.as_ptr(), map.len(), words, degrees, layout) }
     }
 
-    pub fn interval(&self, sub_file: usize, interval: &mut [u64; 6]) -> u64 {
-        let (map, mut words) = (self.map, [0; 6]);
-        unsafe { sys::mapsforge_interval(map.as_ptr(), map.len(), sub_file, &mut words, interval) }
+    pub fn interval(&mut self, sub_file: usize) -> u64 {
+        let (values, interval) = (&mut self.values, &mut self.interval);
+        unsafe {
+            sys::mapsforge_interval(
+                self.map.as_ptr(),
+                self.map.len(),
+                &self.opened.layout,
+                sub_file,
+                values,
+                interval,
+            )
+        }
+    }
+
+    pub fn sub_file(&mut self, zoom: u8) -> u64 {
+        let (map, layout) = (self.map, &self.opened.layout);
+        unsafe { sys::mapsforge_sub_file(map.as_ptr(), map.len(), layout, zoom, &mut self.found) }
     }
 
     /// Keeps the intervals of so many sub files of the opened map.
     pub fn keep_intervals(&mut self, count: usize) {
-        let mut intervals = vec![[0; 6]; count];
-        for (sub_file, interval) in intervals.iter_mut().enumerate() {
-            assert_eq!(self.interval(sub_file, interval), 0, "it opened before");
-        }
-        self.intervals = intervals;
+        let mut of = |sub_file| {
+            assert_eq!(self.interval(sub_file), 0, "it opened before");
+            self.interval
+        };
+        self.intervals = (0..count).map(&mut of).collect();
     }
 
     pub fn stream_open(&mut self, address: &Address, zoom: u8) -> u64 {
         let Address { sub_file, grid, tile } = *address;
-        let mut words = [0; 6];
         unsafe {
             sys::mapsforge_stream_open(
                 self.map.as_ptr(),
@@ -143,7 +163,7 @@ impl<'a> Calls<'a> {
                 tile,
                 zoom,
                 &mut self.state,
-                &mut words,
+                &mut self.values,
             )
         }
     }
@@ -184,8 +204,7 @@ impl<'a> Calls<'a> {
     }
 
     pub fn stream_decline(&mut self) -> u64 {
-        let mut words = [0; 6];
-        unsafe { sys::mapsforge_stream_decline(&mut self.state, &mut words) }
+        unsafe { sys::mapsforge_stream_decline(&mut self.state, &mut self.values) }
     }
 
     pub fn collect(&mut self, address: &Address) -> u64 {

@@ -19,10 +19,10 @@ pub fn same(shape: &Shape, bytes: &[u8], double: bool) {
     let used = rust::read(&mut &bytes[..], 1, double, &mut blocks).expect("the Rust reads it");
     assert_eq!(used, shape.blocks);
 
-    let mut words = [7; 9];
+    let mut words = [KEPT; 9];
     assert_eq!(ours::measure(bytes, 1, &mut words), 0);
     let sizes = [shape.blocks as u64, shape.all_nodes() as u64, bytes.len() as u64];
-    assert_eq!((&words[..6], &words[6..]), (&[0; 6][..], &sizes[..]));
+    assert_eq!((&words[..6], &words[6..]), (&[KEPT; 6][..], &sizes[..]));
 
     let mut got = lists(shape);
     assert_eq!(ours::read(bytes, 1, double, &mut got), 0);

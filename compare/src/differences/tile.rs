@@ -18,6 +18,7 @@ use mapsforge_rs::types::{MapFile, MapHeader, ZoomInterval};
 pub use parts::{StreamParts, WayParts};
 pub use reader::{Cause, Parting};
 
+use super::ENTRY_BYTES;
 use crate::answer::Answer;
 use crate::source::Source;
 use crate::tiles::delivery::Delivery;
@@ -127,15 +128,22 @@ impl<'a> Opened<'a> {
         entry.map_or_else(|refusal| refusal, words)
     }
 
-    /// Where a tile's entry and its head are read, each from its start to where reading ends.
+    /// Where a tile's entry, with the next one, and its head are read, each from its start to where reading ends.
     #[cfg(feature = "both")]
     pub fn head_parts(self, address: &Address) -> Vec<Range<u128>> {
         let mut reader = Reader::new(self, View::Collected);
         // a refused head has places too
         drop(reader.head(address));
-        let entry = reader.entry_start.map(|start| start..start + 5);
         let head = reader.tile_start.map(|start| start..reader.at());
-        entry.into_iter().chain(head).collect()
+        reader.entries.into_iter().chain(head).collect()
+    }
+
+    /// Whether a tile is marked empty, and nothing is refused before that.
+    #[cfg(feature = "both")]
+    pub fn is_empty(self, address: &Address) -> bool {
+        let mut reader = Reader::new(self, View::Collected);
+        let opens = reader.head(address).is_ok();
+        opens && reader.parting.is_some_and(|parting| parting.cause == Cause::Empty)
     }
 
     /// The refusal by which a stream of the tile does not open.
@@ -233,6 +241,13 @@ struct Head {
 }
 
 impl Head {
+    /// Wish 5: "Such a tile has zero points and zero ways, an all-zero zoom table, first-way offset 0, no
+    /// signature, and keeps its water mark."
+    fn empty(water: bool, lowest: u8, highest: u8) -> Self {
+        let table = (lowest..=highest).map(|_| [0, 0]).collect();
+        Head { water, signature: None, lowest, table, first_way: 0, ways: 0 }
+    }
+
     /// "Zoom is clamped into the interval; rows up to it count."
     fn rows(&self, zoom: u8) -> &[[u64; 2]] {
         let rows = usize::from(zoom.saturating_sub(self.lowest)) + 1;
@@ -279,12 +294,17 @@ impl<'a> Reader<'a> {
     }
 
     /// "Order for a tile: sub file (8), grid (14), tile (8), entry (1), interval (13), then bytes in
-    /// file order", with 19 "where 1 stood in the order".
+    /// file order", with 19 "where 1 stood in the order", of the tile's entry and then of the next one.
     fn head(&mut self, address: &Address) -> Read<Head> {
-        let Entry { interval, water, place, .. } = self.entry(address)?;
+        let Entry { interval, water, offset, place } = self.entry(address)?;
+        let next = self.next_offset(address, interval)?;
         let (lowest, highest) = (interval.min_zoom_level, interval.max_zoom_level);
         if lowest > highest {
             return Err(self.parted(Cause::Interval, vec![13]));
+        }
+        if offset == next {
+            self.note(Cause::Empty);
+            return Ok(Head::empty(water, lowest, highest));
         }
         self.seek(place);
         self.tile_start = Some(place);
@@ -321,12 +341,34 @@ impl<'a> Reader<'a> {
         }
         let entry = super::entry_place(start, signature, address.tile);
         self.seek(entry);
-        self.entry_start = Some(entry);
-        let bytes = self.bytes(5).map_err(|refusal| cut_off(refusal, INDEX_CUT_OFF, entry))?;
-        let word = bytes.iter().fold(0, |word, &byte| word << 8 | u64::from(byte));
-        let offset = word & ((1 << 39) - 1);
+        self.entries = Some(entry..entry + ENTRY_BYTES);
+        let (water, offset) = self.entry_here()?;
         let place = u128::from(start) + u128::from(offset);
-        Ok(Entry { interval, water: word >> 39 == 1, offset, place })
+        Ok(Entry { interval, water, offset, place })
+    }
+
+    /// The water mark and the offset of the entry that starts here.
+    fn entry_here(&mut self) -> Read<(bool, u64)> {
+        let start = self.at();
+        let bytes = self.bytes(ENTRY_BYTES as u64);
+        let bytes = bytes.map_err(|refusal| cut_off(refusal, INDEX_CUT_OFF, start))?;
+        let word = bytes.iter().fold(0, |word, &byte| word << 8 | u64::from(byte));
+        Ok((word >> 39 == 1, word & ((1 << 39) - 1)))
+    }
+
+    /// Wish 5: "marks a tile with no features by giving the next entry the same offset; for the last tile
+    /// the offset then equals the sub file's size". The next entry is behind the tile's own, which was just read;
+    /// the Rust does not look at it.
+    fn next_offset(&mut self, address: &Address, interval: &ZoomInterval) -> Read<u64> {
+        if address.grid.tiles().is_some_and(|tiles| address.tile + 1 == u64::from(tiles)) {
+            return Ok(interval.sub_file_size);
+        }
+        let (own, start) = (self.entries.take(), self.at());
+        self.entries = own.map(|own| own.start..start + ENTRY_BYTES);
+        match self.entry_here() {
+            Ok((_, offset)) => Ok(offset),
+            Err(refusal) => Err(self.parted(Cause::NextEntry, refusal)),
+        }
     }
 
     /// "Sums past 64 bits and counts too large to reserve are read as far as the map goes".

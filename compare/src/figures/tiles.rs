@@ -30,6 +30,7 @@ pub fn check(tally: &mut Tally) {
     nodes(tally);
     refusals(tally);
     cut_off(tally);
+    empty(tally);
     counts(tally);
     limits(tally);
     overlap(tally);
@@ -148,11 +149,12 @@ fn cut_off(tally: &mut Tally) {
     let mut refused = |name: &str, map: &[u8], number: u64, place: usize| {
         tally.equal(name, collected_of(map), vec![number, place as u64]);
     };
-    let whole = map([0; 3], &[]);
-    let start = whole.len() - INDEX as usize;
+    let whole = map([0; 3], &[0]);
+    let tile = whole.len() - 1;
+    let start = tile - INDEX as usize;
     refused("no entry", &whole[..start], 19, start);
     refused("four bytes of an entry", &whole[..start + 4], 19, start);
-    refused("no tile", &whole, 20, whole.len());
+    refused("no tile", &whole[..tile], 20, tile);
     for tile in [&[0][..], &[0x80], &[0, 0x80, 0x80], &[0, 0], &[0, 0, 0x80]] {
         let map = map([0; 3], tile);
         refused(&format!("head {tile:02x?}"), &map, 20, map.len());
@@ -172,6 +174,38 @@ fn cut_off(tally: &mut Tally) {
     let second = Address { grid: Grid { x_max: 2, y_max: 1, ..ONE }, tile: 1, ..FIRST };
     let past = open::with_map(&map, |file| Opened::of(&file).entry(&second));
     tally.equal("an entry past all places", past, Ok(vec![19, u64::MAX]));
+}
+
+/// Wish 5: a tile that is marked empty is answered as the tile 00 00 00 is, but for its signature; the next entry is
+/// refused behind the tile's own, and a reversed interval behind both.
+fn empty(tally: &mut Tally) {
+    let no_features = collected(&[0; 3]);
+    let last = map([0; 3], &[]);
+    tally.equal("the last tile at the sub file's size", collected_of(&last), no_features.clone());
+    tally.equal("feature 0 of an empty tile", feature(&last, 0), vec![17]);
+    let header = |zooms, flags| Header { flags, ..Header::tiny() }.with_interval(zooms, 0);
+    let debug = [&INDEX_SIGNATURE[..], &entry(false, 21)].concat();
+    let debug = header([0; 3], DEBUG).before_all(&[debug]);
+    tally.equal("the same in a debug map", collected_of(&debug), no_features.clone());
+    // the first of two tiles
+    let two = |zooms, own: [u8; 5], next: &[u8]| {
+        header(zooms, 0).before_all(&[[&own[..], next, &[1, 0, 0, 0, 0, 0x50, 0]].concat()])
+    };
+    let first = Address { grid: Grid { x_max: 1, ..ONE }, ..FIRST };
+    let ask = |map: &[u8]| open::with_map(map, |file| Opened::of(&file).collect(&first).answer);
+    let (own, next) = (entry(true, 10), entry(false, 10));
+    let marked = two([0; 3], own, &next);
+    tally.equal("the offset of the next tile", ask(&marked), Ok(no_features));
+    let ended =
+        open::with_map(&marked, |file| Opened::of(&file).stream(&first, 0, &mut Unread).answer);
+    tally.equal("its own water mark", ended, Ok(vec![0, 0, 1]));
+    let reversed = two([9, 9, 8], own, &next);
+    tally.equal("zooms 9 and 8 of an empty tile", ask(&reversed), Ok(vec![13]));
+    for map in [&marked, &reversed] {
+        let start = header([0; 3], 0).length() as usize;
+        let cut = ask(&map[..start + 9]);
+        tally.equal("four bytes of the next entry", cut, Ok(vec![19, start as u64 + 5]));
+    }
 }
 
 /// Counts that cannot be reserved, and sums past 64 bits: 1, unless a feature is refused earlier.

@@ -78,6 +78,7 @@ impl<'a> Map<'a> {
         let opening = opening::of(&mut Check::default(), &base.map)?;
         let is_exact = |at: &&Address| {
             let opened = opening.as_ref().map(Opened::of).map_err(Clone::clone);
+            tally.empty += u64::from(opened.as_ref().is_ok_and(|opened| opened.is_empty(at)));
             tally.is_exact(opened.and_then(|opened| opened.streamed_tile(at)))
         };
         let tiles = base.tiles.iter().filter(is_exact).copied().collect();
@@ -88,10 +89,10 @@ impl<'a> Map<'a> {
     fn lists(&self, tally: &mut Tally, each: u64, random: &mut Random) -> Checked {
         let Ok(file) = &self.opening else { return Ok(()) };
         let (map, mut copy) = (&self.base.map[..], self.base.map.clone());
-        let (opened, layout) = (Opened::of(file), library::open(map).layout);
+        let (opened, layout) = (Opened::of(file), opening::our_layout(map));
         let kept = bytes::opening(map, &file.header);
         for &at in &self.tiles {
-            let interval = library::interval(map, at.sub_file as usize).interval;
+            let interval = library::interval(map, &layout, at.sub_file as usize).interval;
             let tile = Tile { opened, ask: Ask { map, layout, interval, at }, kept: &kept };
             let before = tally.copies;
             for _ in 0..each {
@@ -132,8 +133,7 @@ impl Tile<'_> {
         }
         for _ in 0..CONTROLS_OF_LIST {
             let control = CONTROLS[random.below(CONTROLS.len())];
-            let stretches = control.stretches(&parts, &list);
-            if let Some(damage) = random.one_bit(self.ask.map, &stretches) {
+            if let Some(damage) = control.damage(self.ask.map, &parts, &list, random) {
                 let noticed = self.on_copy(&mut Check::default(), copy, zoom, &list, &damage);
                 tally.control(control, noticed.is_err());
             }

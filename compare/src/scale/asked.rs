@@ -5,7 +5,7 @@ use mapsforge_rs::types::MapFile;
 use super::check::{Check, Checked};
 use super::known::{self, Plan, Tile};
 use super::lent::Lent;
-use super::library::Ask;
+use super::library::{Ask, Layout};
 use super::opening::{self, Opening, Said};
 use super::streamed::{self, Question};
 use super::{collected, foreign, indexed, way_data};
@@ -27,8 +27,9 @@ pub fn of_header(
 ) -> Checked {
     let intervals =
         opening.as_ref().map_or(0, |file| file.header.zoom_interval_configuration.len());
-    opening::interval(check, map, opening, random.below(intervals + 1))?;
-    opening::sub_file(check, map, opening, random.byte())?;
+    let layout = &said.layout();
+    opening::interval(check, map, layout, opening, random.below(intervals + 1))?;
+    opening::sub_file(check, map, layout, opening, random.byte())?;
     let Ok(file) = opening else { return Ok(()) };
     for (ways, tags) in [(false, &file.header.poi_tags), (true, &file.header.way_tags)] {
         let k = random.below(tags.len() + 1);
@@ -49,14 +50,15 @@ pub fn of_tile(
 ) -> Checked {
     said.check(check, map)?;
     let at = if random.below(32) == 0 { random.other_place(at) } else { at };
-    let interval = opening::interval(check, map, opening, at.sub_file as usize)?;
-    let ask = Ask { map, layout: said.layout, interval, at };
+    let layout = said.layout();
+    let interval = opening::interval(check, map, &layout, opening, at.sub_file as usize)?;
+    let ask = Ask { map, layout, interval, at };
     match opening {
         Ok(file) => tile(check, lent, file, &ask, random)?,
         Err(_) => tile(check, lent, &mut foreign::unopened(map), &ask, random)?,
     }
     if random.below(8) == 0 {
-        others(check, lent, map, opening, random)?;
+        others(check, lent, map, &layout, opening, random)?;
     }
     Ok(())
 }
@@ -118,10 +120,11 @@ fn others(
     check: &mut Check,
     lent: &mut Lent,
     map: &[u8],
+    layout: &Layout,
     opening: &Opening,
     random: &mut Random,
 ) -> Checked {
-    opening::sub_file(check, map, opening, random.below(32) as u8)?;
+    opening::sub_file(check, map, layout, opening, random.below(32) as u8)?;
     let zoom = random.below(70) as u8;
     indexed::column(check, random.longitude(), zoom)?;
     indexed::longitude(check, random.next() as u32 >> random.below(32), zoom)?;

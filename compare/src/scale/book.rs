@@ -26,6 +26,7 @@ const SEED: u64 = 0xB00C;
 pub struct Counts {
     tiles: u64,
     small: u64,
+    empty: u64,
     refused: u64,
     inexact: u64,
     lists: u64,
@@ -55,7 +56,10 @@ pub fn compare(bases: &[Base], cases: u64) -> bool {
 
 impl Counts {
     fn print(&self) {
-        println!("tiles in the theorem: {}, of which {} are small", self.tiles, self.small);
+        println!(
+            "tiles in the theorem: {}, of which {} are small, {} of them marked empty",
+            self.tiles, self.small, self.empty
+        );
         println!("tiles that do not collect: {}", self.refused);
         println!("tiles with a stored size that is not the decoded length: {}", self.inexact);
         println!("lists of up to {CALLS} calls: {}", self.lists);
@@ -67,10 +71,10 @@ impl Counts {
 fn of_map(check: &mut Check, counts: &mut Counts, base: &Base, each: u64) -> Checked {
     let mut random = Random::new(SEED);
     let opening = opening::of(&mut Check::default(), &base.map)?;
-    let (map, layout) = (&base.map[..], library::open(&base.map).layout);
+    let (map, layout) = (&base.map[..], opening::our_layout(&base.map));
     for &at in &base.tiles {
         let place = |why| format!("sub file {}, tile {}: {why}", at.sub_file, at.tile);
-        let interval = library::interval(map, at.sub_file as usize).interval;
+        let interval = library::interval(map, &layout, at.sub_file as usize).interval;
         let ask = Ask { map, layout, interval, at };
         let Some(tile) = Collected::of(&opening, ask, counts).map_err(place)? else {
             continue;
@@ -90,6 +94,7 @@ fn of_tile(
     counts.tiles += 1;
     let small = tile.features() <= SMALL;
     counts.small += u64::from(small);
+    counts.empty += u64::from(tile.is_empty());
     let mut lent = Lent::default();
     for zoom in tile.zooms() {
         let state = stream(&tile.ask, zoom)?;

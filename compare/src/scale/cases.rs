@@ -19,6 +19,8 @@ const SMALL_MAP: usize = 1 << 13;
 const MIDDLE_TILE: usize = 3000;
 /// Where damages of a header start: mostly behind magic bytes and box, or little else would be reached.
 const HEADER_STARTS: [usize; 8] = [0, 20, 24, 44, 60, 60, 60, 60];
+/// One in so many cases has a tile that is marked empty.
+const MARKED: usize = 16;
 
 /// A tile to damage.
 struct Target {
@@ -88,20 +90,26 @@ impl Cases {
         }
     }
 
-    /// Mostly of the tile, at times of its entry or of the header.
+    /// Mostly of the tile, at times of its entry and the next one, or of the header. At times the tile is marked empty
+    /// besides.
     fn damage(&self, target: usize, random: &mut Random) -> Damage {
         let target = &self.targets[target];
         let held = &self.held[target.base];
         let other = &self.targets[random.below(self.targets.len())];
         let other = &self.held[other.base].map[other.bytes.clone()];
         let (bytes, numbers) = match random.below(16) {
-            1 => (held.entry(&target.at), &[][..]),
+            1 => (held.entries(&target.at), &[][..]),
             2.. if target.is_read => (target.bytes.clone(), &target.numbers[..]),
             _ => (HEADER_STARTS[random.below(8)]..held.header_end, &held.lengths[..]),
         };
         let end = bytes.end.min(held.map.len());
         let stretch = Stretch { bytes: bytes.start.min(end)..end, numbers };
-        random.damage(&held.map, &stretch, other)
+        let mut damage = random.damage(&held.map, &stretch, other);
+        if random.below(MARKED) == 0 {
+            // first, so that its place is what it is in the map
+            damage.edits.insert(0, held.mark(&target.at, random));
+        }
+        damage
     }
 
     /// Damages, compares, and undoes the damage.

@@ -4,7 +4,7 @@ use std::cell::Cell;
 use std::fmt::Debug;
 use std::panic::{self, AssertUnwindSafe};
 
-use super::library::Got;
+use super::library::{kept_but, Got};
 use crate::differences::tile::Cause;
 
 /// The calls of the library.
@@ -64,7 +64,7 @@ pub enum Reason {
     Tile(Cause),
 }
 
-const REASONS: [(Reason, &str); 10] = [
+const REASONS: [(Reason, &str); 12] = [
     (Reason::HeaderText, "a header text's length has over 32 bits"),
     (Reason::TileNumber, "a tile's number above 2^31 - 1, or as many columns"),
     (Reason::Zoom, "a zoom above 63"),
@@ -74,7 +74,9 @@ const REASONS: [(Reason, &str); 10] = [
     (Reason::Tile(Cause::Sum), "counts that sum past 64 bits"),
     (Reason::Tile(Cause::Grid), "a bad grid"),
     (Reason::Tile(Cause::Entry), "an index entry past all places"),
+    (Reason::Tile(Cause::NextEntry), "the next index entry is cut off"),
     (Reason::Tile(Cause::Interval), "a reversed interval"),
+    (Reason::Tile(Cause::Empty), "a tile that is marked empty"),
 ];
 
 /// Nothing, or what differs.
@@ -89,6 +91,8 @@ pub struct Check {
     calls: [u64; CALLS.len()],
     answers: [[u64; ANSWERS]; CALLS.len()],
     pub values: u64,
+    /// Collected tiles and streams that the Rust was asked for.
+    pub by_the_rust: u64,
     /// Answers that document 01's model gave in place of the Rust, by reason, and the cases with such.
     answers_settled: [u64; REASONS.len()],
     cases_settled: [u64; REASONS.len()],
@@ -178,14 +182,14 @@ impl Check {
         Err(format!("{call:?}: ours {our_number} {ours:x?}, it should be {number} {words:x?}"))
     }
 
-    /// A refusal: its number, its values in the front words, and zeros behind them.
+    /// A refusal: its number, and its values in the front words. All others keep what was lent.
     pub fn refused<const N: usize>(
         &mut self,
         call: Call,
         ours: &Got<N>,
         refusal: &[u64],
     ) -> Checked {
-        self.got(call, ours, refusal[0], &front(&refusal[1..]))
+        self.got(call, ours, refusal[0], &kept_but(0, &refusal[1..]))
     }
 
     pub fn add(&mut self, other: Check) {
@@ -197,6 +201,14 @@ impl Check {
         add(&mut self.answers_settled, &other.answers_settled);
         add(&mut self.cases_settled, &other.cases_settled);
         self.values += other.values;
+        self.by_the_rust += other.by_the_rust;
+    }
+
+    /// How many collected tiles and streams the model answered in place of the Rust.
+    fn tiles_settled(&self) -> u64 {
+        let settled = REASONS.iter().zip(self.answers_settled);
+        let of_tile = settled.filter(|((reason, _), _)| matches!(reason, Reason::Tile(_)));
+        of_tile.map(|(_, answers)| answers).sum()
     }
 
     pub fn print(&self) {
@@ -213,6 +225,11 @@ impl Check {
             println!("  {number:<16} {count:>14}");
         }
         println!(
+            "tiles collected and streamed by the Rust: {}, by document 01's model alone: {}",
+            self.by_the_rust,
+            self.tiles_settled()
+        );
+        println!(
             "settled by document 01's model, where the Rust parts: answers, and cases with such"
         );
         let settled = self.answers_settled.iter().zip(self.cases_settled);
@@ -221,13 +238,6 @@ impl Check {
         }
         println!("values compared: {}", self.values);
     }
-}
-
-/// The first words, and zeros behind them.
-pub fn front<const N: usize>(first: &[u64]) -> [u64; N] {
-    let mut words = [0; N];
-    words[..first.len()].copy_from_slice(first);
-    words
 }
 
 thread_local! {

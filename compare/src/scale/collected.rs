@@ -3,7 +3,7 @@
 use super::check::{Call, Check, Checked};
 use super::known::Tile;
 use super::lent::{suffice, Fronts, Lengths, Lent};
-use super::library::{self, Ask, Fetch};
+use super::library::{self, degrees, kept_but, Ask, Fetch, SIGNED, WORD};
 use super::opening::part;
 use crate::random::Random;
 use crate::tiles::feature::{Feature, Fetched, TagText, Text};
@@ -16,7 +16,7 @@ const TAG_WORDS: usize = 5;
 /// Collects a tile, and compares every word and the zoom table.
 pub fn collect(check: &mut Check, ask: &Ask, known: &Tile) -> Checked {
     let ours = library::collect(ask);
-    let (mut points, mut ways) = ([0; 256], [0; 256]);
+    let (mut points, mut ways) = ([WORD; 256], [WORD; 256]);
     let tile = match known {
         Ok(known) => &known.tile,
         Err(refusal) => {
@@ -29,7 +29,7 @@ pub fn collect(check: &mut Check, ask: &Ask, known: &Tile) -> Checked {
         (points[k], ways[k]) = (*row_points, *row_ways);
     }
     let counts = [tile.table.len(), tile.points.len(), tile.ways.len()].map(|n| n as u64);
-    let mut words = [0; 14];
+    let mut words = [WORD; 14];
     words[6..9].copy_from_slice(&placed(check, ask.map, &tile.signature, known_place(known, 0))?);
     words[9] = counts[0];
     words[10] = tile.first_way;
@@ -114,14 +114,19 @@ fn refuse(
 ) -> Checked {
     let ours = library::fetch(ask, k, lent.lists(lengths));
     check.refused(Call::Fetch, &ours.got, refusal)?;
-    check.same("a refused fetch's layer", ours.signed, [0; 2])?;
-    check.floats("a refused fetch's degrees", &ours.degrees, &[0.0; 2])?;
-    check.words("a refused fetch's ids", &ours.ids, &[0; TAGS])?;
-    check.words("a refused fetch's tags", &ours.tags, &[0; TAGS * TAG_WORDS])?;
+    nothing(check, &ours)?;
     lent.check(check, lengths, &Fronts::default())
 }
 
-/// Every field of a fetched feature but its lists.
+/// The other words of a refused fetch.
+pub fn nothing(check: &mut Check, ours: &Fetch) -> Checked {
+    check.same("a refused fetch's layer", ours.signed, SIGNED)?;
+    check.floats("a refused fetch's degrees", &ours.degrees, &degrees::<2>())?;
+    check.words("a refused fetch's ids", &ours.ids, &[WORD; TAGS])?;
+    check.words("a refused fetch's tags", &ours.tags, &[WORD; TAGS * TAG_WORDS])
+}
+
+/// Every field of a fetched feature but its lists. A point has no words of a way, and a way no elevation.
 fn feature(
     check: &mut Check,
     map: &[u8],
@@ -129,7 +134,7 @@ fn feature(
     fetched: &Fetched,
     signature_place: Option<u64>,
 ) -> Checked {
-    let mut words = [0; 35];
+    let mut words: [u64; 35] = kept_but(6, &[0; 23]);
     let (ids, signature, layer, metres, degrees) = match fetched.feature {
         Feature::Point(point) => {
             words[29] = u64::from(point.elevation.is_some());
@@ -146,7 +151,7 @@ fn feature(
                 nodes as u64,
                 u64::from(way.label.is_some()),
             ]);
-            (&way.ids, &way.signature, way.layer, 0, way.label.unwrap_or_default())
+            (&way.ids, &way.signature, way.layer, SIGNED[1], way.label.unwrap_or_default())
         }
     };
     words[7] = ids.len() as u64;
@@ -173,5 +178,7 @@ fn tag_words(TagText { text, tag }: &TagText) -> [u64; TAG_WORDS] {
 
 /// The ids, and zeros behind them.
 pub fn padded<const N: usize>(ids: &[u64]) -> [u64; N] {
-    super::check::front(ids)
+    let mut words = [0; N];
+    words[..ids.len()].copy_from_slice(ids);
+    words
 }

@@ -4,6 +4,7 @@ mod bodies;
 mod counts;
 mod debug;
 mod layout;
+mod marked;
 mod numbers;
 mod order;
 mod points;
@@ -53,6 +54,7 @@ pub fn maps() -> Vec<(Vec<u8>, Vec<Address>)> {
     counts::add(&mut maps);
     order::add(&mut maps);
     debug::add(&mut maps);
+    marked::add(&mut maps);
     rich::add(&mut maps);
     random::add(&mut maps);
     maps.0

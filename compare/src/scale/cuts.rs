@@ -52,7 +52,7 @@ impl Cuts {
     fn of_map(&mut self, base: &Base, all: bool, cut: &mut usize) -> Checked {
         let map = &base.map[..];
         let opening = opening::of(&mut Check::default(), map)?;
-        let layout = Said::of(map, &opening)?.layout;
+        let layout = Said::of(map, &opening)?.layout();
         let Ok(mut file) = opening else { return Ok(()) };
         self.maps += 1;
         self.whole += u64::from(all);

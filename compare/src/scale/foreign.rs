@@ -1,13 +1,17 @@
 //! Words for a header that are not the map's own. Whatever they are, the answers are those of a map with
 //! such a header, which the Rust can be given.
 
+use std::ops::Range;
+
 use mapsforge_rs::header::DEBUG_INFO_MASK;
 use mapsforge_rs::types::{BoundingBox, MapFile, MapHeader, ZoomInterval};
 
 use super::check::{Call, Check, Checked, ANSWERS};
 use super::lent::{Fronts, Lent};
-use super::library::{self, Ask, Got, Interval, Layout, State, WORD};
-use super::{asked, indexed, known};
+use super::library::{
+    self, degrees, Ask, Collect, Fetch, Got, Interval, Layout, Next, State, SIGNED, WORD,
+};
+use super::{asked, collected, indexed, intervals, known, streamed};
 use crate::differences::tile::Opened;
 use crate::random::Random;
 use crate::source::Source;
@@ -20,12 +24,12 @@ const STEPS: usize = 40;
 
 /// A map that does not open has no words, and so no sub file.
 pub fn unopened(map: &[u8]) -> MapFile<Source<'_>> {
-    file(map, &[0; 5], &[0; 6])
+    file(map, &[0; 7], &[0; 6])
 }
 
 /// The map with the header that the words say, but for tags above the limit; the sub file is its first.
 fn file<'a>(map: &'a [u8], layout: &Layout, interval: &Interval) -> MapFile<Source<'a>> {
-    let [debug, points, point_count, ways, way_count] = *layout;
+    let [debug, points, point_count, ways, way_count, ..] = *layout;
     let mut header = header(debug != 0, interval);
     let opened = Opened { map, header: &header };
     let tags = |start, count: u64| opened.tags(start, count.min(TAGS) as usize);
@@ -78,6 +82,7 @@ pub fn compare(check: &mut Check, lent: &mut Lent, own: &Ask, random: &mut Rando
     let ask = random.foreign(own);
     let file = file(ask.map, &ask.layout, &ask.interval);
     let place = |why| format!("layout {:x?}, interval {:x?}: {why}", ask.layout, ask.interval);
+    intervals::made_up(check, ask.map, &ask.layout, random)?;
     asked::grid(check, &file, &ask, random).map_err(place)?;
     by_words(check, lent, file, &ask, random).map_err(place)?;
     let state = random.state(ask.map.len());
@@ -85,8 +90,8 @@ pub fn compare(check: &mut Check, lent: &mut Lent, own: &Ask, random: &mut Rando
     made_up(check, lent, &ask, &state, random).map_err(place)
 }
 
-/// Each call of a stream by made-up words for its state. What it answers nothing is compared with, but a refused one
-/// leaves all seven words as they are, in whatever form, and the lists too.
+/// Each call of a stream by made-up words for its state. What it answers nothing is compared with, but it writes no
+/// words of other answers, and a refused one leaves all seven words as they are, in whatever form, and the lists too.
 fn made_up(
     check: &mut Check,
     lent: &mut Lent,
@@ -101,7 +106,7 @@ fn made_up(
     }
     let mut state = *before;
     let next = library::stream_next(ask.map, &ask.layout, &mut state);
-    if refused(check, Call::StreamNext, &next.got)? {
+    if any_next(check, &next)? {
         check.words("the state of a refused next", &state, before)?;
     }
     accept(check, lent, ask, &mut before.clone(), random)?;
@@ -115,8 +120,9 @@ fn made_up(
     Ok(())
 }
 
-/// A tile by the whole map's words, where the map is cut off before them.
+/// Intervals and a tile by the whole map's words, where the map is cut off before them.
 pub fn cut_off(check: &mut Check, lent: &mut Lent, ask: &Ask, random: &mut Random) -> Checked {
+    intervals::by_layout(check, ask.map, &ask.layout, random)?;
     let ask = Ask { at: Address { sub_file: 0, ..ask.at }, ..*ask };
     by_words(check, lent, file(ask.map, &ask.layout, &ask.interval), &ask, random)
 }
@@ -153,14 +159,10 @@ fn many_tags(
 
 /// A tile that nothing is compared with: a refusal must leave everything alone.
 fn any_tile(check: &mut Check, lent: &mut Lent, ask: &Ask, random: &mut Random) -> Checked {
-    let collect = library::collect(ask);
-    if refused(check, Call::Collect, &collect.got)? {
-        check.words("points of no tile", &collect.points, &[0; 256])?;
-        check.words("ways of no tile", &collect.ways, &[0; 256])?;
-    }
+    any_collect(check, &library::collect(ask))?;
     let lengths = random.lengths(&[2, 10, 10, 2, 2, 200]);
     let fetch = library::fetch(ask, random.below(20) as u64, lent.lists(lengths));
-    match refused(check, Call::Fetch, &fetch.got)? {
+    match any_fetch(check, &fetch)? {
         true => lent.check(check, lengths, &Fronts::default()),
         false => lent.check_behind(check, lengths),
     }
@@ -191,7 +193,7 @@ fn step(
 ) -> Checked<bool> {
     let before = *state;
     let next = library::stream_next(ask.map, &ask.layout, state);
-    if refused(check, Call::StreamNext, &next.got)? {
+    if any_next(check, &next)? {
         check.words("the state of a refused next", state, &before)?;
         return Ok(false);
     }
@@ -223,20 +225,74 @@ fn accept(
         return Ok(true);
     }
     check.words("the state of a refused accept", state, &before)?;
+    check.floats("a refused accept's label", &accept.degrees, &degrees::<2>())?;
     lent.check(check, lengths, &Fronts::default())?;
     Ok(false)
 }
 
-/// Whether a call is refused; its words are then 0 behind the refusal's values.
+/// Whether a call is refused; it then writes its values alone, and else none.
 fn refused<const N: usize>(check: &mut Check, call: Call, ours: &Got<N>) -> Checked<bool> {
     check.call(call, ours.number);
-    if ours.number == 0 {
-        check.words("the values of no refusal", &ours.words[..6], &[0; 6])?;
-        return Ok(false);
-    }
+    let values = match ours.number {
+        3 | 7 | 19 | 20 => 1,
+        15 => 6,
+        _ => 0,
+    };
+    let end = if ours.number == 0 { 6 } else { N };
     check.same("a number of the table", ours.number < ANSWERS as u64, true)?;
-    check.words("words of a refused call", &ours.words[6..], &vec![0; N - 6])?;
-    Ok(true)
+    kept(check, "words behind a refusal's values", &ours.words[values..end])?;
+    Ok(ours.number != 0)
+}
+
+/// That words are as they were lent.
+fn kept(check: &mut Check, what: &str, words: &[u64]) -> Checked {
+    check.words(what, words, &vec![WORD; words.len()])
+}
+
+/// Whether a next is refused; a point, a head and the end keep each other's words.
+fn any_next(check: &mut Check, next: &Next) -> Checked<bool> {
+    if refused(check, Call::StreamNext, &next.got)? {
+        return streamed::nothing(check, next).map(|()| true);
+    }
+    let others: &[Range<usize>] = match next.got.words[6] {
+        0 => &[18..21],
+        1 => {
+            check.same("the elevation of a head", next.signed[1], SIGNED[1])?;
+            check.floats("the position of a head", &next.degrees, &degrees::<2>())?;
+            &[8..18, 19..21]
+        }
+        2 => {
+            streamed::nothing(check, next)?;
+            &[7..19]
+        }
+        kind => return Err(format!("a next of kind {kind}")),
+    };
+    for others in others {
+        kept(check, "words of another answer", &next.got.words[others.clone()])?;
+    }
+    Ok(false)
+}
+
+/// A tile writes as many rows as it has, and a refused one none.
+fn any_collect(check: &mut Check, collect: &Collect) -> Checked {
+    let refused = refused(check, Call::Collect, &collect.got)?;
+    let rows = if refused { 0 } else { collect.got.words[9] as usize };
+    kept(check, "points behind the rows", &collect.points[rows..])?;
+    kept(check, "ways behind the rows", &collect.ways[rows..])
+}
+
+/// Whether a fetch is refused; a point and a way keep each other's words.
+fn any_fetch(check: &mut Check, fetch: &Fetch) -> Checked<bool> {
+    if refused(check, Call::Fetch, &fetch.got)? {
+        return collected::nothing(check, fetch).map(|()| true);
+    }
+    if fetch.got.words[6] == 0 {
+        return kept(check, "words of a point", &fetch.got.words[30..]).map(|()| false);
+    }
+    check.same("a way", fetch.got.words[6], 1)?;
+    kept(check, "the elevation of a way", &fetch.got.words[29..30])?;
+    check.same("the elevation of a way", fetch.signed[1], SIGNED[1])?;
+    Ok(false)
 }
 
 impl Random {
@@ -245,12 +301,12 @@ impl Random {
         let at = if self.below(8) == 0 { self.other_place(own.at) } else { own.at };
         let mut ask = Ask { at: Address { sub_file: 0, ..at }, ..*own };
         if self.below(8) == 0 {
-            let [debug, points, point_count, ways, way_count] = ask.layout;
-            ask.layout = [debug, ways, way_count, points, point_count];
+            let [debug, points, point_count, ways, way_count, ..] = ask.layout;
+            ask.layout[..5].copy_from_slice(&[debug, ways, way_count, points, point_count]);
         }
         for _ in 0..self.below(4) {
             let mut words = ask.layout.iter_mut().chain(&mut ask.interval);
-            let word = words.nth(self.below(11)).expect("five words and six");
+            let word = words.nth(self.below(13)).expect("seven words and six");
             *word = self.other_word(*word, own.map.len());
         }
         ask

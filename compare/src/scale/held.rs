@@ -7,7 +7,7 @@ use mapsforge_rs::types::{MapFile, MapHeader, ZoomInterval};
 
 use super::bases::{opening_reads, Base};
 use super::check::{caught, Check, Checked};
-use super::damage::Damage;
+use super::damage::{Damage, Edit};
 use super::lent::Lent;
 use super::library::Ask;
 use super::opening::{self, header_end, interval_words, Opening, Said};
@@ -55,15 +55,35 @@ impl Held {
         intervals.get(usize::try_from(sub_file).ok()?)
     }
 
-    /// Where a tile's entry stands, and the bytes around it.
-    pub fn entry(&self, at: &Address) -> Range<usize> {
+    /// Where a tile's entry and the next one stand.
+    pub fn entries(&self, at: &Address) -> Range<usize> {
         let header = self.header.as_ref();
         let debug = header.is_some_and(|header| header.flags & DEBUG_INFO_MASK != 0);
         let start = self.interval(at.sub_file).map_or(0, |interval| interval.sub_file_start);
         let place = start.saturating_add(at.tile.saturating_mul(5)).saturating_add(16);
         let place = if debug { place } else { place.saturating_sub(16) };
         let place = usize::try_from(place).unwrap_or(0).min(self.map.len());
-        place..place.saturating_add(5)
+        place..place.saturating_add(10)
+    }
+
+    /// The offset by which a tile is marked empty, with a water mark, and the place that it is put at: the tile's own
+    /// entry gets that of the next one, or the sub file's size, or the next entry gets the tile's.
+    pub fn mark(&self, at: &Address, random: &mut Random) -> Edit {
+        let entries = self.entries(at);
+        let end = entries.end.min(self.map.len());
+        let bytes = &self.map[entries.start.min(end)..end];
+        let (own, next) = bytes.split_at(bytes.len().min(5));
+        let is_last = at.grid.tiles().is_some_and(|tiles| at.tile == u64::from(tiles) - 1);
+        let size = self.interval(at.sub_file).map_or(0, |interval| interval.sub_file_size);
+        let (at, mut put) = match (is_last, random.below(2)) {
+            (true, _) => (entries.start, size.to_be_bytes()[3..].to_vec()),
+            (false, 0) => (entries.start, next.to_vec()),
+            (false, _) => (entries.start + own.len(), own.to_vec()),
+        };
+        if let Some(first) = put.first_mut() {
+            *first = *first & 0x7F | [0, 0x80][random.below(2)];
+        }
+        Edit { at, taken: put.len(), put }
     }
 
     /// Everything about the damaged map and one of its tiles, at times also by words that are not its own.
@@ -84,7 +104,7 @@ impl Held {
         let map = &self.map[..damage.length(&self.map)];
         let sub_file = [at.sub_file, random.below(4) as u64][random.below(4) / 3];
         let interval = self.interval(sub_file).map_or([0; 6], interval_words);
-        let kept = Ask { map, layout: self.said.layout, interval, at };
+        let kept = Ask { map, layout: self.said.layout(), interval, at };
         caught(|| foreign::compare(check, lent, &kept, &mut random))?
     }
 

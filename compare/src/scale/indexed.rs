@@ -2,10 +2,10 @@
 
 use mapsforge_rs::types::MapFile;
 
-use super::check::{front, Call, Check, Checked, Reason};
+use super::check::{Call, Check, Checked, Reason};
 use super::known::told;
 use super::lent::{Fronts, Lent};
-use super::library::{self, Ask};
+use super::library::{self, degree, kept_but, Ask, SIGNED};
 use super::opening::maybe;
 use crate::answer::Answer;
 use crate::differences;
@@ -58,10 +58,7 @@ pub fn entry(check: &mut Check, file: &mut MapFile<Source>, ask: &Ask) -> Checke
     let known = told(rust, Opened::of(file).entry(&ask.at))?;
     let ours = library::index_entry(ask);
     match known[..] {
-        [0, water, offset, place] => {
-            let words = [0, 0, 0, 0, 0, 0, water, offset, place];
-            check.got(Call::IndexEntry, &ours, 0, &words)
-        }
+        [0, ref entry @ ..] => check.got(Call::IndexEntry, &ours, 0, &kept_but(6, entry)),
         _ => check.refused(Call::IndexEntry, &ours, &known),
     }
 }
@@ -73,7 +70,7 @@ pub fn column(check: &mut Check, longitude: f64, zoom: u8) -> Checked {
     let rust = match differences::zoom(zoom) {
         Some(refusal) => {
             check.settle(Reason::Zoom);
-            (refusal[0], 0)
+            (refusal[0], SIGNED[0])
         }
         None => (0, i64::from(MapFile::<Source>::get_tiles_column(longitude, zoom))),
     };
@@ -87,7 +84,7 @@ pub fn longitude(check: &mut Check, column: u32, zoom: u8) -> Checked {
     let rust = match differences::zoom(zoom) {
         Some(refusal) => {
             check.settle(Reason::Zoom);
-            (refusal[0], 0.0_f64)
+            (refusal[0], degree())
         }
         None => (0, MapFile::<Source>::tilex2long(column, zoom)),
     };
@@ -105,7 +102,6 @@ pub fn text(check: &mut Check, lent: &mut Lent, text: &[u8], random: &mut Random
         check.refused(Call::Text, &ours, &refusal)?;
         return lent.check(check, lengths, &Fronts::default());
     }
-    let words = [0, 0, 0, 0, 0, 0, needed[5] as u64];
-    check.got(Call::Text, &ours, 0, &front(&words))?;
+    check.got(Call::Text, &ours, 0, &kept_but(6, &[needed[5] as u64]))?;
     lent.check(check, lengths, &Fronts { buffer: replaced, ..Fronts::default() })
 }

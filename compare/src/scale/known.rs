@@ -23,6 +23,7 @@ pub fn tile(check: &mut Check, file: &mut MapFile<Source>, at: &Address) -> Chec
         return Ok(model);
     }
     grid::lend(at.grid);
+    check.by_the_rust += 1;
     let mut rust = match (caught(|| rust::fetched(file, at))?, &model) {
         (Ok(rust), Ok(_)) => rust,
         (Err(rust), Err(model)) => return told(rust, model.clone()).map(Err),
@@ -123,6 +124,8 @@ pub struct Script {
     pub end: Answer,
     /// Whether the stream opens; if not, its end is the refusal.
     pub opens: bool,
+    /// Whether its tile is marked empty.
+    pub empty: bool,
     /// The places of its texts, in their order.
     pub texts: Vec<u64>,
     heads: usize,
@@ -144,10 +147,12 @@ impl Script {
         model.opens = opened.unopened(at).is_none();
         if let Some(parting) = parting {
             check.settle(Reason::Tile(parting.cause));
+            model.empty = parting.cause == Cause::Empty;
             model.same_before(file, at, zoom, &parting)?;
             return Ok(model);
         }
         let mut rust = Script::new(plan);
+        check.by_the_rust += 1;
         rust.visit(file, at, zoom)?;
         rust.end = told(rust.end, model.end)?;
         (rust.opens, rust.texts) = (model.opens, model.texts);
@@ -193,7 +198,7 @@ impl Script {
 
     fn new(plan: &Plan) -> Self {
         let (events, end, texts) = (Vec::new(), Answer::new(), Vec::new());
-        Script { plan: plan.clone(), events, end, opens: false, texts, heads: 0 }
+        Script { plan: plan.clone(), events, end, opens: false, empty: false, texts, heads: 0 }
     }
 }
 

@@ -1,5 +1,5 @@
-//! Our reader's calls. What each word is, include/mapsforge.h says. Every array holds a pattern before
-//! the call, so that a word that the library does not write shows.
+//! Our reader's calls. What each word is, include/mapsforge.h says, and which of them an answer writes. Every
+//! array holds a pattern before the call, which the other words keep.
 
 use mapsforge::sys;
 use mapsforge_rs::grid::Grid;
@@ -15,11 +15,25 @@ pub fn degree() -> f64 {
     f64::from_bits(WORD)
 }
 
+/// Words as they are lent, but for these from a place on.
+pub fn kept_but<const N: usize>(at: usize, own: &[u64]) -> [u64; N] {
+    let mut words = [WORD; N];
+    words[at..at + own.len()].copy_from_slice(own);
+    words
+}
+
+/// What signed words and degrees keep.
+pub const SIGNED: [i64; 2] = [WORD as i64; 2];
+
+pub fn degrees<const N: usize>() -> [f64; N] {
+    [degree(); N]
+}
+
 /// The state of a stream.
 pub type State = [u64; 7];
-/// What the calls about a tile need of the header.
-pub type Layout = [u64; 5];
-/// A sub file's interval, as `interval` gives it and other calls take it; all 0 if there is none.
+/// What other calls need of the header.
+pub type Layout = [u64; 7];
+/// A sub file's interval, as `interval` gives it and other calls take it; its first word is 0 if there is none.
 pub type Interval = [u64; 6];
 
 /// A tile of a map, and the words that are handed in for its header. The address's sub file is the
@@ -47,10 +61,10 @@ impl<const N: usize> Got<N> {
     }
 }
 
-/// The number alone, of calls whose refusals have no values: with a word that is not 0, a number that no
+/// The number alone, of calls whose refusals have no values: with a word that is written, a number that no
 /// call has.
 fn bare(got: Got<6>) -> u64 {
-    if got.words == [0; 6] {
+    if got.words == [WORD; 6] {
         got.number
     } else {
         u64::MAX
@@ -64,7 +78,7 @@ pub struct Open {
 }
 
 pub fn open(map: &[u8]) -> Open {
-    let (mut degrees, mut layout) = ([degree(); 6], [WORD; 5]);
+    let (mut degrees, mut layout) = (degrees(), [WORD; 7]);
     // SAFETY: each call lends what include/mapsforge.h asks for, and nothing of it overlaps
     let got = Got::of(|words| unsafe {
         sys::mapsforge_open(map.as_ptr(), map.len(), words, &mut degrees, &mut layout)
@@ -78,18 +92,20 @@ pub struct Given {
     pub interval: Interval,
 }
 
-pub fn interval(map: &[u8], sub_file: usize) -> Given {
+pub fn interval(map: &[u8], layout: &Layout, sub_file: usize) -> Given {
     let mut interval = [WORD; 6];
     // SAFETY: as above
     let got = Got::of(|words| unsafe {
-        sys::mapsforge_interval(map.as_ptr(), map.len(), sub_file, words, &mut interval)
+        sys::mapsforge_interval(map.as_ptr(), map.len(), layout, sub_file, words, &mut interval)
     });
     Given { got, interval }
 }
 
-pub fn sub_file(map: &[u8], zoom: u8) -> Got<8> {
+pub fn sub_file(map: &[u8], layout: &Layout, zoom: u8) -> Got<8> {
     // SAFETY: as above
-    Got::of(|words| unsafe { sys::mapsforge_sub_file(map.as_ptr(), map.len(), zoom, words) })
+    Got::of(|words| unsafe {
+        sys::mapsforge_sub_file(map.as_ptr(), map.len(), layout, zoom, words)
+    })
 }
 
 /// Tag `k` of a table that starts at a place and has so many tags.
@@ -190,7 +206,7 @@ pub struct Next {
 }
 
 pub fn stream_next(map: &[u8], layout: &Layout, state: &mut State) -> Next {
-    let (mut signed, mut degrees, mut ids) = ([WORD as i64; 2], [degree(); 2], [WORD; 15]);
+    let (mut signed, mut degrees, mut ids) = (SIGNED, degrees(), [WORD; 15]);
     // SAFETY: as above
     let got = Got::of(|words| unsafe {
         let (signed, degrees, ids) = (&mut signed, &mut degrees, &mut ids);
@@ -223,7 +239,7 @@ pub struct Accept {
 
 pub fn stream_accept(map: &[u8], state: &mut State, nodes: Nodes) -> Accept {
     let Nodes { counts, latitudes, longitudes } = nodes;
-    let mut degrees = [degree(); 2];
+    let mut degrees = degrees();
     // SAFETY: as above
     let got = Got::of(|words| unsafe {
         sys::mapsforge_stream_accept(
@@ -299,7 +315,7 @@ pub fn fetch(ask: &Ask, feature: u64, lists: Lists) -> Fetch {
     let Ask { map, layout, interval, at: Address { grid, tile, .. } } = ask;
     let Lists { nodes, initial_latitudes, initial_longitudes, buffer } = lists;
     let Nodes { counts, latitudes, longitudes } = nodes;
-    let (mut signed, mut degrees) = ([WORD as i64; 2], [degree(); 2]);
+    let (mut signed, mut degrees) = (SIGNED, degrees());
     let (mut ids, mut tags) = ([WORD; 15], [WORD; 75]);
     // SAFETY: as above
     let got = Got::of(|words| unsafe {

@@ -3,8 +3,8 @@
 use mapsforge_rs::header::DEBUG_INFO_MASK;
 use mapsforge_rs::types::{MapFile, MapHeader, ZoomInterval};
 
-use super::check::{caught, front, Call, Check, Checked, Reason};
-use super::library::{self, Interval, Layout};
+use super::check::{caught, Call, Check, Checked, Reason};
+use super::library::{self, kept_but, Interval, Layout, WORD};
 use crate::answer::Answer;
 use crate::differences::{self, header_parts, HeaderParts};
 use crate::leaves::value_letter;
@@ -12,7 +12,7 @@ use crate::maps::open;
 use crate::source::Source;
 
 /// The size of an interval in the header.
-const INTERVAL: usize = 3 + 8 + 8;
+pub const INTERVAL: usize = 3 + 8 + 8;
 
 /// The Rust's opened map, or the refusal to open it.
 pub type Opening<'a> = Result<MapFile<Source<'a>>, Answer>;
@@ -29,10 +29,10 @@ pub fn of<'a>(check: &mut Check, map: &'a [u8]) -> Checked<Opening<'a>> {
 /// What opening must give in words.
 #[derive(Clone)]
 pub struct Said {
-    pub number: u64,
-    pub words: [u64; 34],
-    pub degrees: [f64; 6],
-    pub layout: Layout,
+    number: u64,
+    words: [u64; 34],
+    degrees: [f64; 6],
+    layout: Layout,
 }
 
 impl Said {
@@ -53,8 +53,13 @@ impl Said {
     }
 
     fn refused(refusal: &[u64]) -> Self {
-        let words = front(&refusal[1..]);
-        Said { number: refusal[0], words, degrees: [0.0; 6], layout: [0; 5] }
+        let words = kept_but(0, &refusal[1..]);
+        Said { number: refusal[0], words, degrees: library::degrees(), layout: [WORD; 7] }
+    }
+
+    /// What is handed on to other calls: of a map that does not open, zeros.
+    pub fn layout(&self) -> Layout {
+        handed_on(self.number, self.layout)
     }
 
     /// Our opening against it.
@@ -70,6 +75,20 @@ impl Said {
         let at = if ways { 31 } else { 29 };
         [self.words[at], self.words[at + 1]]
     }
+}
+
+fn handed_on(number: u64, layout: Layout) -> Layout {
+    if number == 0 {
+        layout
+    } else {
+        [0; 7]
+    }
+}
+
+/// The layout that our library gives, to be handed on.
+pub fn our_layout(map: &[u8]) -> Layout {
+    let ours = library::open(map);
+    handed_on(ours.got.number, ours.layout)
 }
 
 /// That each text is the Rust's, where its ill-formed parts are replaced.
@@ -100,7 +119,7 @@ fn words(header: &MapHeader, parts: &HeaderParts) -> [u64; 34] {
     let mut next = || texts.next().expect("as many texts as the Rust has");
     let intervals = header.zoom_interval_configuration.len() as u64;
     let [poi_tags, way_tags] = parts.tables.map(|place| place as u64);
-    let mut words = [0; 34];
+    let mut words: [u64; 34] = kept_but(6, &[0; 28]);
     words[6] = parts.intervals as u64 + 1 + intervals * INTERVAL as u64;
     words[7..11].copy_from_slice(&[
         header.header_size.into(),
@@ -135,7 +154,9 @@ fn degrees(header: &MapHeader) -> [f64; 6] {
 fn layout(header: &MapHeader, parts: &HeaderParts) -> Layout {
     let debug = u64::from(header.flags & DEBUG_INFO_MASK != 0);
     let [points, ways] = parts.tables.map(|place| place as u64);
-    [debug, points, header.poi_tags.len() as u64, ways, header.way_tags.len() as u64]
+    let lists = [header.poi_tags.len(), header.way_tags.len()].map(|count| count as u64);
+    let intervals = header.zoom_interval_configuration.len() as u64;
+    [debug, points, lists[0], ways, lists[1], parts.intervals as u64 + 1, intervals]
 }
 
 /// Tag `k` of a table, its text and its kind.
@@ -147,7 +168,7 @@ pub fn tag(check: &mut Check, map: &[u8], table: [u64; 2], tags: &[String], k: u
     check.call(Call::Tag, ours.number);
     check.same("Tag", ours.number, 0)?;
     let [place, size, behind, kind] = [6, 7, 8, 9].map(|k| ours.words[k]);
-    check.words("Tag's values", &ours.words[..6], &[0; 6])?;
+    check.words("Tag's values", &ours.words[..6], &[WORD; 6])?;
     let text = part(map, place, size).map(String::from_utf8_lossy);
     check.same("Tag's text", text.as_deref(), Some(tag.as_str()))?;
     check.words("Tag's end and kind", &[behind, kind], &[place + size, kind_of(tag)])
@@ -177,29 +198,25 @@ pub fn part(map: &[u8], place: u64, size: u64) -> Option<&[u8]> {
 
 /// Whether there is a number, and the number.
 pub fn maybe(number: Option<u64>) -> [u64; 8] {
-    number.map_or([0; 8], |number| [0, 0, 0, 0, 0, 0, 1, number])
+    number.map_or(kept_but(6, &[0]), |number| kept_but(6, &[1, number]))
 }
 
-/// The interval of a sub file, which is ours once it is the Rust's. The map is opened at this call, which
-/// may be refused.
+/// The words of an interval that is missing.
+pub const MISSING: Interval = [0, WORD, WORD, WORD, WORD, WORD];
+
+/// The interval of a sub file, which is ours once it is the Rust's. The layout is the map's, and of a map that does
+/// not open it has no intervals.
 pub fn interval(
     check: &mut Check,
     map: &[u8],
+    layout: &Layout,
     opening: &Opening,
     sub_file: usize,
 ) -> Checked<Interval> {
-    let ours = library::interval(map, sub_file);
-    let intervals = match opening {
-        Ok(file) => {
-            check.got(Call::Interval, &ours.got, 0, &[0; 6])?;
-            &file.header.zoom_interval_configuration[..]
-        }
-        Err(refusal) => {
-            check.refused(Call::Interval, &ours.got, refusal)?;
-            &[]
-        }
-    };
-    let words = intervals.get(sub_file).map_or([0; 6], interval_words);
+    let ours = library::interval(map, layout, sub_file);
+    check.got(Call::Interval, &ours.got, 0, &[WORD; 6])?;
+    let intervals = opening.as_ref().map(|file| &file.header.zoom_interval_configuration[..]);
+    let words = intervals.unwrap_or(&[]).get(sub_file).map_or(MISSING, interval_words);
     check.words("Interval's interval", &ours.interval, &words)?;
     Ok(ours.interval)
 }
@@ -212,13 +229,14 @@ pub fn interval_words(interval: &ZoomInterval) -> Interval {
 }
 
 /// `sub_file_for_zoom`.
-pub fn sub_file(check: &mut Check, map: &[u8], opening: &Opening, zoom: u8) -> Checked {
-    let ours = library::sub_file(map, zoom);
-    match opening {
-        Ok(file) => {
-            let rust = file.sub_file_for_zoom(zoom).map(|k| k as u64);
-            check.got(Call::SubFile, &ours, 0, &maybe(rust))
-        }
-        Err(refusal) => check.refused(Call::SubFile, &ours, refusal),
-    }
+pub fn sub_file(
+    check: &mut Check,
+    map: &[u8],
+    layout: &Layout,
+    opening: &Opening,
+    zoom: u8,
+) -> Checked {
+    let ours = library::sub_file(map, layout, zoom);
+    let rust = opening.as_ref().ok().and_then(|file| file.sub_file_for_zoom(zoom));
+    check.got(Call::SubFile, &ours, 0, &maybe(rust.map(|k| k as u64)))
 }

@@ -2,11 +2,11 @@
 
 use mapsforge_rs::types::MapFile;
 
-use super::check::{front, Call, Check, Checked};
+use super::check::{Call, Check, Checked};
 use super::collected::{padded, placed};
 use super::known::{Event, Plan, Script};
 use super::lent::{suffice, Fronts, Lengths, Lent};
-use super::library::{self, Accept, Ask, Got, Next, State, WORD};
+use super::library::{self, degrees, kept_but, Accept, Ask, Got, Next, State, SIGNED, WORD};
 use crate::answer::Answer;
 use crate::random::Random;
 use crate::source::Source;
@@ -51,7 +51,11 @@ pub fn stream(
         return run.unopened(&script.end);
     }
     let opened = run.open();
-    run.check.got(Call::StreamOpen, &opened, 0, &[0; 6])?;
+    run.check.got(Call::StreamOpen, &opened, 0, &[WORD; 6])?;
+    run.stated(false)?;
+    if script.empty {
+        run.at_end(&script.end)?;
+    }
     run.all(file, script)
 }
 
@@ -66,6 +70,21 @@ impl Run<'_, '_> {
         let ours = self.open();
         self.check.refused(Call::StreamOpen, &ours, refusal)?;
         self.check.words("the state of a stream that does not open", &self.state, &[WORD; 7])
+    }
+
+    /// What a state says besides counts and places: whether a way waits, the sub file's number and the water mark.
+    fn stated(&mut self, waits: bool) -> Checked {
+        let [waiting, .., fourth, number, water] = self.state;
+        self.check.same("whether a way waits", waiting, u64::from(waits))?;
+        self.check.same("the state's sub file", number, self.question.number)?;
+        self.check.same("whether the water mark is one", water < 2, true)?;
+        self.check.same("the state's word 4", waits && fourth != 0, false)
+    }
+
+    /// The header file: "an empty tile's stream is at its end: [...] both places are 0".
+    fn at_end(&mut self, end: &Answer) -> Checked {
+        let state = [0, 0, 0, 0, 0, self.question.number, end[2]];
+        self.check.words("the state of an empty tile", &self.state, &state)
     }
 
     /// All events, and the end twice.
@@ -123,7 +142,8 @@ impl Run<'_, '_> {
     /// A streamed feature has no signature.
     fn point(&mut self, point: &Point) -> Checked {
         let (ours, _) = self.next();
-        let mut words = [0; 21];
+        self.stated(false)?;
+        let mut words: [u64; 21] = kept_but(6, &[0; 12]);
         words[7] = point.ids.len() as u64;
         self.parts(&mut words, 11, &point.name)?;
         self.parts(&mut words, 14, &point.house_number)?;
@@ -137,14 +157,13 @@ impl Run<'_, '_> {
 
     fn head(&mut self, head: &Head) -> Checked {
         let (ours, _) = self.next();
+        self.stated(true)?;
         let layer = head.layer.ok_or("the model has no such head")?;
-        let mut words = [0; 21];
-        words[6] = 1;
-        words[7] = head.ids.len() as u64;
+        let mut words: [u64; 21] = kept_but(6, &[1, head.ids.len() as u64]);
         words[18] = u64::from(head.bitmap);
         self.check.got(Call::StreamNext, &ours.got, 0, &words)?;
-        self.check.same("a head's layer", ours.signed, [layer as i64 - 5, 0])?;
-        self.check.floats("a head's position", &ours.degrees, &[0.0; 2])?;
+        self.check.same("a head's layer", ours.signed, [layer as i64 - 5, SIGNED[1]])?;
+        self.check.floats("a head's position", &ours.degrees, &degrees::<2>())?;
         self.check.words("a head's ids", &ours.ids, &padded::<15>(&head.ids))
     }
 
@@ -152,21 +171,15 @@ impl Run<'_, '_> {
     /// it was. The Rust's number is the one by which it was asked.
     fn end(&mut self, end: &Answer) -> Checked {
         let (ours, before) = self.next();
-        let mut words = front(&end[1..]);
+        let mut words: [u64; 21] = kept_but(0, &end[1..]);
         if let [0, sub_file, water] = end[..] {
             self.check.same("the Rust's sub file", self.question.ask.at.sub_file, sub_file)?;
-            words = [0; 21];
-            (words[6], words[19], words[20]) = (2, self.question.number, water);
+            words = kept_but(19, &[self.question.number, water]);
+            words[6] = 2;
         }
         self.check.got(Call::StreamNext, &ours.got, end[0], &words)?;
-        self.nothing(&ours)?;
+        nothing(self.check, &ours)?;
         self.check.words("the state at the end", &self.state, &before)
-    }
-
-    fn nothing(&mut self, ours: &Next) -> Checked {
-        self.check.same("no layer", ours.signed, [0; 2])?;
-        self.check.floats("no position", &ours.degrees, &[0.0; 2])?;
-        self.check.words("no ids", &ours.ids, &[0; 15])
     }
 
     /// At random: next while a way waits.
@@ -176,7 +189,7 @@ impl Run<'_, '_> {
         }
         let (ours, before) = self.next();
         self.check.refused(Call::StreamNext, &ours.got, &[16])?;
-        self.nothing(&ours)?;
+        nothing(self.check, &ours)?;
         self.check.words("the state of a next out of turn", &self.state, &before)
     }
 
@@ -197,7 +210,8 @@ impl Run<'_, '_> {
     fn decline(&mut self) -> Checked {
         let number = library::stream_decline(&mut self.state);
         self.check.call(Call::StreamDecline, number);
-        self.check.same("a decline", number, 0)
+        self.check.same("a decline", number, 0)?;
+        self.stated(false)
     }
 
     fn accept(&mut self, way: &Way) -> Checked {
@@ -211,13 +225,13 @@ impl Run<'_, '_> {
         }
         let lengths = self.random.enough(&needed);
         let ours = self.call_accept(lengths);
+        self.stated(false)?;
         self.body(&ours, way, &needed)?;
         self.lent.check(self.check, lengths, &fronts)
     }
 
     fn body(&mut self, ours: &Accept, way: &Way, needed: &Lengths) -> Checked {
-        let mut words = [0; 18];
-        (words[6], words[7]) = (needed[0] as u64, needed[1] as u64);
+        let mut words: [u64; 18] = kept_but(6, &[needed[0] as u64, needed[1] as u64]);
         self.parts(&mut words, 8, &way.name)?;
         self.parts(&mut words, 11, &way.house_number)?;
         self.parts(&mut words, 14, &way.reference)?;
@@ -241,7 +255,7 @@ impl Run<'_, '_> {
         let before = self.state;
         let ours = self.call_accept(lengths);
         self.check.refused(Call::StreamAccept, &ours.got, refusal)?;
-        self.check.floats("a refused accept's label", &ours.degrees, &[0.0; 2])?;
+        self.check.floats("a refused accept's label", &ours.degrees, &degrees::<2>())?;
         self.check.words("the state of a refused accept", &self.state, &before)?;
         self.lent.check(self.check, lengths, &Fronts::default())
     }
@@ -259,6 +273,13 @@ impl Run<'_, '_> {
         words[at..at + 3].copy_from_slice(&part);
         Ok(())
     }
+}
+
+/// Of the end or a refused next, all but its words is as it was lent.
+pub fn nothing(check: &mut Check, ours: &Next) -> Checked {
+    check.same("no layer", ours.signed, SIGNED)?;
+    check.floats("no position", &ours.degrees, &degrees::<2>())?;
+    check.words("no ids", &ours.ids, &[WORD; 15])
 }
 
 /// The head's layer is the model's; the Rust says it with the way.

@@ -34,9 +34,10 @@ pub fn compare(check: &mut Check, lent: &mut Lent, base: &Base, random: &mut Ran
     for text in header_parts(map).iter().flat_map(|parts| &parts.texts) {
         indexed::text(check, lent, &map[text.clone()], random)?;
     }
+    let layout = said.layout();
     let ask = |at: &Address| {
-        let interval = opening::interval(check, map, &opening, at.sub_file as usize)?;
-        Ok(Ask { map, layout: said.layout, interval, at: *at })
+        let interval = opening::interval(check, map, &layout, &opening, at.sub_file as usize)?;
+        Ok(Ask { map, layout, interval, at: *at })
     };
     let asks = base.tiles.iter().map(ask).collect::<Checked<Vec<_>>>()?;
     let mut file = opening.unwrap_or_else(|_| foreign::unopened(map));
@@ -58,10 +59,11 @@ fn header(check: &mut Check, map: &[u8], opening: &Opening, said: &Said) -> Chec
     }
     let intervals =
         opening.as_ref().map_or(0, |file| file.header.zoom_interval_configuration.len());
+    let layout = &said.layout();
     for sub_file in (0..=intervals).chain([255, usize::MAX]) {
-        opening::interval(check, map, opening, sub_file)?;
+        opening::interval(check, map, layout, opening, sub_file)?;
     }
-    (0..=u8::MAX).try_for_each(|zoom| opening::sub_file(check, map, opening, zoom))
+    (0..=u8::MAX).try_for_each(|zoom| opening::sub_file(check, map, layout, opening, zoom))
 }
 
 /// Count, numbers and entries of each grid that is asked for, and a tile of no sub file by it.

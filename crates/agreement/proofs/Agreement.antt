@@ -48,15 +48,15 @@ module _ (m m′ : List ℕ) (long : length m ≡ length m′) where
     entry-near h n x s o = read-near (L .entry h) (λ j k z. s j (later (this k z))) o
 
 module _ (C : MapLayout) (L : MapLaws C) (m : List ℕ) (h : C .Header) (n : C .Entry) (t : StoredTile (C .format h)) (c : MapCollects C m h n t) where
-  collects : Collects (C .format h) m (C .tileAt h n) t
+  collects : Collects (C .tileHead h n) (C .format h) m (C .tileAt h n) t
   collects = let k = c .collects in record { past = c .past; collects = rw (c .map .entry) at k; sizes = c .sizes; small = c .small }
 
-  agreed : (zoom : ℕ) (cs : List Call) (m′ : List ℕ) → Opens C m′ h n → Agrees (C .format h) m′ (C .tileAt h n) t (C .end h n) (rowsAt C h zoom) cs → MapAgrees C m′ h n t zoom cs
+  agreed : (zoom : ℕ) (cs : List Call) (m′ : List ℕ) → Opens C m′ h n → Agrees (C .tileHead h n) (C .format h) m′ (C .tileAt h n) t (C .end h n) (rowsAt C h zoom) cs → MapAgrees C m′ h n t zoom cs
   agreed zoom cs m′ o a = record {
     map = o;
     opens = rw (o .entry) (a .opens);
     replies = a .replies;
-    shown = ap (streamedReplies (C .view h)) (a .replies) ∙ view-book (C .view h) (L .view h) t (C .end h n) (rowsAt C h zoom) bookStart cs;
+    shown = ap (streamedReplies (C .view h)) (a .replies) ∙ view-book (C .view h) (L .view h) t (C .end h n) (rowsAt C h zoom) (bookStart (C .end h n)) cs;
   }
 
   altered : (zoom : ℕ) (cs : List Call) (m′ : List ℕ) → DifferOnly m m′ (MapAlterable C m h t zoom cs (mapReplies C h n t zoom cs)) → MapAgrees C m′ h n t zoom cs
@@ -70,19 +70,19 @@ module _ (C : MapLayout) (L : MapLaws C) (m : List ℕ) (h : C .Header) (n : C .
         entryEnd = o .entryEnd;
         entry = entry-near m m′ (D .long) C L h n (o .entryEnd) s (o .entry);
       })
-      (tile-altered (C .format h) m (C .tileAt h n) t (L .format h) collects (C .end h n) (rowsAt C h zoom) cs m′
+      (tile-altered (C .tileHead h n) (C .format h) m (C .tileAt h n) t (L .tileHead h n) (L .format h) collects (C .end h n) (rowsAt C h zoom) cs m′
       (record { long = D .long; only = λ j e. record { declined = D .only j e .only .declined; points = D .only j e .points } }))
 
   pub demand-3 : Demand3 C m h n t
   demand-3 = record {
-    agrees = λ zoom cs. agreed zoom cs m (c .map) (tile-agrees (C .format h) m (C .tileAt h n) t (L .format h) collects (C .end h n) (rowsAt C h zoom) cs);
+    agrees = λ zoom cs. agreed zoom cs m (c .map) (tile-agrees (C .tileHead h n) (C .format h) m (C .tileAt h n) t (L .format h) collects (C .end h n) (rowsAt C h zoom) cs);
     altered = altered;
     literal = λ zoom cs m′ b D.
         altered zoom cs m′ (record {
           long = D .long;
           only = λ j e. record {
             only = D .only j e;
-            points = declined-alterable (C .format h) m (C .tileAt h n) t (L .format h) collects (C .end h n) (rowsAt C h zoom) cs b j (D .only j e .declined) .points;
+            points = declined-alterable (C .tileHead h n) (C .format h) m (C .tileAt h n) t (L .tileHead h n) (L .format h) collects (C .end h n) (rowsAt C h zoom) cs b j (D .only j e .declined) .points;
           };
         });
   }
@@ -92,5 +92,5 @@ module _ (C : MapLayout) (L : MapLaws C) (m : List ℕ) (h : C .Header) (n : C .
       → (LiesIn j (pointBytes (C .format h) m t (pointsDelivered (mapReplies C h n t zoom cs)) ∷ []) → ⊥) → MapAlterable C m h t zoom cs (mapReplies C h n t zoom cs) j
   undelivered zoom cs j o k = record {
     only = o;
-    points = undelivered-alterable (C .format h) m (C .tileAt h n) t (L .format h) collects (C .end h n) (rowsAt C h zoom) cs j (o .declined) k .points;
+    points = undelivered-alterable (C .tileHead h n) (C .format h) m (C .tileAt h n) t (L .format h) collects (C .end h n) (rowsAt C h zoom) cs j (o .declined) k .points;
   }

@@ -35,7 +35,7 @@ pub single : {f f′ t t′ j : ℕ} → f ≡ f′ → t ≡ t′ → LiesIn j 
 single e d (this a b) = (omega arith, omega arith)
 single e d (later h) = nowhere h
 
-module _ (F : Format) (L : Laws F) (m m′ : List ℕ) (long : length m ≡ length m′) (z : F .End) where
+module _ (F : Format) (L : Laws F) (m m′ : List ℕ) (long : length m ≡ length m′) where
   -- points from i on, read alike from both maps
   pub data Points : ℕ → List (F .Point) → Type 0 where
     no-points : {i : ℕ} → Points i []
@@ -51,11 +51,11 @@ module _ (F : Format) (L : Laws F) (m m′ : List ℕ) (long : length m ≡ leng
   -- a state of the stream of a tile that collects; the way declined next, if it is untried; a place behind which only declined bytes
   -- were altered, and one before which none lies
   pub data Sound : State (F .End) → Maybe (F .Head) → (low high : ℕ) → Type 0 where
-    s-idle : {i v : ℕ} {ps : List (F .Point)} {ws : List (Way F)} → Points i ps → Ways F m v ws
+    s-idle : {i v : ℕ} {z : F .End} {ps : List (F .Point)} {ws : List (Way F)} → Points i ps → Ways F m v ws
         → Sound (idle (length ps) (length ws) i v z) none v v
-    s-untried : {b : ℕ} {w : Way F} {ws : List (Way F)} → F .behind (w .head) ≡ b → Body F m b w → Ways F m (cut (dataEnd F (w .head))) ws
+    s-untried : {b : ℕ} {z : F .End} {w : Way F} {ws : List (Way F)} → F .behind (w .head) ≡ b → Body F m b w → Ways F m (cut (dataEnd F (w .head))) ws
         → Sound (waits (length ws) (cut (dataEnd F (w .head))) b z) (some (w .head)) b b
-    s-tried : {b : ℕ} {w : Way F} {ws : List (Way F)} → Body F m b w → Ways F m (cut (dataEnd F (w .head))) ws
+    s-tried : {b : ℕ} {z : F .End} {w : Way F} {ws : List (Way F)} → Body F m b w → Ways F m (cut (dataEnd F (w .head))) ws
         → Sound (waits (length ws) (cut (dataEnd F (w .head))) b z) none b (cut (dataEnd F (w .head)))
 
   -- what one call does to that, and what it needs to be answered alike from both maps
@@ -82,7 +82,7 @@ module _ (F : Format) (L : Laws F) (m m′ : List ℕ) (long : length m ≡ leng
   }
 
   -- accept reads the body, whether or not the lists fit
-  accepts : {w : Maybe (F .Head)} {hi b : ℕ} (y : Way F) (ws : List (Way F)) (l : LentLists) → hi ≤ cut (dataEnd F (y .head)) → Body F m b y → Ways F m (cut (dataEnd F (y .head))) ws
+  accepts : {w : Maybe (F .Head)} {hi b : ℕ} {z : F .End} (y : Way F) (ws : List (Way F)) (l : LentLists) → hi ≤ cut (dataEnd F (y .head)) → Body F m b y → Ways F m (cut (dataEnd F (y .head))) ws
       → (c : Bool) → fits (F .lists (y .body)) l ≡ c
       → Onward (waits (length ws) (cut (dataEnd F (y .head))) b z) w b hi (accept l) (stream F m (waits (length ws) (cut (dataEnd F (y .head))) b z) (accept l))
   accepts {b = b} y ws l up d x true e =

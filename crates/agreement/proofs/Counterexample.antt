@@ -9,12 +9,12 @@ use Prim.Native.Nat.{ℕ, zero, suc}
 use native.Mathlib.Omega.{arith}
 use lib.IntN.{pos}
 use lib.ListN.{getD}
-use Rattle.parsing.specs.Parse.{Part, part, Maybe, none, some, optional}
+use Rattle.parsing.specs.Parse.{Parser, Part, part, Maybe, none, some, optional}
 use Rattle.byte_source.specs.BigEndian.{valueOf, bigEndian}
 use Rattle.utils.specs.Vbe.{groups, unsigned, signed, coordinate, text}
 use Rattle.format.specs.Lent.{Reply}
 use Rattle.format.specs.WayData.{node, block, dataBlock, wayData}
-use Rattle.format.specs.Tile.{row, zoomTable, debugSignature, tileHead, values, tagId, tagged, pointFields, point, headRest, head, wayFields, dataBlockCount, body}
+use Rattle.format.specs.Tile.{TileHead, row, zoomTable, debugSignature, tileHead, values, tagId, tagged, pointFields, point, headRest, head, wayFields, dataBlockCount, body}
 use Rattle.agreement.specs.Calls.{Call, next, decline, gotPoint, gotHead, gotBody, declined, ended, refused}
 use Rattle.agreement.specs.Format.{Format}
 use Rattle.agreement.specs.Stream.{StreamAnswer}
@@ -24,14 +24,17 @@ use Rattle.agreement.specs.TileFormat.{TileEnd, tileFormat}
 use Rattle.agreement.specs.Demand3.{Collects, Agrees, storedReplies}
 
 -- tiles of one zoom level, in a map with no tags and no debug signatures
+abbrev pub plainHead : Parser TileHead
+plainHead = tileHead false 1
+
 abbrev pub plainTile : Format
-plainTile = tileFormat false 1 [] []
+plainTile = tileFormat false [] []
 
 -- the sentence without a word on where the ways start (compare `tile-literal` of TileAltered.antt)
 abbrev pub Literally : Type 0
 Literally =
-    (m : List ℕ) (i : ℕ) (t : StoredTile plainTile) → Collects plainTile m i t → (z : TileEnd) (rows : ℕ) (cs : List Call) (m′ : List ℕ)
-    → DifferOnly m m′ (λ j. LiesIn j (declinedBytes plainTile cs (storedReplies plainTile t z rows cs))) → Agrees plainTile m′ i t z rows cs
+    (m : List ℕ) (i : ℕ) (t : StoredTile plainTile) → Collects plainHead plainTile m i t → (z : TileEnd) (rows : ℕ) (cs : List Call) (m′ : List ℕ)
+    → DifferOnly m m′ (λ j. LiesIn j (declinedBytes plainTile cs (storedReplies plainTile t z rows cs))) → Agrees plainHead plainTile m′ i t z rows cs
 
 -- a tile of one point and one way, and with one byte altered. Behind the head, 01 01 00, the point is 05 00, its position, 50, no tags,
 -- and 80 01 00, a name of one byte. From the same place on the way has size 05, bitmap 00 50, no tags by 80, and its body is 01 00: the
@@ -61,7 +64,7 @@ stored = record {
   } ∷ [];
 }
 
-collects : Collects plainTile before 0 stored
+collects : Collects plainHead plainTile before 0 stored
 unfolding part optional valueOf bigEndian groups unsigned signed coordinate text node block dataBlock wayData row zoomTable debugSignature tileHead values tagId tagged pointFields point headRest head wayFields dataBlockCount body
 collects = record { past = 9; collects = refl; sizes = refl; small = omega arith }
 

@@ -38,14 +38,14 @@ module _ {A : Type 0} {p : Parser A} (g : Good p) (s : Strict p) (m : List ℕ) 
   too-many (suc n) (suc k) i a b = one-more (many p (suc n) m) (many p (suc k) m) i (λ v e h. too-many n k e (omega arith) (omega arith)) (p m i) refl
 
   -- a count that was cut, read behind the map's start
-  pub many-cut : (n i : ℕ) → length m < 2 ^ 64 → 0 < i → many p (cut n) m i ≡ many p n m i
+  pub many-cut : (n i : ℕ) → length m < 2 ^ 64 → (0 < n → 0 < i) → many p (cut n) m i ≡ many p n m i
   many-cut n i f h = go (ltb n (2 ^ 64)) refl
     where
-      most : (k n : ℕ) → k ≡ 2 ^ 64 - 1 → 2 ^ 64 ≤ n → many p k m i ≡ many p n m i
-      most zero n e q = absurd (omega arith)
-      most (suc k) zero e q = absurd (omega arith)
-      most (suc k) (suc n) e q = too-many k n i (omega arith) (omega arith)
+      most : (k n : ℕ) → k ≡ 2 ^ 64 - 1 → 2 ^ 64 ≤ n → 0 < i → many p k m i ≡ many p n m i
+      most zero n e q b = absurd (omega arith)
+      most (suc k) zero e q b = absurd (omega arith)
+      most (suc k) (suc n) e q b = too-many k n i (omega arith) (omega arith)
 
       go : (b : Bool) → ltb n (2 ^ 64) ≡ b → many p (cut n) m i ≡ many p n m i
       go true e = ap (λ k. many p k m i) (cut-fits n (ltb-true n (2 ^ 64) e))
-      go false e = let q = ltb-false n (2 ^ 64) e in most (cut n) n (cut-over n (omega arith)) q
+      go false e = let q = ltb-false n (2 ^ 64) e in most (cut n) n (cut-over n (omega arith)) q (h (omega arith))

@@ -12,3 +12,4 @@ pub mod Counterexample
 pub mod CallLaws
 pub mod CollectLaws
 pub mod TileFormatLaws
+pub mod EmptyTile

@@ -8,13 +8,15 @@ use native.Mathlib.Omega.{arith}
 use lib.Dec.{T, eqb→eq}
 use lib.ListN.{length, take}
 use lib.Seq.{length-take-le}
-use Rattle.parsing.specs.Parse.{ok, andThen, bind, return, many, here}
+use Rattle.parsing.specs.Parse.{ok, Parser, andThen, bind, return, many, here}
 use Rattle.parsing.specs.Good.{Good, Strict, goods, stricts, split, ok-val, ok-at}
 use Rattle.arithmetic.specs.Cut.{cut}
 use Rattle.arithmetic.proofs.CutLaws.{cut-fits}
 use Rattle.agreement.specs.Calls.{Call, run}
 use Rattle.format.specs.Rows.{pointsOf, waysOf}
-use Rattle.agreement.specs.Format.{Format, Laws, dataEnd, pointsUpTo, waysUpTo}
+use Rattle.format.specs.Tile.{TileHead}
+use Rattle.agreement.specs.Format.{Format, Laws, dataEnd}
+use Rattle.agreement.specs.Heads.{pointsUpTo, waysUpTo}
 use Rattle.agreement.specs.Stream.{idle, stream}
 use Rattle.agreement.specs.Collected.{Way, way, exact, allExact, StoredTile, collect}
 use Rattle.agreement.specs.Demand3.{Collects, Agrees, storedReplies, freshOf}
@@ -86,21 +88,21 @@ ways-first (suc k) (cons h b x) = cons h b (ways-first k x)
 
 -- the counts under other names
 same-by : (F : Format) (m : List ℕ) (z : F .End) {ps : List (F .Point)} {ws : List (Way F)} {i v e n k : ℕ} → Chain (F .point) m i ps e → Ways F m v ws
-    → length ps ≡ n → length ws ≡ k → Same F m z (idle n k i v z) (between ps ws)
-same-by F m z c x p q = rw (← p, ← q) (same-between _ _ _ _ _ c x)
+    → length ps ≡ n → length ws ≡ k → Same F m (idle n k i v z) (between ps ws z)
+same-by F m z c x p q = rw (← p, ← q) (same-between _ _ _ _ _ z c x)
 
 -- what collecting read
-pub record Collected (F : Format) (m : List ℕ) (i : ℕ) (t : StoredTile F) : Type 0 where
-  pub head : F .tileHead m i ≡ ok (t .head) (t .start)
+pub record Collected (tileHead : Parser TileHead) (F : Format) (m : List ℕ) (i : ℕ) (t : StoredTile F) : Type 0 where
+  pub head : tileHead m i ≡ ok (t .head) (t .start)
   pub last : ℕ
-  pub points : Many (F .point) m (pointsOf (F .table (t .head))) (t .start) (t .points) last
+  pub points : Many (F .point) m (pointsOf (t .head .table)) (t .start) (t .points) last
   pub past : ℕ
-  pub ways : Many (way F) m (waysOf (F .table (t .head))) (t .start + F .offset (t .head)) (t .ways) past
+  pub ways : Many (way F) m (waysOf (t .head .table)) (t .start + t .head .offset) (t .ways) past
 
-module _ (F : Format) (m : List ℕ) (i : ℕ) (t : StoredTile F) (z : ℕ) where
-  collected-of : (h : F .TileHead) (e : ℕ) (ps : List (F .Point)) (x : ℕ) (ws : List (Way F)) (y : ℕ) → F .tileHead m i ≡ ok h e
-      → many (F .point) (pointsOf (F .table h)) m e ≡ ok ps x → many (way F) (waysOf (F .table h)) m (e + F .offset h) ≡ ok ws y
-      → ok (record { head = h; start = e; points = ps; ways = ws }) y ≡ ok t z → Collected F m i t
+module _ (tileHead : Parser TileHead) (F : Format) (m : List ℕ) (i : ℕ) (t : StoredTile F) (z : ℕ) where
+  collected-of : (h : TileHead) (e : ℕ) (ps : List (F .Point)) (x : ℕ) (ws : List (Way F)) (y : ℕ) → tileHead m i ≡ ok h e
+      → many (F .point) (pointsOf (h .table)) m e ≡ ok ps x → many (way F) (waysOf (h .table)) m (e + h .offset) ≡ ok ws y
+      → ok (record { head = h; start = e; points = ps; ways = ws }) y ≡ ok t z → Collected tileHead F m i t
   collected-of h e ps x ws y p q r d =
       rw (← (ok-val d)) record {
         head = p;
@@ -110,61 +112,66 @@ module _ (F : Format) (m : List ℕ) (i : ℕ) (t : StoredTile F) (z : ℕ) wher
         ways = many-chain (way F) m _ _ ws y r;
       }
 
-  pub collected : collect F m i ≡ ok t z → Collected F m i t
+  pub collected : collect tileHead F m i ≡ ok t z → Collected tileHead F m i t
   collected c =
-      let a = split (F .tileHead m i) (λ g x.
-      andThen (many (F .point) (pointsOf (F .table g)) m x) (λ ps _.
-      andThen (many (way F) (waysOf (F .table g)) m (x + F .offset g)) (λ ws y.
+      let a = split (tileHead m i) (λ g x.
+      andThen (many (F .point) (pointsOf (g .table)) m x) (λ ps _.
+      andThen (many (way F) (waysOf (g .table)) m (x + g .offset)) (λ ws y.
       ok (record { head = g; start = x; points = ps; ways = ws }) y))) t z c in
-      let b = split (many (F .point) (pointsOf (F .table (a .val))) m (a .mid)) (λ ps _.
-      andThen (many (way F) (waysOf (F .table (a .val))) m (a .mid + F .offset (a .val))) (λ ws y.
+      let b = split (many (F .point) (pointsOf (a .val .table)) m (a .mid)) (λ ps _.
+      andThen (many (way F) (waysOf (a .val .table)) m (a .mid + a .val .offset)) (λ ws y.
       ok (record { head = a .val; start = a .mid; points = ps; ways = ws }) y)) t z (a .second) in
-      let d = split (many (way F) (waysOf (F .table (a .val))) m (a .mid + F .offset (a .val))) (λ ws y.
+      let d = split (many (way F) (waysOf (a .val .table)) m (a .mid + a .val .offset)) (λ ws y.
       ok (record { head = a .val; start = a .mid; points = b .val; ways = ws }) y) t z (b .second) in
       collected-of (a .val) (a .mid) (b .val) (b .mid) (d .val) (d .mid) (a .first) (b .first) (d .first) (d .second)
 
 -- what demand 3 supposes, taken apart
-pub record Supposed (F : Format) (m : List ℕ) (i : ℕ) (t : StoredTile F) : Type 0 where
+pub record Supposed (tileHead : Parser TileHead) (F : Format) (m : List ℕ) (i : ℕ) (t : StoredTile F) : Type 0 where
   pub laws : Laws F
   pub small : length m < 2 ^ 64
   pub sizes : T (allExact (t .ways))
-  pub read : Collected F m i t
+  pub read : Collected tileHead F m i t
 
-pub supposed : (F : Format) (m : List ℕ) (i : ℕ) (t : StoredTile F) → Laws F → Collects F m i t → Supposed F m i t
-supposed F m i t L c = record { laws = L; small = c .small; sizes = test-of (allExact (t .ways)) (c .sizes); read = collected F m i t (c .past) (c .collects) }
+pub supposed : (H : Parser TileHead) (F : Format) (m : List ℕ) (i : ℕ) (t : StoredTile F) → Laws F → Collects H F m i t → Supposed H F m i t
+supposed H F m i t L c = record {
+  laws = L;
+  small = c .small;
+  sizes = test-of (allExact (t .ways)) (c .sizes);
+  read = collected H F m i t (c .past) (c .collects);
+}
 
-module _ {F : Format} {m : List ℕ} {i : ℕ} {t : StoredTile F} (C : Supposed F m i t) (rows : ℕ) where
-  pub points-le : pointsUpTo (F .table (t .head)) rows ≤ length (t .points)
-  points-le = omega (arith, total-take (λ r. r .points) rows (F .table (t .head)), C .read .points .count)
+module _ {H : Parser TileHead} {F : Format} {m : List ℕ} {i : ℕ} {t : StoredTile F} (C : Supposed H F m i t) (rows : ℕ) where
+  pub points-le : pointsUpTo (t .head .table) rows ≤ length (t .points)
+  points-le = omega (arith, total-take (λ r. r .points) rows (t .head .table), C .read .points .count)
 
-  pub ways-le : waysUpTo (F .table (t .head)) rows ≤ length (t .ways)
-  ways-le = omega (arith, total-take (λ r. r .ways) rows (F .table (t .head)), C .read .ways .count)
+  pub ways-le : waysUpTo (t .head .table) rows ≤ length (t .ways)
+  ways-le = omega (arith, total-take (λ r. r .ways) rows (t .head .table), C .read .ways .count)
 
   -- no count of a tile that collects is cut
-  pub points-counted : length (take (pointsUpTo (F .table (t .head)) rows) (t .points)) ≡ cut (pointsUpTo (F .table (t .head)) rows)
+  pub points-counted : length (take (pointsUpTo (t .head .table) rows) (t .points)) ≡ cut (pointsUpTo (t .head .table) rows)
   points-counted =
       let n = count-le (C .laws .point-good) (C .laws .point-strict) (C .read .points .chain) in
       length-take-le _ (t .points) points-le ∙ sym (cut-fits _ (omega (arith, points-le, C .small)))
 
-  pub ways-counted : length (take (waysUpTo (F .table (t .head)) rows) (t .ways)) ≡ cut (waysUpTo (F .table (t .head)) rows)
+  pub ways-counted : length (take (waysUpTo (t .head .table) rows) (t .ways)) ≡ cut (waysUpTo (t .head .table) rows)
   ways-counted =
       let n = count-le (way-good F (C .laws)) (way-strict F (C .laws)) (C .read .ways .chain) in
       length-take-le _ (t .ways) ways-le ∙ sym (cut-fits _ (omega (arith, ways-le, C .small)))
 
   -- what a stream of these rows is to deliver
-  pub points-up-to : Front (F .point) m (pointsUpTo (F .table (t .head)) rows) (t .start) (t .points) (C .read .last)
+  pub points-up-to : Front (F .point) m (pointsUpTo (t .head .table) rows) (t .start) (t .points) (C .read .last)
   points-up-to = front (C .laws .point-good) _ points-le (C .read .points .chain)
 
-  pub ways-up-to : Ways F m (cut (t .start + F .offset (t .head))) (take (waysUpTo (F .table (t .head)) rows) (t .ways))
-  ways-up-to = ways-first (waysUpTo (F .table (t .head)) rows) (ways-of F (C .laws) m (C .small) (C .read .ways .chain) (C .sizes))
+  pub ways-up-to : Ways F m (cut (t .start + t .head .offset)) (take (waysUpTo (t .head .table) rows) (t .ways))
+  ways-up-to = ways-first (waysUpTo (t .head .table) rows) (ways-of F (C .laws) m (C .small) (C .read .ways .chain) (C .sizes))
 
   pub replies : (z : F .End) (cs : List Call) → run (stream F m) (freshOf F t z rows) cs ≡ storedReplies F t z rows cs
   replies z cs =
-      simulate (stream F m) (remaining F z) (Same F m z) (keeps F m z) _ _ (same-by F m z (points-up-to .chain) ways-up-to points-counted ways-counted) cs
+      simulate (stream F m) (remaining F) (Same F m) (keeps F m) _ _ (same-by F m z (points-up-to .chain) ways-up-to points-counted ways-counted) cs
       ∙ sym (book-remaining t z _ _ points-le ways-le cs)
 
-pub tile-agrees : (F : Format) (m : List ℕ) (i : ℕ) (t : StoredTile F) → Laws F → Collects F m i t
-    → (z : F .End) (rows : ℕ) (cs : List Call) → Agrees F m i t z rows cs
-tile-agrees F m i t L c z rows cs =
-    let C = supposed F m i t L c in
+pub tile-agrees : (H : Parser TileHead) (F : Format) (m : List ℕ) (i : ℕ) (t : StoredTile F) → Laws F → Collects H F m i t
+    → (z : F .End) (rows : ℕ) (cs : List Call) → Agrees H F m i t z rows cs
+tile-agrees H F m i t L c z rows cs =
+    let C = supposed H F m i t L c in
     record { opens = rw (C .read .head); replies = replies C rows z cs }

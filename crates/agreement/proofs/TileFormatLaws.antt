@@ -1,8 +1,8 @@
 -- The Mapsforge tile meets what the machines ask of a format; and each of its parts is refused at the map's end and behind it.
-use Prim.Native.Nat.{ℕ, suc, _≤_, max}
+use Prim.Native.Nat.{ℕ, _^_, _≤_, _<_, max}
 use native.Mathlib.Omega.{arith}
-use mathlib.Core.Path.{_≡_}
-use mathlib.Core.Bool.{Bool, true, false}
+use mathlib.Core.Path.{_≡_, refl, ap}
+use mathlib.Core.Bool.{Bool, true, false, cond}
 use mathlib.Core.List.{List, [], _∷_}
 use lib.Dec.{lit≤}
 use lib.ListN.{length}
@@ -13,14 +13,16 @@ use Rattle.parsing.proofs.Ends.{PastEnd, Still, AtEnd, stopped, stays, part-end
 use Rattle.utils.specs.Vbe.{groups, unsigned, signed, coordinate}
 use Rattle.format.specs.WayData.{node}
 use Rattle.format.specs.Tile as tile
+use Rattle.format.specs.Rows.{pointsOf, waysOf, markedHead}
+use Rattle.format.proofs.EmptyLaws.{no-points, no-ways}
+use Rattle.parsing.specs.Good.{ok-val}
 use Rattle.tag.specs.declared.Kind.{Kind}
 use Rattle.agreement.specs.Format.{Laws}
+use Rattle.agreement.specs.Heads.{HeadCounts}
 use Rattle.agreement.specs.TileFormat.{tileFormat}
 
-pub tile-laws : (debug : Bool) (rows : ℕ) (poiKinds wayKinds : List Kind) → Laws (tileFormat debug rows poiKinds wayKinds)
-tile-laws debug rows poiKinds wayKinds = record {
-  tileHead-good = tile.tileHead-good debug rows;
-  tileHead-strict = tile.tileHead-strict debug rows;
+pub tile-laws : (debug : Bool) (poiKinds wayKinds : List Kind) → Laws (tileFormat debug poiKinds wayKinds)
+tile-laws debug poiKinds wayKinds = record {
   point-good = tile.point-good debug poiKinds;
   point-strict = tile.point-strict debug poiKinds;
   head-good = tile.head-good debug wayKinds;
@@ -28,6 +30,18 @@ tile-laws debug rows poiKinds wayKinds = record {
   head-post = tile.head-post debug wayKinds;
   body-good = tile.body-good;
 }
+
+-- an empty tile counts nothing, and any other tile has a head
+pub head-counts : (empty debug : Bool) (rows : ℕ) → HeadCounts (markedHead empty debug rows)
+unfolding markedHead
+head-counts true debug rows = record {
+  passes = λ m i h e q b.
+      let c = ok-val q in
+      let p = ap (λ (a : tile.TileHead). pointsOf (a .table)) c in
+      let w = ap (λ (a : tile.TileHead). waysOf (a .table)) c in
+      absurd (omega (arith, no-points rows, no-ways rows));
+}
+head-counts false debug rows = record { passes = λ m i h e q _. tile.tileHead-strict debug rows .more m i h e q }
 
 pub unsigned-end : PastEnd unsigned
 unfolding unsigned groups
@@ -70,8 +84,14 @@ head-past false rows m i h = go (many tile.row rows m i) (rows-still rows .stops
     go r stopped = rw e
     go r (stays a) = rw (unsigned-end .stops m i h, e)
 
-pub tileHead-cuts : (debug : Bool) (rows : ℕ) → Cuts (tile.tileHead debug rows)
+tileHead-cuts : (debug : Bool) (rows : ℕ) → Cuts (tile.tileHead debug rows)
 tileHead-cuts debug rows = cuts-past 20 (head-past debug rows)
+
+-- so a tile's place may be cut; an empty tile stands nowhere, and its place is 0
+pub head-cut : (empty debug : Bool) (rows : ℕ) (m : List ℕ) (i : ℕ) → length m < 2 ^ 64 → markedHead empty debug rows m (cond empty 0 (cut i)) ≡ markedHead empty debug rows m (cond empty 0 i)
+unfolding markedHead
+head-cut true debug rows m i small = refl
+head-cut false debug rows m i small = tileHead-cuts debug rows .at m i small
 
 pub point-end : (debug : Bool) (kinds : List Kind) → PastEnd (tile.point debug kinds)
 unfolding tile.point

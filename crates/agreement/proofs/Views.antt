@@ -5,18 +5,22 @@ use mathlib.Core.List.{List, [], _∷_, map}
 use Prim.Native.Nat.{ℕ, zero, suc, _+_, _-_}
 use lib.Dec.{ltb}
 use lib.ListN.{length}
-use Rattle.format.specs.Lent.{LentLists, fits, written, needed}
-use Rattle.agreement.specs.Calls.{Call, next, accept, decline, gotBody, ended, refused, Step, run, plain, lending, accepted}
-use Rattle.agreement.specs.Format.{Format, pointsUpTo, waysUpTo}
-use Rattle.agreement.specs.Stream.{StreamAnswer}
+use Rattle.format.specs.Lent.{LentLists, fits}
+use Rattle.agreement.specs.Calls.{Call, next, accept, decline, ended, run, plain}
+use Rattle.agreement.specs.Format.{Format}
+use Rattle.agreement.specs.Heads.{pointsUpTo, waysUpTo}
 use Rattle.parsing.specs.Parse.{nth}
 use Rattle.agreement.specs.Collected.{Way, StoredTile, storedCollection, storedTile, Feature, aPoint, aWay, missing, pointOr, wayOr, fetch}
-use Rattle.agreement.specs.Book.{BookAnswer, BookState, bookState, bookPoint, bookHead, bookBody, bookWay, bookNext, bookCall, book}
+use Rattle.agreement.specs.Book.{BookState, BookStep, bookState, bookPoint, bookHead, bookLent, bookBody, bookWay, bookNext, bookCall, book}
 use Rattle.agreement.specs.View.{View, ViewLaws, collectedTile, streamedReply, streamedReplies}
+use Rattle.agreement.proofs.Remaining.{lentReply}
 
 module _ {F : Format} (S : View F) where
-  abbrev streamedStep : {T : Type 0} → Step (StreamAnswer F) T → Step (BookAnswer (S .collection)) T
-  streamedStep s = record { reply = streamedReply S (s .reply); left = s .left }
+  abbrev streamedState : BookState (F .End) → BookState (S .collection .EndAnswer)
+  streamedState s = bookState (s .k) (s .waiting) (S .streamedEnd (s .end))
+
+  abbrev streamedStep : BookStep (storedCollection F) → BookStep (S .collection)
+  streamedStep s = record { reply = streamedReply S (s .reply); left = streamedState (s .left) }
 
   -- a stored feature, as a fetch shows it
   abbrev pub shownFeature : Feature (storedCollection F) → Feature (S .collection)
@@ -54,51 +58,53 @@ module _ {F : Format} (S : View F) where
         ap (λ n. fetch (collectedTile S t z) (n + (k - P))) (length-map (S .collectedPoint) (t .points)) ∙ shown-fetch (length (t .points) + (k - P))
 
   module _ (L : ViewLaws S) where
-    view-point : (k : ℕ) (f : Feature (storedCollection F)) → bookPoint (S .collection) k (shownFeature f) ≡ streamedStep (bookPoint (storedCollection F) k f)
-    view-point k (aPoint p) = rw (L .point p)
-    view-point k (aWay w) = refl
-    view-point k missing = refl
+    view-point : (k : ℕ) (z : F .End) (f : Feature (storedCollection F)) → bookPoint (S .collection) k (S .streamedEnd z) (shownFeature f) ≡ streamedStep (bookPoint (storedCollection F) k z f)
+    view-point k z (aPoint p) = rw (L .point p)
+    view-point k z (aWay w) = refl
+    view-point k z missing = refl
 
-    view-head : (k : ℕ) (f : Feature (storedCollection F)) → bookHead (S .collection) k (shownFeature f) ≡ streamedStep (bookHead (storedCollection F) k f)
-    view-head k (aPoint p) = refl
-    view-head k (aWay w) = rw (L .head w)
-    view-head k missing = refl
+    view-head : (k : ℕ) (z : F .End) (f : Feature (storedCollection F)) → bookHead (S .collection) k (S .streamedEnd z) (shownFeature f) ≡ streamedStep (bookHead (storedCollection F) k z f)
+    view-head k z (aPoint p) = refl
+    view-head k z (aWay w) = rw (L .head w)
+    view-head k z missing = refl
 
-    view-cond : {T : Type 0} (c : Bool) (x y : Step (StreamAnswer F) T) → cond c (streamedStep x) (streamedStep y) ≡ streamedStep (cond c x y)
+    view-cond : (c : Bool) (x y : BookStep (storedCollection F)) → cond c (streamedStep x) (streamedStep y) ≡ streamedStep (cond c x y)
     view-cond true x y = refl
     view-cond false x y = refl
 
-    view-accept : {T : Type 0} (b : F .Body) (v l : LentLists) (s t : T) → accepted {E = S .collection .EndAnswer} (S .streamedBody b) v l s t ≡ streamedStep (accepted b v l s t)
-    view-accept b v l s t = view-cond (fits v l) (lending (gotBody b) (written v l) t) (lending (refused 15 (needed v)) l s)
+    view-lent : (k : ℕ) (z : F .End) (b : F .Body) (v l : LentLists) (c : Bool)
+        → (let r = lentReply (S .streamedBody b) 0 v l c in bookLent (S .collection) k (S .streamedEnd z) (r .lists) (r .answer))
+        ≡ streamedStep (let r = lentReply b 0 v l c in bookLent (storedCollection F) k z (r .lists) (r .answer))
+    view-lent k z b v l true = refl
+    view-lent k z b v l false = refl
 
-    view-body : (k : ℕ) (l : LentLists) (f : Feature (storedCollection F)) → bookBody (S .collection) k l (shownFeature f) ≡ streamedStep (bookBody (storedCollection F) k l f)
-    view-body k l (aPoint p) = refl
-    view-body k l (aWay w) =
-        rw (L .lists w, L .body w) (view-accept (w .body) (F .lists (w .body)) l (bookState k true) (bookState (suc k) false))
-    view-body k l missing = refl
+    view-body : (k : ℕ) (z : F .End) (l : LentLists) (f : Feature (storedCollection F)) → bookBody (S .collection) k (S .streamedEnd z) l (shownFeature f) ≡ streamedStep (bookBody (storedCollection F) k z l f)
+    view-body k z l (aPoint p) = refl
+    view-body k z l (aWay w) = rw (L .lists w, L .body w) (view-lent k z (w .body) (F .lists (w .body)) l (fits (F .lists (w .body)) l))
+    view-body k z l missing = refl
 
-    module _ (t : StoredTile F) (z : F .End) where
-      view-next : (P W k : ℕ) → bookNext (S .collection) (collectedTile S t z) P W k ≡ streamedStep (bookNext (storedCollection F) (storedTile t z) P W k)
-      view-next P W k =
-          let p = ap (bookPoint (S .collection) k) (shown-fetch t z k) ∙ view-point k (fetch (storedTile t z) k) in
-          let h = ap (bookHead (S .collection) k) (shown-way t z P k) ∙ view-head k (bookWay (storedTile t z) P k) in
-          let e : Step (StreamAnswer F) BookState = plain (ended z) (bookState k false) in
+    module _ (t : StoredTile F) (fed : F .End) where
+      view-next : (P W k : ℕ) (z : F .End) → bookNext (S .collection) (collectedTile S t fed) P W k (S .streamedEnd z) ≡ streamedStep (bookNext (storedCollection F) (storedTile t fed) P W k z)
+      view-next P W k z =
+          let p = ap (bookPoint (S .collection) k (S .streamedEnd z)) (shown-fetch t fed k) ∙ view-point k z (fetch (storedTile t fed) k) in
+          let h = ap (bookHead (S .collection) k (S .streamedEnd z)) (shown-way t fed P k) ∙ view-head k z (bookWay (storedTile t fed) P k) in
+          let e : BookStep (storedCollection F) = plain (ended z) (bookState k false z) in
           ap₂ (λ x y. cond (ltb k P) x (cond (ltb k (P + W)) y (streamedStep e))) p h
-          ∙ ap (cond (ltb k P) _) (view-cond (ltb k (P + W)) (bookHead (storedCollection F) k (bookWay (storedTile t z) P k)) e)
-          ∙ view-cond (ltb k P) (bookPoint (storedCollection F) k (fetch (storedTile t z) k)) _
+          ∙ ap (cond (ltb k P) _) (view-cond (ltb k (P + W)) (bookHead (storedCollection F) k z (bookWay (storedTile t fed) P k)) e)
+          ∙ view-cond (ltb k P) (bookPoint (storedCollection F) k z (fetch (storedTile t fed) k)) _
 
-      view-call : (P W k : ℕ) (b : Bool) (c : Call)
-          → bookCall (S .collection) (collectedTile S t z) P W k b c ≡ streamedStep (bookCall (storedCollection F) (storedTile t z) P W k b c)
-      view-call P W k false next = view-next P W k
-      view-call P W k false (accept l) = refl
-      view-call P W k false decline = refl
-      view-call P W k true next = refl
-      view-call P W k true (accept l) = ap (bookBody (S .collection) k l) (shown-way t z P k) ∙ view-body k l (bookWay (storedTile t z) P k)
-      view-call P W k true decline = refl
+      view-call : (P W k : ℕ) (b : Bool) (z : F .End) (c : Call)
+          → bookCall (S .collection) (collectedTile S t fed) P W k b (S .streamedEnd z) c ≡ streamedStep (bookCall (storedCollection F) (storedTile t fed) P W k b z c)
+      view-call P W k false z next = view-next P W k z
+      view-call P W k false z (accept l) = refl
+      view-call P W k false z decline = refl
+      view-call P W k true z next = refl
+      view-call P W k true z (accept l) = ap (bookBody (S .collection) k (S .streamedEnd z) l) (shown-way t fed P k) ∙ view-body k z l (bookWay (storedTile t fed) P k)
+      view-call P W k true z decline = refl
 
-      pub view-book : (rows : ℕ) (s : BookState) (cs : List Call)
-          → streamedReplies S (run (book (storedCollection F) (storedTile t z) rows) s cs) ≡ run (book (S .collection) (collectedTile S t z) rows) s cs
+      pub view-book : (rows : ℕ) (s : BookState (F .End)) (cs : List Call)
+          → streamedReplies S (run (book (storedCollection F) (storedTile t fed) rows) s cs) ≡ run (book (S .collection) (collectedTile S t fed) rows) (streamedState s) cs
       view-book rows s [] = refl
       view-book rows s (c ∷ cs) =
-          let e = view-call (pointsUpTo (F .table (t .head)) rows) (waysUpTo (F .table (t .head)) rows) (s .k) (s .waiting) c in
-          rw e (ap (λ l. streamedReply S (book (storedCollection F) (storedTile t z) rows s c .reply) ∷ l) (view-book rows (book (storedCollection F) (storedTile t z) rows s c .left) cs))
+          let e = view-call (pointsUpTo (t .head .table) rows) (waysUpTo (t .head .table) rows) (s .k) (s .waiting) (s .end) c in
+          rw e (ap (λ l. streamedReply S (book (storedCollection F) (storedTile t fed) rows s c .reply) ∷ l) (view-book rows (book (storedCollection F) (storedTile t fed) rows s c .left) cs))

@@ -1,9 +1,8 @@
 -- The calls of a stream, their answers, and the lent lists after each: document 01, "The stream and the collected tile". The stream
 -- (Stream.antt) and the book of demand 3 (Book.antt) are two machines that answer such calls.
-use mathlib.Core.Bool.{cond}
 use mathlib.Core.List.{List, [], _∷_}
 use Prim.Native.Nat.{ℕ}
-use Rattle.format.specs.Lent.{LentLists, Reply, fits, written, needed}
+use Rattle.format.specs.Lent.{LentLists, Reply}
 
 pub data Call : Type 0 where
   next : Call
@@ -50,7 +49,3 @@ plain a s = record { reply = record { answer = a; lists = noLists }; left = s }
 -- accept, with the lists after it
 abbrev pub lending : {A S : Type 0} → A → LentLists → S → Step A S
 lending a l s = record { reply = record { answer = a; lists = l }; left = s }
-
--- accept of a way that was decoded whole: its body, and its lists written; or 15 if a lent list is shorter, which changes nothing
-abbrev pub accepted : {P H B E S : Type 0} → B → (values lent : LentLists) → (stay go : S) → Step (Answer P H B E) S
-accepted b v l stay go = cond (fits v l) (lending (gotBody b) (written v l) go) (lending (refused 15 (needed v)) l stay)

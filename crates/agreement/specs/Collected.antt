@@ -2,12 +2,12 @@
 -- tile can then be fetched, points from 0, ways behind them.
 use mathlib.Core.Bool.{Bool, true, _&&_, cond}
 use mathlib.Core.List.{List, [], _∷_}
-use Prim.Native.Nat.{ℕ, zero, suc, _+_, _-_}
+use Prim.Native.Nat.{ℕ, _+_, _-_}
 use lib.Dec.{ltb, eqb}
 use lib.ListN.{length}
 use Rattle.parsing.specs.Parse.{Res, ok, no, Parser, _>>=_, return, many, here, seek, Maybe, none, some, nth}
 use Rattle.arithmetic.specs.Cut.{cut}
-use Rattle.format.specs.Tile.{Row}
+use Rattle.format.specs.Tile.{Row, TileHead}
 use Rattle.format.specs.Lent.{LentLists}
 use Rattle.format.specs.Rows.{pointsOf, waysOf}
 use Rattle.agreement.specs.Format.{Format}
@@ -39,19 +39,19 @@ allExact (w ∷ ws) = exact w && allExact ws
 
 -- a collected tile, its features as stored; `start` is the place behind its head, where the points start
 pub record StoredTile (F : Format) : Type 0 where
-  pub head : F .TileHead
+  pub head : TileHead
   pub start : ℕ
   pub points : List (F .Point)
   pub ways : List (Way F)
 
 -- the points of all rows, behind the head, then the ways of all rows, from where the first-way offset leads; a tile collects if this is
 -- not refused
-abbrev pub collect : (F : Format) → Parser (StoredTile F)
-collect F = do
-  h ← F .tileHead
+abbrev pub collect : Parser TileHead → (F : Format) → Parser (StoredTile F)
+collect tileHead F = do
+  h ← tileHead
   e ← here
-  ps ← many (F .point) (pointsOf (F .table h))
-  ws ← seek (e + F .offset h) (many (way F) (waysOf (F .table h)))
+  ps ← many (F .point) (pointsOf (h .table))
+  ws ← seek (e + h .offset) (many (way F) (waysOf (h .table)))
   return (record { head = h; start = e; points = ps; ways = ws })
 
 -- a result as code holds it, its place cut at 2 ^ 64 - 1: where no way is read, the first-way offset may lead past that
@@ -96,7 +96,7 @@ storedCollection F = record {
 }
 
 abbrev pub storedTile : {F : Format} → StoredTile F → F .End → CollectedTile (storedCollection F)
-storedTile {F} t z = record { table = F .table (t .head); points = t .points; ways = t .ways; end = z }
+storedTile {F} t z = record { table = t .head .table; points = t .points; ways = t .ways; end = z }
 
 -- `missing` is refusal 17: a feature number at or above the count
 pub data Feature (K : Collection) : Type 0 where
@@ -116,9 +116,3 @@ wayOr (some w) = aWay w
 abbrev pub fetch : {K : Collection} → CollectedTile K → ℕ → Feature K
 fetch {K} t k =
     cond (ltb k (length (t .points))) (pointOr {K = K} (nth (t .points) k)) (wayOr {K = K} (nth (t .ways) (k - length (t .points))))
-
--- as a result, at the place behind the tile
-abbrev pub fetched : {K : Collection} → ℕ → Feature K → Res (Feature K)
-fetched e (aPoint p) = ok (aPoint p) e
-fetched e (aWay w) = ok (aWay w) e
-fetched e missing = no 17 []

@@ -4,10 +4,12 @@ use mathlib.Core.Bool.{true}
 use mathlib.Core.List.{List, [], _∷_}
 use Prim.Native.Nat.{ℕ, _+_, _^_, _≤_, _<_}
 use lib.ListN.{length}
-use Rattle.parsing.specs.Parse.{ok, many}
+use Rattle.parsing.specs.Parse.{ok, Parser, many}
 use Rattle.format.specs.Lent.{Reply}
+use Rattle.format.specs.Tile.{TileHead}
 use Rattle.agreement.specs.Calls.{Call, run}
-use Rattle.agreement.specs.Format.{Format, pointsUpTo}
+use Rattle.agreement.specs.Format.{Format}
+use Rattle.agreement.specs.Heads.{pointsUpTo}
 use Rattle.agreement.specs.Stream.{StreamAnswer, State, stream, freshStream, openStream}
 use Rattle.agreement.specs.Collected.{StoredTile, allExact, collect, storedCollection, storedTile}
 use Rattle.agreement.specs.Book.{bookReplies}
@@ -17,9 +19,9 @@ use Rattle.agreement.specs.MapLayout.{MapLayout, openMap, openedBytes, r
 
 -- what demand 3 supposes: the tile at place i collects, and every way's stored size is its decoded length. (That the first-way offset
 -- leads to the first way is part of collecting, which seeks by it, and no lent map is longer than 2 ^ 64 - 1.)
-pub record Collects (F : Format) (m : List ℕ) (i : ℕ) (t : StoredTile F) : Type 0 where
+pub record Collects (tileHead : Parser TileHead) (F : Format) (m : List ℕ) (i : ℕ) (t : StoredTile F) : Type 0 where
   pub past : ℕ
-  pub collects : collect F m i ≡ ok t past
+  pub collects : collect tileHead F m i ≡ ok t past
   pub sizes : allExact (t .ways) ≡ true
   pub small : length m < 2 ^ 64
 
@@ -29,11 +31,11 @@ storedReplies F t z rows cs = bookReplies (storedCollection F) (storedTile t z) 
 
 -- a tile's stream, freshly opened
 abbrev pub freshOf : (F : Format) → StoredTile F → F .End → (rows : ℕ) → State (F .End)
-freshOf F t z rows = freshStream F rows z (t .head) (t .start)
+freshOf F t z rows = freshStream rows z (t .head) (t .start)
 
 -- the stream opens, and every answer and every lent list are exactly those of the book
-pub record Agrees (F : Format) (m : List ℕ) (i : ℕ) (t : StoredTile F) (z : F .End) (rows : ℕ) (cs : List Call) : Type 0 where
-  pub opens : openStream F rows z m i ≡ ok (freshOf F t z rows) (t .start)
+pub record Agrees (tileHead : Parser TileHead) (F : Format) (m : List ℕ) (i : ℕ) (t : StoredTile F) (z : F .End) (rows : ℕ) (cs : List Call) : Type 0 where
+  pub opens : openStream tileHead rows z m i ≡ ok (freshOf F t z rows) (t .start)
   pub replies : run (stream F m) (freshOf F t z rows) cs ≡ storedReplies F t z rows cs
 
 -- the first n points of a tile
@@ -44,11 +46,11 @@ pointBytes F m t n = bytesOf (many (F .point) n) m (t .start)
 -- were delivered: proofs/Delivered.antt.)
 pub record Alterable (F : Format) (m : List ℕ) (t : StoredTile F) (rows : ℕ) (cs : List Call) (rs : List (Reply (StreamAnswer F))) (j : ℕ) : Type 0 where
   pub declined : LiesIn j (declinedBytes F cs rs)
-  pub points : LiesIn j (pointBytes F m t (pointsUpTo (F .table (t .head)) rows) ∷ []) → ⊥
+  pub points : LiesIn j (pointBytes F m t (pointsUpTo (t .head .table) rows) ∷ []) → ⊥
 
 -- the first-way offset leads to the end of the points up to the zoom, or beyond
 pub record WaysBehind (F : Format) (m : List ℕ) (t : StoredTile F) (rows : ℕ) : Type 0 where
-  pub behind : pointBytes F m t (pointsUpTo (F .table (t .head)) rows) .to ≤ t .start + F .offset (t .head)
+  pub behind : pointBytes F m t (pointsUpTo (t .head .table) rows) .to ≤ t .start + t .head .offset
 
 -- The same of a whole map. It opens with header h, and n is the tile's entry.
 pub record Opens (C : MapLayout) (m : List ℕ) (h : C .Header) (n : C .Entry) : Type 0 where
@@ -89,7 +91,7 @@ pub record OnlyDeclined (C : MapLayout) (m : List ℕ) (h : C .Header) (cs : Lis
 -- and in no point up to the zoom
 pub record MapAlterable (C : MapLayout) (m : List ℕ) (h : C .Header) (t : StoredTile (C .format h)) (zoom : ℕ) (cs : List Call) (rs : List (Reply (StreamAnswer (C .format h)))) (j : ℕ) : Type 0 where
   pub only : OnlyDeclined C m h cs rs j
-  pub points : LiesIn j (pointBytes (C .format h) m t (pointsUpTo (C .format h .table (t .head)) (rowsAt C h zoom)) ∷ []) → ⊥
+  pub points : LiesIn j (pointBytes (C .format h) m t (pointsUpTo (t .head .table) (rowsAt C h zoom)) ∷ []) → ⊥
 
 -- Both sentences of demand 3, for every zoom and every list of calls. The altered map's replies are the same ones: `mapReplies` knows
 -- nothing of the map. The second sentence is false as literally written, since the first-way offset may lead into the points

@@ -1,25 +1,18 @@
--- What demand 3 supposes of a tile's format: which parts a tile has, and how each is read. The format document's own definitions
--- (crate format) give such a Format; the stream, the collected tile and the book are defined over any.
+-- What demand 3 supposes of a tile's features: which parts they have, and how each is read. The format document's own definitions
+-- (crate format) give such a Format; the stream and the book are defined over any. How a tile's head is read stands in Heads.antt:
+-- no call of a stream reads it again.
 use mathlib.Core.Path.{_≡_}
-use mathlib.Core.List.{List}
 use Prim.Native.Nat.{ℕ, _+_, _≤_}
-use lib.ListN.{take}
 use Rattle.parsing.specs.Parse.{Parser}
-use Rattle.parsing.specs.Good.{Good, Strict, Post, total}
-use Rattle.format.specs.Tile.{Row}
-use Rattle.format.specs.Rows.{pointsOf, waysOf}
+use Rattle.parsing.specs.Good.{Good, Strict, Post}
 use Rattle.format.specs.Lent.{LentLists}
 
 pub record Format : Type 1 where
-  pub TileHead : Type 0
   pub Point : Type 0
   pub Head : Type 0
   pub Body : Type 0
+  -- what the end of a stream answers
   pub End : Type 0
-  -- a tile's head: its zoom table, and its first-way offset, counted from the byte behind the head
-  pub tileHead : Parser TileHead
-  pub table : TileHead → List Row
-  pub offset : TileHead → ℕ
   -- a point, signature first
   pub point : Parser Point
   -- a way up to its tag values, signature first: the data start (the byte behind the size field), the stored size, which is counted
@@ -36,18 +29,9 @@ pub record Format : Type 1 where
 abbrev pub dataEnd : (F : Format) → F .Head → ℕ
 dataEnd F h = F .start h + F .size h
 
--- how many points and ways the first rows of a zoom table count
-abbrev pub pointsUpTo : List Row → (rows : ℕ) → ℕ
-pointsUpTo table rows = pointsOf (take rows table)
-
-abbrev pub waysUpTo : List Row → (rows : ℕ) → ℕ
-waysUpTo table rows = waysOf (take rows table)
-
--- what every format has to meet: a read depends only on the bytes that it passes, heads and points have at least one byte, and a
+-- what every format has to meet: a read depends only on the bytes that it passes, points and heads have at least one byte, and a
 -- way's head knows where it ends
 pub record Laws (F : Format) : Type 0 where
-  pub tileHead-good : Good (F .tileHead)
-  pub tileHead-strict : Strict (F .tileHead)
   pub point-good : Good (F .point)
   pub point-strict : Strict (F .point)
   pub head-good : Good (F .head)

@@ -1,5 +1,6 @@
 pub mod Calls
 pub mod Format
+pub mod Heads
 pub mod Stream
 pub mod Collected
 pub mod Book

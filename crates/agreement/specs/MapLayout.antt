@@ -5,10 +5,11 @@ use Prim.Native.Nat.{ℕ}
 use Rattle.parsing.specs.Parse.{Res, ok, Parser, andThen}
 use Rattle.parsing.specs.Good.{Good}
 use Rattle.format.specs.Rows.{rowsUpto}
+use Rattle.format.specs.Tile.{TileHead}
 use Rattle.agreement.specs.Format.{Format, Laws}
 use Rattle.agreement.specs.Stream.{State, openStream}
-use Rattle.agreement.specs.Collected.{StoredTile, collect, Feature, fetch, fetched}
-use Rattle.agreement.specs.View.{View, ViewLaws, collectedTile}
+use Rattle.agreement.specs.Collected.{StoredTile, collect}
+use Rattle.agreement.specs.View.{View, ViewLaws}
 use Rattle.agreement.specs.Declined.{Bytes, bytesOf}
 
 pub record MapLayout : Type 1 where
@@ -22,8 +23,9 @@ pub record MapLayout : Type 1 where
   -- the tile's entry, and where it stands; sub file, grid, tile number and interval are checked with it
   pub entry : Header → Parser Entry
   pub entryAt : Header → ℕ
-  -- where the tile starts, how it is stored, and its sub file's zoom interval
+  -- where the tile starts, how its head and its features are stored, and its sub file's zoom interval
   pub tileAt : Header → Entry → ℕ
+  pub tileHead : Header → Entry → Parser TileHead
   pub format : Header → Format
   pub low : Header → ℕ
   pub high : Header → ℕ
@@ -35,6 +37,7 @@ pub record MapLaws (C : MapLayout) : Type 0 where
   pub header : Good (C .header)
   pub signature : Good (C .signature)
   pub entry : (h : C .Header) → Good (C .entry h)
+  pub tileHead : (h : C .Header) (n : C .Entry) → Good (C .tileHead h n)
   pub format : (h : C .Header) → Laws (C .format h)
   pub view : (h : C .Header) → ViewLaws (C .view h)
 
@@ -59,14 +62,7 @@ rowsAt C h zoom = rowsUpto (C .low h) (C .high h) zoom
 -- opening the tile's stream at a zoom, and collecting the tile, in a map that was opened with header h
 abbrev pub openTile : (C : MapLayout) (h : C .Header) → (zoom : ℕ) → List ℕ → Res (State (C .format h .End))
 openTile C h zoom m =
-    andThen (C .entry h m (C .entryAt h)) (λ n _. openStream (C .format h) (rowsAt C h zoom) (C .end h n) m (C .tileAt h n))
+    andThen (C .entry h m (C .entryAt h)) (λ n _. openStream (C .tileHead h n) (rowsAt C h zoom) (C .end h n) m (C .tileAt h n))
 
 abbrev pub collectTile : (C : MapLayout) (h : C .Header) → List ℕ → Res (StoredTile (C .format h))
-collectTile C h m = andThen (C .entry h m (C .entryAt h)) (λ n _. collect (C .format h) m (C .tileAt h n))
-
--- fetching feature k: 17 follows collecting
-abbrev pub fetchTile : (C : MapLayout) (h : C .Header) → (k : ℕ) → List ℕ → Res (Feature (C .view h .collection))
-fetchTile C h k m =
-    andThen (C .entry h m (C .entryAt h)) (λ n _.
-    andThen (collect (C .format h) m (C .tileAt h n)) (λ t e.
-    fetched e (fetch (collectedTile (C .view h) t (C .end h n)) k)))
+collectTile C h m = andThen (C .entry h m (C .entryAt h)) (λ n _. collect (C .tileHead h n) (C .format h) m (C .tileAt h n))

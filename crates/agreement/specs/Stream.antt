@@ -1,12 +1,14 @@
 -- The stream of a tile: document 01, "The stream and the collected tile". Places and counts are whole numbers there; the state holds
 -- them in 64 bits, cut at 2 ^ 64 - 1, and nothing else that code could not hold.
 use mathlib.Core.List.{List, []}
-use Prim.Native.Nat.{ℕ, zero, suc, _+_, _-_, min, max}
+use Prim.Native.Nat.{ℕ, zero, suc, _+_}
 use Rattle.parsing.specs.Parse.{Res, ok, no, Parser, _>>=_, return, here}
 use Rattle.arithmetic.specs.Cut.{cut}
-use Rattle.format.specs.Lent.{LentLists}
-use Rattle.agreement.specs.Calls.{Call, next, accept, decline, Answer, gotPoint, gotHead, declined, ended, refused, Step, plain, lending, accepted}
-use Rattle.agreement.specs.Format.{Format, dataEnd, pointsUpTo, waysUpTo}
+use Rattle.format.specs.Lent.{LentLists, deliver}
+use Rattle.format.specs.Tile.{TileHead}
+use Rattle.agreement.specs.Calls.{Call, next, accept, decline, Answer, gotPoint, gotHead, gotBody, declined, ended, refused, Step, plain, lending}
+use Rattle.agreement.specs.Format.{Format, dataEnd}
+use Rattle.agreement.specs.Heads.{pointsUpTo, waysUpTo}
 
 -- what a stream answers: features as stored (View.antt has what is shown of them)
 abbrev pub StreamAnswer : Format → Type 0
@@ -29,30 +31,41 @@ abbrev pub onHead : (F : Format) → (ways at way : ℕ) → F .End → Res (F .
 onHead F w i v z (ok h b) = plain (gotHead h) (waits w (cut (dataEnd F h)) b z)
 onHead F w i v z (no r x) = plain (refused r x) (idle 0 (suc w) i v z)
 
--- the body of the waiting way, decoded whole; a refused accept leaves the way waiting
-abbrev pub onBody : (F : Format) → (ways past body : ℕ) → F .End → LentLists → Res (F .Body) → Step (StreamAnswer F) (State (F .End))
-onBody F w x b z l (ok d e) = accepted d (F .lists d) l (waits w x b z) (idle 0 w e e z)
-onBody F w x b z l (no r y) = lending (refused r y) l (waits w x b z)
+-- next: a point; after the last point a way head; at last the end, repeated on further calls; 16 while a way waits
+abbrev pub onNext : (F : Format) → List ℕ → State (F .End) → Step (StreamAnswer F) (State (F .End))
+onNext F m (idle (suc n) w i v z) = onPoint F n w i v z (F .point m i)
+onNext F m (idle zero (suc w) i v z) = onHead F w i v z (F .head m v)
+onNext F m (idle zero zero i v z) = plain (ended z) (idle 0 0 i v z)
+onNext F m (waits w x b z) = plain (refused 16 []) (waits w x b z)
 
--- one call of a stream over the map m. Next: a point; after the last point a way head; at last the end, repeated on further calls.
--- Next is 16 while a way waits, accept and decline are 16 while none does.
+-- the body of the waiting way, as it was delivered, and the lists after it; a refused accept leaves the way waiting
+abbrev pub onBody : {P H B E : Type 0} → (ways past body : ℕ) → E → (left : LentLists) → Res B → Step (Answer P H B E) (State E)
+onBody w x b z l (ok d e) = lending (gotBody d) l (idle 0 w e e z)
+onBody w x b z l (no n v) = lending (refused n v) l (waits w x b z)
+
+-- accept: the body is decoded whole, then its lists are written, or 15; 16 while no way waits. It reads nothing but a body.
+abbrev pub onAccept : {P H B E : Type 0} → Parser B → (B → LentLists) → List ℕ → State E → LentLists → Step (Answer P H B E) (State E)
+onAccept body lists m (idle n w i v z) l = lending (refused 16 []) l (idle n w i v z)
+onAccept body lists m (waits w x b z) l =
+    onBody w x b z (deliver (λ d. d) lists (body m b) l .lists) (deliver (λ d. d) lists (body m b) l .answer)
+
+-- decline: 16 while no way waits. It reads nothing.
+abbrev pub onDecline : {P H B E : Type 0} → State E → Step (Answer P H B E) (State E)
+onDecline (idle n w i v z) = plain (refused 16 []) (idle n w i v z)
+onDecline (waits w x b z) = plain declined (idle 0 w x x z)
+
+-- one call of a stream over the map m
 abbrev pub stream : (F : Format) → List ℕ → State (F .End) → Call → Step (StreamAnswer F) (State (F .End))
-stream F m (idle (suc n) w i v z) next = onPoint F n w i v z (F .point m i)
-stream F m (idle zero (suc w) i v z) next = onHead F w i v z (F .head m v)
-stream F m (idle zero zero i v z) next = plain (ended z) (idle 0 0 i v z)
-stream F m (idle n w i v z) (accept l) = lending (refused 16 []) l (idle n w i v z)
-stream F m (idle n w i v z) decline = plain (refused 16 []) (idle n w i v z)
-stream F m (waits w x b z) next = plain (refused 16 []) (waits w x b z)
-stream F m (waits w x b z) (accept l) = onBody F w x b z l (F .body m b)
-stream F m (waits w x b z) decline = plain declined (idle 0 w x x z)
+stream F m s next = onNext F m s
+stream F m s (accept l) = onAccept (F .body) (F .lists) m s l
+stream F m s decline = onDecline s
 
 -- a freshly opened stream of the first rows of a tile's zoom table; h is the tile's head, e the place behind it, z the end's answer
-abbrev pub freshStream : (F : Format) → (rows : ℕ) → F .End → F .TileHead → ℕ → State (F .End)
-freshStream F rows z h e =
-    idle (cut (pointsUpTo (F .table h) rows)) (cut (waysUpTo (F .table h) rows)) e (cut (e + F .offset h)) z
+abbrev pub freshStream : {E : Type 0} → (rows : ℕ) → E → TileHead → ℕ → State E
+freshStream rows z h e = idle (cut (pointsUpTo (h .table) rows)) (cut (waysUpTo (h .table) rows)) e (cut (e + h .offset)) z
 
-abbrev pub openStream : (F : Format) → (rows : ℕ) → F .End → Parser (State (F .End))
-openStream F rows z = do
-  h ← F .tileHead
+abbrev pub openStream : {E : Type 0} → Parser TileHead → (rows : ℕ) → E → Parser (State E)
+openStream tileHead rows z = do
+  h ← tileHead
   e ← here
-  return (freshStream F rows z h e)
+  return (freshStream rows z h e)

@@ -1,4 +1,4 @@
--- The Mapsforge tile as a format: the definitions of crate format, which the functions' contracts cite, put together for the machines.
+-- The features of a Mapsforge tile as a format: the definitions of crate format, which the functions' contracts cite, put together for the machines.
 use Prim.Native.Nat.{ℕ}
 use mathlib.Core.Bool.{Bool}
 use mathlib.Core.List.{List}
@@ -12,17 +12,13 @@ pub record TileEnd : Type 0 where
   pub subFile : ℕ
   pub water : Bool
 
--- of a sub file with so many rows in its zoom tables, by the debug flag and the kinds of the point and way tags' inline values
-abbrev pub tileFormat : Bool → ℕ → List Kind → List Kind → Format
-tileFormat debug rows poiKinds wayKinds = record {
-  TileHead = tile.TileHead;
+-- by the debug flag and the kinds of the point and way tags' inline values
+abbrev pub tileFormat : Bool → List Kind → List Kind → Format
+tileFormat debug poiKinds wayKinds = record {
   Point = tile.Point;
   Head = tile.Head;
   Body = tile.Body;
   End = TileEnd;
-  tileHead = tile.tileHead debug rows;
-  table = λ h. h .table;
-  offset = λ h. h .offset;
   point = tile.point debug poiKinds;
   head = tile.head debug wayKinds;
   start = λ h. h .start;

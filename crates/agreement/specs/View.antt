@@ -32,7 +32,7 @@ module _ {F : Format} (S : View F) where
   -- a collected tile, as collecting and fetches show it; z is the answer of its stream's end
   abbrev pub collectedTile : StoredTile F → F .End → CollectedTile (S .collection)
   collectedTile t z = record {
-    table = F .table (t .head);
+    table = t .head .table;
     points = map (S .collectedPoint) (t .points);
     ways = map (S .collectedWay) (t .ways);
     end = S .streamedEnd z;

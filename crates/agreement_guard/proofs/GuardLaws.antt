@@ -12,7 +12,9 @@ use Rattle.error.specs.Refusals as error
 use Rattle.error.specs.declared.Refusal.{Refusal}
 use Rattle.format.specs.Header.{Interval, opened}
 use Rattle.format.specs.Index.{answer, Grid}
+use Rattle.format.specs.BodyLists.{bodyLists}
 use Rattle.format.specs.Lent.{LentLists}
+use Rattle.format.specs.Tile.{body}
 use Rattle.types.specs.Types.{endRefusal, intervalsOf}
 use Rattle.types.specs.declared.End.the-variants as end
 use Rattle.types.proofs.BesideLaws.{beside-ok, beside-stop}
@@ -21,8 +23,7 @@ use Rattle.index.specs.Answers.{intervalFound}
 use Rattle.way_data.specs.Reply.{lent}
 use Rattle.tile_layout.specs.TileLayout.{layoutOf, formatOf}
 use Rattle.tile_layout.specs.declared.TileLayout.{TileLayout}
-use Rattle.agreement.specs.Calls.{next, accept, decline}
-use Rattle.agreement.specs.Stream.{stream}
+use Rattle.agreement.specs.Stream.{onNext, onAccept, onDecline}
 use Rattle.visit.specs.Visit.{stateOf, openTile, openRes, shownStep, NextIs, acceptStep, declineStep}
 use Rattle.visit.specs.declared.Stream.{Stream}
 use Rattle.visit.specs.declared.OpenRead.{OpenRead}
@@ -46,9 +47,9 @@ use Rattle.agreement_guard.specs.declared.Outcome.the-variants as outcom
 
 -- three contracts, one after the other
 pub called-three : (m : List ℕ) (l : TileLayout) (s : Stream) (a : NextStep) (b : Accepted) (d : Declined) (c₀ c : List ℕ) (la₀ lo₀ la lo : List Float)
-    → ((rows : ℕ) → NextIs (shownStep (stream (formatOf l rows m) m (stateOf s) next)) a)
-    → ((k : TileLayout) (rows : ℕ) → acceptStep b c la lo ≡ shownStep (stream (formatOf k rows m) m (stateOf (a .stream)) (accept (lent c₀ la₀ lo₀))))
-    → ((k : TileLayout) (rows : ℕ) (x : List ℕ) → declineStep d ≡ shownStep (stream (formatOf k rows x) x (stateOf (b .stream)) decline))
+    → NextIs (shownStep (onNext (formatOf l m) m (stateOf s))) a
+    → acceptStep b c la lo ≡ shownStep (onAccept body bodyLists m (stateOf (a .stream)) (lent c₀ la₀ lo₀))
+    → declineStep d ≡ shownStep (onDecline (stateOf (b .stream)))
     → Called3 m l s (lent c₀ la₀ lo₀) (lent c la lo) (record { next = a .answer; accepted = b .answer; declined = d .answer })
 called-three m l s a b d c₀ c la₀ lo₀ la lo p q r = record {
   poi = a .poi;

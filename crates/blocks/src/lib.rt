@@ -36,7 +36,7 @@ pub enum SumsRead {
     Refused(Refusal),
 }
 
-enum RowRead {
+pub enum RowRead {
     Value(ZoomRow, usize),
     Refused(Refusal),
 }
@@ -59,7 +59,7 @@ fn row_refusal(got: RowRead) -> Refusal
     }
 }
 
-fn read_row(map: &[u8], at: usize) -> RowRead
+pub fn read_row(map: &[u8], at: usize) -> RowRead
     ensures { λ r. ⌜ rowRes r ≡ mapRes zoomRow (row (now (map .entry)) at) ⌝ }
 {
     let got = utils::read_vbe_u_int(map, at);

@@ -1,8 +1,8 @@
 -- Laws of big-endian numbers and of parts of the map, by the tests that the code makes.
-use Prim.Native.Nat.{ℕ, zero, suc, _+_, _*_, _-_, _^_, _<_, _≤_}
+use Prim.Native.Nat.{ℕ, zero, suc, _+_, _*_, _-_, _/_, _%_, _^_, _<_, _≤_}
 use native.Mathlib.Nat.{add-assoc, add-zero, mul-one, pow-zero, pow-suc, mul-assoc, mul-comm, add-mul, mul-le-mul-right}
 use native.Mathlib.Omega.{arith}
-use mathlib.Core.Path.{_≡_, refl, sym, ap, _∙_}
+use mathlib.Core.Path.{_≡_, refl, sym, ap, _∙_, subst}
 use mathlib.Core.Bool.{Bool, true, false, cond}
 use mathlib.Core.List.{List, [], _∷_, _++_}
 use lib.Dec.{ltb}
@@ -17,6 +17,7 @@ use mir.Facts.{toZ-pos, toZ-ofZ}
 use Rattle.parsing.specs.Parse.{Res, ok, no, Part, part, chunk}
 use Rattle.parsing.proofs.Steps.{chunk-none, chunk-here, chunk-behind, chunk-past}
 use Rattle.parsing.proofs.Ends.{PastEnd, bind-end, chunk-end}
+use Rattle.parsing.proofs.Sized.{Sized, chunk-sized, return-sized, bind-sized}
 use Rattle.byte_source.specs.BigEndian.{valueOf, bigEndian, twosComplement, Holds}
 use Rattle.byte_source.specs.declared.Span.{Span}
 use Rattle.byte_source.specs.Answers.{spanBytes, partIn}
@@ -54,8 +55,10 @@ pub single : (s : List ℕ) (at x : ℕ) → at < length s → x ≡ getD s at 0
 unfolding valueOf
 single s at x h e b = record { value = rw (drop-cons s at 0 h) (omega arith); small = b }
 
-pub pair16 : (s : List ℕ) (at x y : ℕ) → at + 2 ≤ length s → x ≡ getD s at 0 → x < 256 → y ≡ getD s (at + 1) 0 → y < 256 → Holds 2 s at (x * 256 + y)
-pair16 s at x y f e b d a = joined 1 1 s at x y f (single s at x (omega arith) e b) (single s (at + 1) y (omega arith) d a)
+pub pair16 : (s : List ℕ) (at x y : ℕ) → at + 2 ≤ length s → x ≡ getD s at 0 → x < 256 → y ≡ getD s (at + 1) 0 → y < 256 → Holds 2 s at ((x + y * 256) % 256 * 256 + (x + y * 256) / 256)
+pair16 s at x y f e b d a =
+    let t : (x + y * 256) % 256 * 256 + (x + y * 256) / 256 ≡ x * 256 + y = omega arith in
+    rw t (joined 1 1 s at x y f (single s at x (omega arith) e b) (single s (at + 1) y (omega arith) d a))
 
 pub pair32 : (s : List ℕ) (at x y : ℕ) → at + 4 ≤ length s → Holds 2 s at x → Holds 2 s (at + 2) y → Holds 4 s at (x * 65536 + y)
 pair32 s at x y f h g = joined 2 2 s at x y f h g
@@ -79,6 +82,10 @@ module _ (k : ℕ) (s : List ℕ) (at : ℕ) where
   pub number-past : 1 ≤ k → at ≤ length s → length s - at < k → no 1 [] ≡ bigEndian k s at
   unfolding bigEndian
   number-past b h l = rw (← chunk-past s at k b h l)
+
+pub bigEndian-sized : (k : ℕ) → Sized (bigEndian k) k
+unfolding bigEndian
+bigEndian-sized k = subst (λ n. Sized (bigEndian k) n) (add-zero k) (bind-sized (chunk-sized k) (λ b. return-sized _))
 
 pub bigEndian-end : (k : ℕ) → 1 ≤ k → PastEnd (bigEndian k)
 unfolding bigEndian

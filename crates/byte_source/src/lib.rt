@@ -2,7 +2,7 @@
 // refusal 1.
 use error::Refusal;
 ghost use mathlib.Core.Path.{_≡_};
-ghost use Prim.Native.Nat.{_+_, _≤_, _<_, _^_};
+ghost use Prim.Native.Nat.{_+_, _*_, _/_, _%_, _≤_, _<_, _^_};
 ghost use lib.ListN.{length, take, drop};
 ghost use Rattle.parsing.specs.Parse.{byte, part};
 ghost use Rattle.byte_source.specs.BigEndian.{Holds, bigEndian, twosComplement, int32};
@@ -115,11 +115,20 @@ fn wide(x: u8) -> u64
     x as u64
 }
 
+// The other way round, as the processor loads them: the compiler makes one load of it.
+fn le16(map: &[u8], at: usize) -> u64
+    requires { ⌜ at + 2 ≤ length (now map) ⌝ }
+    ensures { λ r. ⌜ Holds 2 (now (map .entry)) at (r % 256 * 256 + r / 256) ⌝ }
+{
+    wide(map[at]) + wide(map[at + 1]) * 256
+}
+
 fn be16(map: &[u8], at: usize) -> u64
     requires { ⌜ at + 2 ≤ length (now map) ⌝ }
     ensures { λ r. ⌜ Holds 2 (now (map .entry)) at r ⌝ }
 {
-    wide(map[at]) * 256 + wide(map[at + 1])
+    let n = le16(map, at);
+    n % 256 * 256 + n / 256
 }
 
 fn be32(map: &[u8], at: usize) -> u64

@@ -17,7 +17,7 @@ abbrev pub skipOf : {A : Type 0} → Res A → Skip
 skipOf (ok a e) = At e
 skipOf (no n v) = Unknown
 
--- of private functions: 1 at a number's last byte
+-- Of private functions, which need not be believed: 1 at a number's last byte
 abbrev pub endsAt : ℕ → ℕ
 endsAt b = cond (ltb b 128) 1 0
 

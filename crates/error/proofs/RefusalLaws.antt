@@ -7,11 +7,16 @@ use borrow.Author.Tests.{eq-eqb, ne-eqb}
 use lib.Dec.{eqb}
 use Rattle.parsing.specs.Parse.{renumbered}
 use Rattle.error.specs.declared.Refusal.{Refusal}
-use Rattle.error.specs.Refusals.{numberOf, refused, inIndex, inTileHead}
+use Rattle.error.specs.declared.LentRefusal.{LentRefusal}
+use Rattle.error.specs.declared.LentRefusal.the-variants.{Refused}
+use Rattle.error.specs.Refusals.{numberOf, refused, lentNumber, inIndex, inTileHead}
 use Rattle.error.specs.declared.Refusal.the-variants.{IndexCutOff, TileHeadCutOff}
 
 pub number-at : (r r′ : Refusal) (k : ℕ) → r ≡ r′ → k ≡ numberOf r′ → k ≡ numberOf r
 number-at r r′ k e h = h ∙ ap numberOf (sym e)
+
+pub lent-number-at : (l : LentRefusal) (r : Refusal) (k : ℕ) → l ≡ Refused r → k ≡ numberOf r → k ≡ lentNumber l
+lent-number-at l r k e h = h ∙ ap lentNumber (sym e)
 
 pub ruleset refusals = (needs, number-at)
 

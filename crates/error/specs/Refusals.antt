@@ -6,7 +6,9 @@ use lib.Dec.{eqb}
 use Rattle.parsing.specs.Parse.{Res, ok, no}
 use Rattle.error.specs.declared.Lengths.{Lengths}
 use Rattle.error.specs.declared.Refusal.{Refusal}
-use Rattle.error.specs.declared.Refusal.the-variants.{Source, InvalidMagic, UnsupportedVersion, InvalidBoundingBox, InvalidHeaderSize, InvalidIndexSignature, InvalidTagId, InvalidTileIndex, TextTooLong, TooManyNodes, NumberTooLong, CoordinateTooLarge, ReversedInterval, InvalidGrid, TooShort, OutOfTurn, InvalidFeature, ZoomTooLarge, IndexCutOff, TileHeadCutOff}
+use Rattle.error.specs.declared.LentRefusal.{LentRefusal}
+use Rattle.error.specs.declared.LentRefusal.the-variants.{Refused, Short}
+use Rattle.error.specs.declared.Refusal.the-variants.{Source, InvalidMagic, UnsupportedVersion, InvalidBoundingBox, InvalidHeaderSize, InvalidIndexSignature, InvalidTagId, InvalidTileIndex, TextTooLong, TooManyNodes, NumberTooLong, CoordinateTooLarge, ReversedInterval, InvalidGrid, OutOfTurn, InvalidFeature, ZoomTooLarge, IndexCutOff, TileHeadCutOff}
 
 abbrev pub numberOf : Refusal → ℕ
 numberOf Source = 1
@@ -23,16 +25,11 @@ numberOf NumberTooLong = 11
 numberOf CoordinateTooLarge = 12
 numberOf ReversedInterval = 13
 numberOf InvalidGrid = 14
-numberOf (TooShort l) = 15
 numberOf OutOfTurn = 16
 numberOf InvalidFeature = 17
 numberOf ZoomTooLarge = 18
 numberOf (IndexCutOff i) = 19
 numberOf (TileHeadCutOff i) = 20
-
--- the lengths needed, of five lists and a buffer; 0 where a call lends none
-abbrev pub lengths : ℕ → ℕ → ℕ → ℕ → ℕ → ℕ → List ℕ
-lengths a b c d e buffer = a ∷ b ∷ c ∷ d ∷ e ∷ buffer ∷ []
 
 abbrev pub valuesOf : Refusal → List ℕ
 valuesOf Source = []
@@ -49,7 +46,6 @@ valuesOf NumberTooLong = []
 valuesOf CoordinateTooLarge = []
 valuesOf ReversedInterval = []
 valuesOf InvalidGrid = []
-valuesOf (TooShort l) = lengths (l .list1) (l .list2) (l .list3) (l .list4) (l .list5) (l .buffer)
 valuesOf OutOfTurn = []
 valuesOf InvalidFeature = []
 valuesOf ZoomTooLarge = []
@@ -60,9 +56,24 @@ valuesOf (TileHeadCutOff i) = i ∷ []
 abbrev pub refused : {A : Type 0} → Refusal → Res A
 refused r = no (numberOf r) (valuesOf r)
 
+-- 15 comes from a call that is lent lists or a buffer: the lengths needed, of five lists and a buffer; 0 where a call lends none
+abbrev pub lengths : ℕ → ℕ → ℕ → ℕ → ℕ → ℕ → List ℕ
+lengths a b c d e buffer = a ∷ b ∷ c ∷ d ∷ e ∷ buffer ∷ []
+
+abbrev pub lentNumber : LentRefusal → ℕ
+lentNumber (Refused r) = numberOf r
+lentNumber (Short l) = 15
+
+abbrev pub lentValues : LentRefusal → List ℕ
+lentValues (Refused r) = valuesOf r
+lentValues (Short l) = lengths (l .list1) (l .list2) (l .list3) (l .list4) (l .list5) (l .buffer)
+
+abbrev pub lentRefused : {A : Type 0} → LentRefusal → Res A
+lentRefused r = no (lentNumber r) (lentValues r)
+
 -- only the buffer is too short
-abbrev pub shortBuffer : ℕ → Refusal
-shortBuffer n = TooShort (record { list1 = 0; list2 = 0; list3 = 0; list4 = 0; list5 = 0; buffer = n })
+abbrev pub shortBuffer : ℕ → LentRefusal
+shortBuffer n = Short (record { list1 = 0; list2 = 0; list3 = 0; list4 = 0; list5 = 0; buffer = n })
 
 -- what stands for refusal 1 in an index entry that is read at a place, and in a tile's head
 abbrev pub inIndex : ℕ → Refusal → Refusal

@@ -1,6 +1,6 @@
 // error.rs: why a call has no result.
 ghost use mathlib.Core.Path.{_≡_};
-ghost use Rattle.error.specs.Refusals.{numberOf, shortBuffer, inIndex, inTileHead};
+ghost use Rattle.error.specs.Refusals.{numberOf, lentNumber, shortBuffer, inIndex, inTileHead};
 
 // The lengths that a call needs: of the lists in the order in which it takes them, and of the buffer. 0 where it takes none.
 pub struct Lengths {
@@ -12,7 +12,8 @@ pub struct Lengths {
     pub buffer: u64,
 }
 
-// The table "Answers other than a result" of document 01, in its order. The first ten are the Rust's `MapforgeError`.
+// The table "Answers other than a result" of document 01, in its order, but for 15. The first ten are the Rust's `MapforgeError`. No value is
+// wider than a word: every answer of a read holds one.
 pub enum Refusal {
     // 1: the map ends too early
     Source,
@@ -42,8 +43,6 @@ pub enum Refusal {
     ReversedInterval,
     // 14: a reversed grid, or one of over 2^32 - 1 tiles
     InvalidGrid,
-    // 15: a lent list or buffer is shorter than the result, with the lengths needed
-    TooShort(Lengths),
     // 16: a call out of turn
     OutOfTurn,
     // 17: a feature number at or above the count
@@ -54,6 +53,13 @@ pub enum Refusal {
     IndexCutOff(u64),
     // 20: the map ends in a tile's head, with the place where the missing read began
     TileHeadCutOff(u64),
+}
+
+// Why a call that is lent lists or a buffer has no result.
+pub enum LentRefusal {
+    Refused(Refusal),
+    // 15: a lent list or buffer is shorter than the result, with the lengths needed
+    Short(Lengths),
 }
 
 // Document 01's number of a refusal.
@@ -75,7 +81,6 @@ pub fn number_of(refusal: Refusal) -> u8
         Refusal::CoordinateTooLarge => 12,
         Refusal::ReversedInterval => 13,
         Refusal::InvalidGrid => 14,
-        Refusal::TooShort(_) => 15,
         Refusal::OutOfTurn => 16,
         Refusal::InvalidFeature => 17,
         Refusal::ZoomTooLarge => 18,
@@ -84,11 +89,21 @@ pub fn number_of(refusal: Refusal) -> u8
     }
 }
 
+// The same of a call that is lent lists or a buffer.
+pub fn lent_number_of(refusal: LentRefusal) -> u8
+    ensures { λ r. ⌜ r ≡ lentNumber refusal ⌝ }
+{
+    match refusal {
+        LentRefusal::Refused(r) => number_of(r),
+        LentRefusal::Short(_) => 15,
+    }
+}
+
 // The refusal that only the buffer is too short.
-pub fn short_buffer(needed: u64) -> Refusal
+pub fn short_buffer(needed: u64) -> LentRefusal
     ensures { λ r. ⌜ r ≡ shortBuffer needed ⌝ }
 {
-    Refusal::TooShort(Lengths {
+    LentRefusal::Short(Lengths {
         list1: 0,
         list2: 0,
         list3: 0,

@@ -11,8 +11,9 @@ use Rattle.format.specs.TagTable.{tagText}
 use Rattle.types.specs.declared.Grid.{Grid}
 use Rattle.types.specs.declared.TagTable.{TagTable}
 use Rattle.tag_table.specs.Tables.{tableIn}
-use Rattle.agreement.specs.Calls.{next, accept, decline}
-use Rattle.agreement.specs.Stream.{stream}
+use Rattle.format.specs.BodyLists.{bodyLists}
+use Rattle.format.specs.Tile.{body}
+use Rattle.agreement.specs.Stream.{onNext, onAccept, onDecline}
 use Rattle.tile_layout.specs.TileLayout.{formatOf}
 use Rattle.tile_layout.specs.declared.TileLayout.{TileLayout}
 use Rattle.visit.specs.Visit.{stateOf, openTile, openRes, shownStep, NextIs, acceptStep, declineStep}
@@ -27,11 +28,16 @@ use Rattle.index.specs.declared.IntervalRead.{IntervalRead}
 use Rattle.index.specs.declared.CountRead.{CountRead}
 use Rattle.index.specs.declared.IndexRead.{IndexRead}
 use Rattle.index.specs.declared.EntryRead.{EntryRead}
-use Rattle.tile.specs.Tile.{collectTile, TileIs}
-use Rattle.tile.specs.declared.TileRead.{TileRead}
+use Rattle.tile.specs.Tile.{collectTile, CollectIs}
+use Rattle.tile.specs.declared.SummaryRead.{SummaryRead}
 use Rattle.fetched.specs.Fetched.{FetchLists}
 use Rattle.fetch.specs.Fetch.{fetchTile, FeatureIs}
 use Rattle.fetched.specs.declared.Fetch.{Fetch}
+use Rattle.format.specs.IntervalTable.{rowAt, rowHolding}
+use Rattle.types.specs.declared.IntervalTable.{IntervalTable}
+use Rattle.zoom_intervals.specs.Rows.{rowRes, subFileRes}
+use Rattle.zoom_intervals.specs.declared.IntervalAnswer.{IntervalAnswer}
+use Rattle.zoom_intervals.specs.declared.SubFileAnswer.{SubFileAnswer}
 use Rattle.index_wire.specs.Index.{Named}
 
 abbrev pub gridIn : (xMin yMin xMax yMax : ℤ) → Grid
@@ -45,15 +51,22 @@ pub record TagIs (t : TagTable) (k : ℕ) (m : List ℕ) (a : Named) : Type 0 wh
   pub text : spanRes m (a .text) ≡ tagText (tableIn t) k m
   pub kind : a .kind ≡ tagKind (tableIn t) k m
 
--- a stream's calls: the machine of crate agreement, in a tile with any number of rows
-pub record NextOf (m : List ℕ) (l : TileLayout) (s : Stream) (a : NextStep) : Type 0 where
-  pub each : (rows : ℕ) → NextIs (shownStep (stream (formatOf l rows m) m (stateOf s) next)) a
+-- a stream's calls: the machine of crate agreement
+abbrev pub NextOf : (m : List ℕ) → TileLayout → Stream → NextStep → Type 0
+NextOf m l s a = NextIs (shownStep (onNext (formatOf l m) m (stateOf s))) a
 
-pub record AcceptOf (m : List ℕ) (s : Stream) (lent left : LentLists) (a : Accepted) : Type 0 where
-  pub each : (l : TileLayout) (rows : ℕ) → acceptStep a (left .counts) (left .latitudes) (left .longitudes) ≡ shownStep (stream (formatOf l rows m) m (stateOf s) (accept lent))
+abbrev pub AcceptOf : (m : List ℕ) → Stream → (lent left : LentLists) → Accepted → Type 0
+AcceptOf m s lent left a = acceptStep a (left .counts) (left .latitudes) (left .longitudes) ≡ shownStep (onAccept body bodyLists m (stateOf s) lent)
 
-pub record DeclineOf (s : Stream) (a : Declined) : Type 0 where
-  pub each : (l : TileLayout) (rows : ℕ) (m : List ℕ) → declineStep a ≡ shownStep (stream (formatOf l rows m) m (stateOf s) decline)
+abbrev pub DeclineOf : Stream → Declined → Type 0
+DeclineOf s a = declineStep a ≡ shownStep (onDecline (stateOf s))
+
+-- what the header says of sub files, by where its intervals stand
+abbrev pub RowOf : (m : List ℕ) → (subFile : ℕ) → IntervalTable → IntervalAnswer → Type 0
+RowOf m s t a = rowRes a ≡ rowAt (t .start) (t .count) s m
+
+abbrev pub SubFileOf : (m : List ℕ) → (zoom : ℕ) → IntervalTable → SubFileAnswer → Type 0
+SubFileOf m zoom t a = subFileRes a ≡ rowHolding zoom 0 (t .count) m (t .start)
 
 -- what is asked of a sub file, by its interval and a grid: its tiles, a tile's number, a tile's entry
 abbrev pub CountOf : IntervalRead → Grid → CountRead → Type 0
@@ -69,8 +82,16 @@ EntryOf m t l i g a = entryRes a ≡ heldRes (tileIndexEntry (l .debug) (interva
 abbrev pub StreamOf : (m : List ℕ) → (subFile number zoom : ℕ) → TileLayout → IntervalRead → Grid → OpenRead → Type 0
 StreamOf m s t zoom l i g a = openRes a ≡ openTile l (intervalFound i) s (gridOf g) t zoom m
 
-abbrev pub TileOf : (m : List ℕ) → (number : ℕ) → TileLayout → IntervalRead → Grid → TileRead → Type 0
-TileOf m t l i g a = TileIs (collectTile l (intervalFound i) (gridOf g) t m) a
+-- (the rows' points and ways, in two lists)
+pub record LentRows : Type 0 where
+  pub points : List ℕ
+  pub ways : List ℕ
+
+abbrev pub lentRows : (points ways : List ℕ) → LentRows
+lentRows p w = record { points = p; ways = w }
+
+abbrev pub TileOf : (m : List ℕ) → (number : ℕ) → (lent left : LentRows) → TileLayout → IntervalRead → Grid → SummaryRead → Type 0
+TileOf m t lent left l i g a = CollectIs (collectTile l (intervalFound i) (gridOf g) t m) (lent .points) (lent .ways) a (left .points) (left .ways)
 
 abbrev pub FeatureOf : (m : List ℕ) → (number k : ℕ) → (lent left : FetchLists) → TileLayout → IntervalRead → Grid → Fetch → Type 0
 FeatureOf m t k lent left l i g a = FeatureIs (fetchTile l (intervalFound i) (gridOf g) t k m) lent a left

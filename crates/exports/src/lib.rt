@@ -1,79 +1,71 @@
 // The reader for programs in other languages; include/mapsforge.h declares these functions and says what each word is. A slice goes by its
-// address and its length, an array by its address alone. Each call answers 0, or the number of a refusal, whose values
-// are its first six words. What a call needs of the header is handed in: the layout that opening gave, and its sub file's interval.
+// address and its length, an array by its address alone. Each call answers 0, or the number of a refusal, whose values go to the first
+// words. An answer writes its own words, and the others keep their values. What a call needs of the header is handed in: the layout that
+// opening gave, and its sub file's interval.
 use types::Grid;
 use types::TagTable;
 use utils::Degrees;
 ghost use mathlib.Core.Path.{_≡_};
 ghost use mathlib.Core.List.{[], _∷_};
-ghost use Rattle.parsing.specs.Parse.{nth, mapRes};
+ghost use Rattle.parsing.specs.Parse.{mapRes};
 ghost use Rattle.format.specs.WayData.{wayData};
 ghost use Rattle.way_measure.specs.Answers.{waySizes, wayDataRes};
 ghost use Rattle.format.specs.Header.{opened};
-ghost use Rattle.format.specs.Index.{subFileForZoom};
-ghost use Rattle.types.specs.Types.{intervalsOf};
 ghost use Rattle.text.specs.Writing.{outcome, writing};
 ghost use Rattle.column.specs.Column.{columnRes, longitudeRes, column as columnOf, longitude as longitudeOf};
-ghost use Rattle.header.specs.HeaderView.{HeaderIs};
+ghost use Rattle.header.specs.HeaderView.{FieldsAre};
 ghost use Rattle.way_data.specs.Reply.{lent, reply, readWayData};
 ghost use Rattle.fetch_way.specs.FetchWay.{lent as lentAll};
-ghost use Rattle.on_map.specs.OnMap.{asked, intervalRes, subFileRes};
-ghost use Rattle.wire.specs.Wire.{wire, Crosses};
-ghost use Rattle.index_wire.specs.Index.{countWire, indexWire, subFileWire, intervalWire, intervalIn, entryWire, tagWire, textWire, columnWire, longitudeWire, wayDataWire};
-ghost use Rattle.header_wire.specs.Header.{headerWire, layoutIn};
+ghost use Rattle.wire.specs.Wire.{wire, lending, Crosses};
+ghost use Rattle.index_wire.specs.Index.{countWire, indexWire, subFileWire, intervalWire, intervalIn, entryWire, tagWire, textWire, columnWire, longitudeWire, wayDataWire, dataWrittenWire};
+ghost use Rattle.header_wire.specs.Header.{headerWire, layoutIn, intervalsIn};
 ghost use Rattle.stream_wire.specs.Streams.{streamIn, openedWire, nextWire, acceptWire, declineWire};
 ghost use Rattle.feature_wire.specs.Features.{tileWire, fetchWire};
-ghost use Rattle.exports.specs.Calls.{gridIn, tableOf, TagIs, CountOf, IndexOf, EntryOf, StreamOf, NextOf, AcceptOf, DeclineOf, TileOf, FeatureOf};
+ghost use Rattle.exports.specs.Calls.{gridIn, tableOf, lentRows, TagIs, RowOf, SubFileOf, CountOf, IndexOf, EntryOf, StreamOf, NextOf, AcceptOf, DeclineOf, TileOf, FeatureOf};
 
-// The header but for its intervals, in 34 words and six degrees, and what tiles need of it, in five words.
+// The header but for its intervals, in 34 words and six degrees, and what tiles and sub files need of it, in seven words.
 #[no_mangle]
 pub extern "C" fn mapsforge_open(
     map: &[u8],
     words: &mut [u64; 34],
     degrees: &mut [f64; 6],
-    layout: &mut [u64; 5],
+    layout: &mut [u64; 7],
 ) -> u64
-    ensures { λ r. ⌜ Crosses headerWire (HeaderIs (opened (now (map .entry)))) (wire r (now (words .exit) ∷ now (layout .exit) ∷ []) [] (now (degrees .exit))) ⌝ }
+    ensures { λ r. ⌜ Crosses (headerWire (lending (now (words .entry) ∷ now (layout .entry) ∷ []) [] (now (degrees .entry)))) (FieldsAre (opened (now (map .entry)))) (wire r (now (words .exit) ∷ now (layout .exit) ∷ []) [] (now (degrees .exit))) ⌝ }
 {
-    let read = opening::from_source(map);
-    let end = read.end;
-    let header = read.header;
-    let row = header_wire::header_words(header, end);
-    *words = row;
-    let row = header_wire::header_degrees(header);
-    *degrees = row;
-    let row = header_wire::layout_words(tile_layout::layout_of(header));
-    *layout = row;
-    header_wire::end_number(end)
+    let got = opening::open_fields(map);
+    header_wire::put_header(got, words, degrees, layout)
 }
 
-// The zoom interval of a sub file, in the six words that other calls take.
+// The zoom interval of a sub file, in the six words that other calls take, read where the layout says that the intervals stand.
 #[no_mangle]
 pub extern "C" fn mapsforge_interval(
     map: &[u8],
+    layout: &[u64; 7],
     sub_file: usize,
     words: &mut [u64; 6],
     interval: &mut [u64; 6],
 ) -> u64
-    ensures { λ r. ⌜ Crosses intervalWire (λ a. intervalRes a ≡ asked (now (map .entry)) (λ h. nth (intervalsOf h) «sub_file»)) (wire r (now (words .exit) ∷ now (interval .exit) ∷ []) [] []) ⌝ }
+    ensures { λ r. ⌜ Crosses (intervalWire (lending (now (words .entry) ∷ now (interval .entry) ∷ []) [] [])) (RowOf (now (map .entry)) «sub_file» (intervalsIn (now (layout .entry)))) (wire r (now (words .exit) ∷ now (interval .exit) ∷ []) [] []) ⌝ }
 {
-    let got = on_map::interval(map, sub_file);
-    let row = index_wire::interval_words(got);
-    *words = row;
-    let row = index_wire::interval_row(got);
-    *interval = row;
-    index_wire::interval_number(got)
+    let table = header_wire::intervals_in(*layout);
+    let got = zoom_intervals::interval_at(map, table, sub_file);
+    index_wire::put_interval(got, words, interval)
 }
 
 // The first sub file whose interval has the zoom.
 #[no_mangle]
-pub extern "C" fn mapsforge_sub_file(map: &[u8], zoom: u8, words: &mut [u64; 8]) -> u64
-    ensures { λ r. ⌜ Crosses subFileWire (λ a. subFileRes a ≡ asked (now (map .entry)) (λ h. subFileForZoom (intervalsOf h) zoom)) (wire r (now (words .exit) ∷ []) [] []) ⌝ }
+pub extern "C" fn mapsforge_sub_file(
+    map: &[u8],
+    layout: &[u64; 7],
+    zoom: u8,
+    words: &mut [u64; 8],
+) -> u64
+    ensures { λ r. ⌜ Crosses (subFileWire (lending (now (words .entry) ∷ []) [] [])) (SubFileOf (now (map .entry)) zoom (intervalsIn (now (layout .entry)))) (wire r (now (words .exit) ∷ []) [] []) ⌝ }
 {
-    let got = on_map::sub_file_for_zoom(map, zoom);
-    let row = index_wire::sub_file_words(got);
-    *words = row;
-    index_wire::sub_file_number(got)
+    let table = header_wire::intervals_in(*layout);
+    let got = zoom_intervals::sub_file_for_zoom(map, table, zoom);
+    index_wire::put_sub_file(got, words)
 }
 
 // Where the text of tag k of a table stands, and the kind of its inline value.
@@ -85,25 +77,21 @@ pub extern "C" fn mapsforge_tag(
     k: usize,
     words: &mut [u64; 10],
 ) -> u64
-    ensures { λ r. ⌜ Crosses tagWire (TagIs (tableOf start count) k (now (map .entry))) (wire r (now (words .exit) ∷ []) [] []) ⌝ }
+    ensures { λ r. ⌜ Crosses (tagWire (lending (now (words .entry) ∷ []) [] [])) (TagIs (tableOf start count) k (now (map .entry))) (wire r (now (words .exit) ∷ []) [] []) ⌝ }
 {
     let table = TagTable { start, count };
     let kind = tag_kinds::tag_kind(map, table, k);
     let got = tag_table::tag_text(map, table, k);
-    let row = index_wire::tag_words(got, kind);
-    *words = row;
-    index_wire::tag_number(got)
+    index_wire::put_tag(got, kind, words)
 }
 
 // A text with each ill-formed part replaced by U+FFFD, to the front of the buffer.
 #[no_mangle]
 pub extern "C" fn mapsforge_text(text: &[u8], buffer: &mut [u8], words: &mut [u64; 7]) -> u64
-    ensures { λ r. ⌜ Crosses textWire (λ a. outcome a (now (buffer .exit)) ≡ writing (now (text .entry)) (now (buffer .entry)) 0) (wire r (now (words .exit) ∷ []) [] []) ⌝ }
+    ensures { λ r. ⌜ Crosses (textWire (lending (now (words .entry) ∷ []) [] [])) (λ a. outcome a (now (buffer .exit)) ≡ writing (now (text .entry)) (now (buffer .entry)) 0) (wire r (now (words .exit) ∷ []) [] []) ⌝ }
 {
     let got = text::write_replaced(text, buffer, 0);
-    let row = index_wire::text_words(got);
-    *words = row;
-    index_wire::text_number(got)
+    index_wire::put_text(got, words)
 }
 
 // How many tiles a sub file has.
@@ -116,7 +104,7 @@ pub extern "C" fn mapsforge_tile_count(
     y_max: i32,
     words: &mut [u64; 8],
 ) -> u64
-    ensures { λ r. ⌜ Crosses countWire (CountOf (intervalIn (now (interval .entry))) (gridIn «x_min» «y_min» «x_max» «y_max»)) (wire r (now (words .exit) ∷ []) [] []) ⌝ }
+    ensures { λ r. ⌜ Crosses (countWire (lending (now (words .entry) ∷ []) [] [])) (CountOf (intervalIn (now (interval .entry))) (gridIn «x_min» «y_min» «x_max» «y_max»)) (wire r (now (words .exit) ∷ []) [] []) ⌝ }
 {
     let grid = Grid {
         x_min,
@@ -125,9 +113,7 @@ pub extern "C" fn mapsforge_tile_count(
         y_max,
     };
     let got = index::tile_count(index_wire::interval_in(*interval), grid);
-    let row = index_wire::count_words(got);
-    *words = row;
-    index_wire::count_number(got)
+    index_wire::put_count(got, words)
 }
 
 // The number of the tile x, y.
@@ -142,7 +128,7 @@ pub extern "C" fn mapsforge_tile_index(
     y: i32,
     words: &mut [u64; 8],
 ) -> u64
-    ensures { λ r. ⌜ Crosses indexWire (IndexOf x y (intervalIn (now (interval .entry))) (gridIn «x_min» «y_min» «x_max» «y_max»)) (wire r (now (words .exit) ∷ []) [] []) ⌝ }
+    ensures { λ r. ⌜ Crosses (indexWire (lending (now (words .entry) ∷ []) [] [])) (IndexOf x y (intervalIn (now (interval .entry))) (gridIn «x_min» «y_min» «x_max» «y_max»)) (wire r (now (words .exit) ∷ []) [] []) ⌝ }
 {
     let grid = Grid {
         x_min,
@@ -151,16 +137,14 @@ pub extern "C" fn mapsforge_tile_index(
         y_max,
     };
     let got = index::tile_index_of(index_wire::interval_in(*interval), grid, x, y);
-    let row = index_wire::index_words(got);
-    *words = row;
-    index_wire::index_number(got)
+    index_wire::put_index(got, words)
 }
 
 // A tile's entry in the index.
 #[no_mangle]
 pub extern "C" fn mapsforge_index_entry(
     map: &[u8],
-    layout: &[u64; 5],
+    layout: &[u64; 7],
     interval: &[u64; 6],
     x_min: i32,
     y_min: i32,
@@ -169,7 +153,7 @@ pub extern "C" fn mapsforge_index_entry(
     tile: usize,
     words: &mut [u64; 9],
 ) -> u64
-    ensures { λ r. ⌜ Crosses entryWire (EntryOf (now (map .entry)) tile (layoutIn (now (layout .entry))) (intervalIn (now (interval .entry))) (gridIn «x_min» «y_min» «x_max» «y_max»)) (wire r (now (words .exit) ∷ []) [] []) ⌝ }
+    ensures { λ r. ⌜ Crosses (entryWire (lending (now (words .entry) ∷ []) [] [])) (EntryOf (now (map .entry)) tile (layoutIn (now (layout .entry))) (intervalIn (now (interval .entry))) (gridIn «x_min» «y_min» «x_max» «y_max»)) (wire r (now (words .exit) ∷ []) [] []) ⌝ }
 {
     let grid = Grid {
         x_min,
@@ -180,9 +164,7 @@ pub extern "C" fn mapsforge_index_entry(
     let tiles = header_wire::layout_in(*layout);
     let found = index_wire::interval_in(*interval);
     let got = index::tile_index_entry(map, tiles.debug, found, grid, tile);
-    let row = index_wire::entry_words(got);
-    *words = row;
-    index_wire::entry_number(got)
+    index_wire::put_entry(got, words)
 }
 
 // The column that a longitude lies in.
@@ -193,14 +175,10 @@ pub extern "C" fn mapsforge_column(
     words: &mut [u64; 6],
     column: &mut [i64; 1],
 ) -> u64
-    ensures { λ r. ⌜ Crosses columnWire (λ a. columnRes a ≡ columnOf longitude zoom) (wire r (now (words .exit) ∷ []) (now (column .exit)) []) ⌝ }
+    ensures { λ r. ⌜ Crosses (columnWire (lending (now (words .entry) ∷ []) (now (column .entry)) [])) (λ a. columnRes a ≡ columnOf longitude zoom) (wire r (now (words .exit) ∷ []) (now (column .exit)) []) ⌝ }
 {
     let got = column::tile_column(Degrees(longitude), zoom);
-    let row = index_wire::column_words(got);
-    *words = row;
-    let row = index_wire::column_signed(got);
-    *column = row;
-    index_wire::column_number(got)
+    index_wire::put_column(got, words, column)
 }
 
 // The longitude at which a column starts.
@@ -211,21 +189,17 @@ pub extern "C" fn mapsforge_longitude(
     words: &mut [u64; 6],
     longitude: &mut [f64; 1],
 ) -> u64
-    ensures { λ r. ⌜ Crosses longitudeWire (λ a. longitudeRes a ≡ longitudeOf column zoom) (wire r (now (words .exit) ∷ []) [] (now (longitude .exit))) ⌝ }
+    ensures { λ r. ⌜ Crosses (longitudeWire (lending (now (words .entry) ∷ []) [] (now (longitude .entry)))) (λ a. longitudeRes a ≡ longitudeOf column zoom) (wire r (now (words .exit) ∷ []) [] (now (longitude .exit))) ⌝ }
 {
     let got = column::tilex2long(column, zoom);
-    let row = index_wire::longitude_words(got);
-    *words = row;
-    let row = index_wire::longitude_degrees(got);
-    *longitude = row;
-    index_wire::longitude_number(got)
+    index_wire::put_longitude(got, words, longitude)
 }
 
 // A stream of a tile: its state, in seven words.
 #[no_mangle]
 pub extern "C" fn mapsforge_stream_open(
     map: &[u8],
-    layout: &[u64; 5],
+    layout: &[u64; 7],
     interval: &[u64; 6],
     sub_file: usize,
     x_min: i32,
@@ -237,7 +211,7 @@ pub extern "C" fn mapsforge_stream_open(
     state: &mut [u64; 7],
     words: &mut [u64; 6],
 ) -> u64
-    ensures { λ r. ⌜ Crosses (openedWire (now (state .entry))) (StreamOf (now (map .entry)) «sub_file» tile zoom (layoutIn (now (layout .entry))) (intervalIn (now (interval .entry))) (gridIn «x_min» «y_min» «x_max» «y_max»)) (wire r (now (words .exit) ∷ now (state .exit) ∷ []) [] []) ⌝ }
+    ensures { λ r. ⌜ Crosses (openedWire (lending (now (words .entry) ∷ now (state .entry) ∷ []) [] [])) (StreamOf (now (map .entry)) «sub_file» tile zoom (layoutIn (now (layout .entry))) (intervalIn (now (interval .entry))) (gridIn «x_min» «y_min» «x_max» «y_max»)) (wire r (now (words .exit) ∷ now (state .exit) ∷ []) [] []) ⌝ }
 {
     let grid = Grid {
         x_min,
@@ -248,47 +222,26 @@ pub extern "C" fn mapsforge_stream_open(
     let tiles = header_wire::layout_in(*layout);
     let found = index_wire::interval_in(*interval);
     let got = visit::open(map, tiles, found, sub_file, grid, tile, zoom);
-    let row = stream_wire::opened_state(got, *state);
-    *state = row;
-    let row = stream_wire::opened_words(got);
-    *words = row;
-    stream_wire::opened_number(got)
+    stream_wire::put_opened(got, words, state)
 }
 
 // The next point, the next way's head, or the end.
 #[no_mangle]
 pub extern "C" fn mapsforge_stream_next(
     map: &[u8],
-    layout: &[u64; 5],
+    layout: &[u64; 7],
     state: &mut [u64; 7],
     words: &mut [u64; 21],
     signed_words: &mut [i64; 2],
     degrees: &mut [f64; 2],
     ids: &mut [u64; 15],
 ) -> u64
-    ensures { λ r. ⌜ Crosses (nextWire (now (state .entry))) (NextOf (now (map .entry)) (layoutIn (now (layout .entry))) (streamIn (now (state .entry)))) (wire r (now (words .exit) ∷ now (ids .exit) ∷ now (state .exit) ∷ []) (now («signed_words» .exit)) (now (degrees .exit))) ⌝ }
+    ensures { λ r. ⌜ Crosses (nextWire (lending (now (words .entry) ∷ now (ids .entry) ∷ now (state .entry) ∷ []) (now («signed_words» .entry)) (now (degrees .entry)))) (NextOf (now (map .entry)) (layoutIn (now (layout .entry))) (streamIn (now (state .entry)))) (wire r (now (words .exit) ∷ now (ids .exit) ∷ now (state .exit) ∷ []) (now («signed_words» .exit)) (now (degrees .exit))) ⌝ }
 {
-    let step = visit::next(
-        map,
-        header_wire::layout_in(*layout),
-        stream_wire::stream_in(*state),
-    );
-    let answer = step.answer;
-    let poi = step.poi;
-    let head = step.head;
-    let stream = step.stream;
-    let number = stream_wire::next_number(answer);
-    let row = stream_wire::state_after(number, stream, *state);
-    *state = row;
-    let row = stream_wire::next_words(answer, poi, head);
-    *words = row;
-    let row = stream_wire::next_signed(answer, poi, head);
-    *signed_words = row;
-    let row = stream_wire::next_degrees(answer, poi);
-    *degrees = row;
-    let row = stream_wire::next_ids(answer, poi, head);
-    *ids = row;
-    number
+    let tiles = header_wire::layout_in(*layout);
+    let stream = stream_wire::stream_in(*state);
+    let step = visit::next(map, tiles, stream);
+    stream_wire::put_next(step, state, words, signed_words, degrees, ids)
 }
 
 // The waiting way's body; its node counts, latitudes and longitudes go to the fronts of the lists.
@@ -302,43 +255,27 @@ pub extern "C" fn mapsforge_stream_accept(
     words: &mut [u64; 18],
     degrees: &mut [f64; 2],
 ) -> u64
-    ensures { λ r. ⌜ Crosses (acceptWire (now (state .entry))) (AcceptOf (now (map .entry)) (streamIn (now (state .entry))) (lent (now («node_counts» .entry)) (now (latitudes .entry)) (now (longitudes .entry))) (lent (now («node_counts» .exit)) (now (latitudes .exit)) (now (longitudes .exit)))) (wire r (now (words .exit) ∷ now (state .exit) ∷ []) [] (now (degrees .exit))) ⌝ }
+    ensures { λ r. ⌜ Crosses (acceptWire (lending (now (words .entry) ∷ now (state .entry) ∷ []) [] (now (degrees .entry)))) (AcceptOf (now (map .entry)) (streamIn (now (state .entry))) (lent (now («node_counts» .entry)) (now (latitudes .entry)) (now (longitudes .entry))) (lent (now («node_counts» .exit)) (now (latitudes .exit)) (now (longitudes .exit)))) (wire r (now (words .exit) ∷ now (state .exit) ∷ []) [] (now (degrees .exit))) ⌝ }
 {
     let stream = stream_wire::stream_in(*state);
     let step = visit::accept(map, stream, node_counts, latitudes, longitudes);
-    let answer = step.answer;
-    let left = step.stream;
-    let number = stream_wire::accept_number(answer);
-    let row = stream_wire::state_after(number, left, *state);
-    *state = row;
-    let row = stream_wire::accept_words(answer);
-    *words = row;
-    let row = stream_wire::accept_degrees(answer);
-    *degrees = row;
-    number
+    stream_wire::put_accepted(step, state, words, degrees)
 }
 
 // Past the waiting way, by its stored size.
 #[no_mangle]
 pub extern "C" fn mapsforge_stream_decline(state: &mut [u64; 7], words: &mut [u64; 6]) -> u64
-    ensures { λ r. ⌜ Crosses (declineWire (now (state .entry))) (DeclineOf (streamIn (now (state .entry)))) (wire r (now (words .exit) ∷ now (state .exit) ∷ []) [] []) ⌝ }
+    ensures { λ r. ⌜ Crosses (declineWire (lending (now (words .entry) ∷ now (state .entry) ∷ []) [] [])) (DeclineOf (streamIn (now (state .entry)))) (wire r (now (words .exit) ∷ now (state .exit) ∷ []) [] []) ⌝ }
 {
     let step = visit::decline(stream_wire::stream_in(*state));
-    let answer = step.answer;
-    let stream = step.stream;
-    let number = stream_wire::decline_number(answer);
-    let row = stream_wire::state_after(number, stream, *state);
-    *state = row;
-    let row = stream_wire::decline_words(answer);
-    *words = row;
-    number
+    stream_wire::put_declined(step, state, words)
 }
 
-// A collected tile, and its zoom table in two lists.
+// A collected tile; its zoom table's rows go to the fronts of two lists.
 #[no_mangle]
 pub extern "C" fn mapsforge_collect(
     map: &[u8],
-    layout: &[u64; 5],
+    layout: &[u64; 7],
     interval: &[u64; 6],
     x_min: i32,
     y_min: i32,
@@ -349,7 +286,7 @@ pub extern "C" fn mapsforge_collect(
     points: &mut [u64; 256],
     ways: &mut [u64; 256],
 ) -> u64
-    ensures { λ r. ⌜ Crosses tileWire (TileOf (now (map .entry)) tile (layoutIn (now (layout .entry))) (intervalIn (now (interval .entry))) (gridIn «x_min» «y_min» «x_max» «y_max»)) (wire r (now (words .exit) ∷ now (points .exit) ∷ now (ways .exit) ∷ []) [] []) ⌝ }
+    ensures { λ r. ⌜ Crosses (tileWire (lending (now (words .entry) ∷ []) [] [])) (TileOf (now (map .entry)) tile (lentRows (now (points .entry)) (now (ways .entry))) (lentRows (now (points .exit)) (now (ways .exit))) (layoutIn (now (layout .entry))) (intervalIn (now (interval .entry))) (gridIn «x_min» «y_min» «x_max» «y_max»)) (wire r (now (words .exit) ∷ []) [] []) ⌝ }
 {
     let grid = Grid {
         x_min,
@@ -359,24 +296,15 @@ pub extern "C" fn mapsforge_collect(
     };
     let tiles = header_wire::layout_in(*layout);
     let found = index_wire::interval_in(*interval);
-    let read = tile::read_tile(map, tiles, found, grid, tile);
-    let answer = read.answer;
-    let whole = read.tile;
-    let row = feature_wire::tile_words(answer, whole);
-    *words = row;
-    let table = whole.zoom_table;
-    let row = feature_wire::row_points(table);
-    *points = row;
-    let row = feature_wire::row_ways(table);
-    *ways = row;
-    feature_wire::tile_number(answer)
+    let got = tile::collect(map, tiles, found, grid, tile, points, ways);
+    feature_wire::put_tile(got, words)
 }
 
 // Feature k of a collected tile: points from 0, ways behind them.
 #[no_mangle]
 pub extern "C" fn mapsforge_fetch(
     map: &[u8],
-    layout: &[u64; 5],
+    layout: &[u64; 7],
     interval: &[u64; 6],
     x_min: i32,
     y_min: i32,
@@ -396,7 +324,7 @@ pub extern "C" fn mapsforge_fetch(
     ids: &mut [u64; 15],
     tags: &mut [u64; 75],
 ) -> u64
-    ensures { λ r. ⌜ Crosses fetchWire (FeatureOf (now (map .entry)) tile feature (lentAll (now («node_counts» .entry)) (now (latitudes .entry)) (now (longitudes .entry)) (now («initial_latitudes» .entry)) (now («initial_longitudes» .entry)) (now (buffer .entry))) (lentAll (now («node_counts» .exit)) (now (latitudes .exit)) (now (longitudes .exit)) (now («initial_latitudes» .exit)) (now («initial_longitudes» .exit)) (now (buffer .exit))) (layoutIn (now (layout .entry))) (intervalIn (now (interval .entry))) (gridIn «x_min» «y_min» «x_max» «y_max»)) (wire r (now (words .exit) ∷ now (ids .exit) ∷ now (tags .exit) ∷ []) (now («signed_words» .exit)) (now (degrees .exit))) ⌝ }
+    ensures { λ r. ⌜ Crosses (fetchWire (lending (now (words .entry) ∷ now (ids .entry) ∷ now (tags .entry) ∷ []) (now («signed_words» .entry)) (now (degrees .entry)))) (FeatureOf (now (map .entry)) tile feature (lentAll (now («node_counts» .entry)) (now (latitudes .entry)) (now (longitudes .entry)) (now («initial_latitudes» .entry)) (now («initial_longitudes» .entry)) (now (buffer .entry))) (lentAll (now («node_counts» .exit)) (now (latitudes .exit)) (now (longitudes .exit)) (now («initial_latitudes» .exit)) (now («initial_longitudes» .exit)) (now (buffer .exit))) (layoutIn (now (layout .entry))) (intervalIn (now (interval .entry))) (gridIn «x_min» «y_min» «x_max» «y_max»)) (wire r (now (words .exit) ∷ now (ids .exit) ∷ now (tags .exit) ∷ []) (now («signed_words» .exit)) (now (degrees .exit))) ⌝ }
 {
     let grid = Grid {
         x_min,
@@ -420,20 +348,7 @@ pub extern "C" fn mapsforge_fetch(
         initial_longitudes,
         buffer,
     );
-    let answer = fetch.answer;
-    let poi = fetch.poi;
-    let way = fetch.way;
-    let row = feature_wire::fetch_words(answer, poi, way);
-    *words = row;
-    let row = feature_wire::fetch_signed(answer, poi, way);
-    *signed_words = row;
-    let row = feature_wire::fetch_degrees(answer, poi, way);
-    *degrees = row;
-    let row = feature_wire::fetch_ids(answer, poi, way);
-    *ids = row;
-    let row = feature_wire::fetch_tags(answer, poi, way);
-    *tags = row;
-    feature_wire::fetch_number(answer)
+    feature_wire::put_fetch(fetch, words, signed_words, degrees, ids, tags)
 }
 
 // A way's data from a place on: the numbers of blocks and nodes, and the place behind them.
@@ -444,12 +359,10 @@ pub extern "C" fn mapsforge_measure_way_data(
     data_blocks: u64,
     words: &mut [u64; 9],
 ) -> u64
-    ensures { λ r. ⌜ Crosses wayDataWire (λ a. wayDataRes a ≡ mapRes waySizes (wayData «data_blocks» (now (map .entry)) at)) (wire r (now (words .exit) ∷ []) [] []) ⌝ }
+    ensures { λ r. ⌜ Crosses (wayDataWire (lending (now (words .entry) ∷ []) [] [])) (λ a. wayDataRes a ≡ mapRes waySizes (wayData «data_blocks» (now (map .entry)) at)) (wire r (now (words .exit) ∷ []) [] []) ⌝ }
 {
     let got = way_measure::measure_way_data(map, at, data_blocks);
-    let row = index_wire::way_data_words(got);
-    *words = row;
-    index_wire::way_data_number(got)
+    index_wire::put_way_data(got, words)
 }
 
 // The same, and the nodes to the fronts of three lists.
@@ -464,7 +377,7 @@ pub extern "C" fn mapsforge_read_way_data(
     longitudes: &mut [f64],
     words: &mut [u64; 9],
 ) -> u64
-    ensures { λ r. ⌜ Crosses wayDataWire (λ a. reply a (now («node_counts» .exit)) (now (latitudes .exit)) (now (longitudes .exit)) ≡ readWayData «double_delta» (wayData «data_blocks» (now (map .entry)) at) (now («node_counts» .entry)) (now (latitudes .entry)) (now (longitudes .entry))) (wire r (now (words .exit) ∷ []) [] []) ⌝ }
+    ensures { λ r. ⌜ Crosses (dataWrittenWire (lending (now (words .entry) ∷ []) [] [])) (λ a. reply a (now («node_counts» .exit)) (now (latitudes .exit)) (now (longitudes .exit)) ≡ readWayData «double_delta» (wayData «data_blocks» (now (map .entry)) at) (now («node_counts» .entry)) (now (latitudes .entry)) (now (longitudes .entry))) (wire r (now (words .exit) ∷ []) [] []) ⌝ }
 {
     let got = way_data::read_way_data(
         map,
@@ -475,7 +388,5 @@ pub extern "C" fn mapsforge_read_way_data(
         latitudes,
         longitudes,
     );
-    let row = index_wire::way_data_words(got);
-    *words = row;
-    index_wire::way_data_number(got)
+    index_wire::put_data_written(got, words)
 }

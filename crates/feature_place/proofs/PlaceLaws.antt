@@ -8,7 +8,7 @@ use lib.Dec.{ltb}
 use lib.ListN.{length}
 use borrow.Author.Needs.{needs}
 use borrow.Author.Tests.{ltb-true, lt-ltb, le-ltb, le-leb}
-use Rattle.parsing.specs.Parse.{Res, ok, no, andThen, mapRes, many, Maybe}
+use Rattle.parsing.specs.Parse.{Res, ok, no, Parser, andThen, mapRes, many, Maybe, passed}
 use Rattle.parsing.specs.Good.{ok-val, ok-at, no-ok}
 use Rattle.error.specs.Refusals.{refused}
 use Rattle.error.specs.declared.Refusal.{Refusal}
@@ -17,15 +17,15 @@ use Rattle.arithmetic.specs.Cut.{cut}
 use Rattle.arithmetic.proofs.CutLaws.{cut-fits}
 use Rattle.byte_source.proofs.ReadLaws.{Taken, taken}
 use Rattle.format.specs.Header.{Interval}
-use Rattle.format.specs.Index.{answer, answered, Grid, Located, locate}
+use Rattle.format.specs.Index.{answer, answered, Grid, Located, locate, tileAt}
 use Rattle.format.specs.Kinds.{tagKinds}
-use Rattle.format.specs.Rows.{rowsOfInterval, intervalHead}
+use Rattle.format.specs.Rows.{rowsOfInterval, locatedHead, intervalHead}
 use Rattle.format.specs.Tile as format
-use Rattle.format.specs.Tile.{tileHead, Point, point}
+use Rattle.format.specs.Tile.{Point, point}
 use Rattle.types.specs.Types.{endRes, endRefusal}
 use Rattle.types.specs.declared.End.{End}
 use Rattle.types.specs.declared.End.the-variants as end
-use Rattle.tag_table.specs.Tables.{tableIn, passed}
+use Rattle.tag_table.specs.Tables.{tableIn}
 use Rattle.tile_head.specs.TileHead.{headAt, headRes, headRefusal}
 use Rattle.tile_head.specs.declared.TileHead.{TileHead}
 use Rattle.tile_head.specs.declared.TileHeadRead.{TileHeadRead}
@@ -40,17 +40,17 @@ use Rattle.agreement.specs.Format.{Format, Laws}
 use Rattle.agreement.specs.Collected.{Way, way, allExact, StoredTile, collect}
 use Rattle.agreement.proofs.Chain.{Chain, stop, link}
 use Rattle.agreement.proofs.TileAgrees.{way-good, way-strict, collected}
-use Rattle.agreement.proofs.TileFormatLaws.{tile-laws, tileHead-cuts}
+use Rattle.agreement.proofs.TileFormatLaws.{tile-laws, head-cut}
 use Rattle.tile_layout.specs.TileLayout.{formatOf}
 use Rattle.tile_layout.specs.declared.TileLayout.{TileLayout}
-use Rattle.tile_walk.specs.TileWalk.{waysRes, waysRefusal, exactWays, ForAllRows}
+use Rattle.tile_walk.specs.TileWalk.{waysRes, waysRefusal, exactWays}
 use Rattle.tile_walk.specs.declared.WaysRead.{WaysRead}
 use Rattle.tile_walk.specs.declared.WaysRead.the-variants as ways-read
-use Rattle.tile.specs.Tile.{tileOf, tileRes, collectAt, collectTile, TileIs}
+use Rattle.tile.specs.Tile.{shownTile, tileRes, collectTile, TileIs}
 use Rattle.tile.specs.declared.Tile.{Tile}
 use Rattle.tile.specs.declared.TileAnswer.the-variants as tile-answer
 use Rattle.tile.specs.declared.TileRead.{TileRead}
-use Rattle.feature_place.specs.FeaturePlace.{Place, pointAt, wayAt, placeRes, placeRefusal, placeIn, featurePlace, pointPlace, wayPlace, WayPlace, behind, Behind, tileRefusal, tileStart}
+use Rattle.feature_place.specs.FeaturePlace.{Place, pointAt, wayAt, placeRes, placeRefusal, placeIn, featurePlace, pointPlace, wayPlace, behind, tileRefusal, tileStart}
 use Rattle.feature_place.specs.declared.FeaturePlace.the-variants as place
 
 pub feature-refused : Taken placeRefusal place.Refused
@@ -81,31 +81,34 @@ module _ (l : TileLayout) (m : List ℕ) (at n : ℕ) (g : End) (q : endRes n g 
       go (no k v) d = no-ok (sym d)
 
 -- behind n ways
-module _ (l : TileLayout) (m : List ℕ) (at n : ℕ) (g : WaysRead) (q : ForAllRows (exactWays l m n at) (waysRes g)) where
-  pub ways-stop : (x y : Refusal) → g ≡ ways-read.Refused x → y ≡ waysRefusal g → WayPlace l m at n (refused y)
-  ways-stop x y h w = record { each = λ rows. ap refused (w ∙ ap waysRefusal h) ∙ go rows (many (way (formatOf l rows m)) n m at) (ap waysRes (sym h) ∙ q .each rows) }
-    where
-      go : (rows : ℕ) (r : Res (List (Way (formatOf l rows m)))) → refused x ≡ mapRes allExact r → refused x ≡ andThen r (λ _ e. answer (wayAt e))
-      go rows (ok ps e) d = no-ok d
-      go rows (no k v) d = cc
+module _ (l : TileLayout) (m : List ℕ) (at n : ℕ) (g : WaysRead) (q : waysRes g ≡ exactWays l m n at) where
+  abbrev ways : Res (List (Way (formatOf l m)))
+  ways = many (way (formatOf l m)) n m at
 
-  pub ways-end : (b : Bool) (k : ℕ) → g ≡ ways-read.Value b k → WayPlace l m at n (answer (wayAt k))
-  ways-end b k h = record { each = λ rows. go rows (many (way (formatOf l rows m)) n m at) (ap waysRes (sym h) ∙ q .each rows) }
+  pub ways-stop : (x y : Refusal) → g ≡ ways-read.Refused x → y ≡ waysRefusal g → refused y ≡ wayPlace l m at n
+  ways-stop x y h w = ap refused (w ∙ ap waysRefusal h) ∙ go ways (ap waysRes (sym h) ∙ q)
     where
-      go : (rows : ℕ) (r : Res (List (Way (formatOf l rows m)))) → ok b k ≡ mapRes allExact r → answer (wayAt k) ≡ andThen r (λ _ e. answer (wayAt e))
-      go rows (ok ps e) d = ap (λ a. answer (wayAt a)) (ok-at d)
-      go rows (no k v) d = no-ok (sym d)
+      go : (r : Res (List (Way (formatOf l m)))) → refused x ≡ mapRes allExact r → refused x ≡ andThen r (λ _ e. answer (wayAt e))
+      go (ok ps e) d = no-ok d
+      go (no k v) d = cc
+
+  pub ways-end : (b : Bool) (k : ℕ) → g ≡ ways-read.Value b k → answer (wayAt k) ≡ wayPlace l m at n
+  ways-end b k h = go ways (ap waysRes (sym h) ∙ q)
+    where
+      go : (r : Res (List (Way (formatOf l m)))) → ok b k ≡ mapRes allExact r → answer (wayAt k) ≡ andThen r (λ _ e. answer (wayAt e))
+      go (ok ps e) d = ap (λ a. answer (wayAt a)) (ok-at d)
+      go (no k v) d = no-ok (sym d)
 
 -- points from 0, ways behind them
 module _ (l : TileLayout) (m : List ℕ) (e points ways offset k : ℕ) (r : Res Place) where
-  pub a-point : k < points → r ≡ pointPlace l m e k → Behind l m e points ways offset k r
-  a-point h q = record { each = λ rows. q ∙ rw (lt-ltb k points h) }
+  pub a-point : k < points → r ≡ pointPlace l m e k → r ≡ behind l m e points ways offset k
+  a-point h q = q ∙ rw (lt-ltb k points h)
 
-  pub a-way : (first : ℕ) → points ≤ k → k - points < ways → first ≡ cut (e + offset) → WayPlace l m first (k - points) r → Behind l m e points ways offset k r
-  a-way first h b w q = record { each = λ rows. q .each rows ∙ ap (λ a. wayPlace l m a (k - points) rows) w ∙ rw (le-ltb k points h, lt-ltb (k - points) ways b) }
+  pub a-way : (first : ℕ) → points ≤ k → k - points < ways → first ≡ cut (e + offset) → r ≡ wayPlace l m first (k - points) → r ≡ behind l m e points ways offset k
+  a-way first h b w q = q ∙ ap (λ a. wayPlace l m a (k - points)) w ∙ rw (le-ltb k points h, lt-ltb (k - points) ways b)
 
-pub no-feature : (l : TileLayout) (m : List ℕ) (e points ways offset k : ℕ) → points ≤ k → ways ≤ k - points → Behind l m e points ways offset k (refused InvalidFeature)
-no-feature l m e points ways offset k h b = record { each = λ rows. rw (le-ltb k points h, le-ltb (k - points) ways b) }
+pub no-feature : (l : TileLayout) (m : List ℕ) (e points ways offset k : ℕ) → points ≤ k → ways ≤ k - points → refused InvalidFeature ≡ behind l m e points ways offset k
+no-feature l m e points ways offset k h b = rw (le-ltb k points h, le-ltb (k - points) ways b)
 
 -- ways that are there start inside the map
 starts-inside : (F : Format) (L : Laws F) (m : List ℕ) {i e : ℕ} {ws : List (Way F)} → Chain (way F) m i ws e → 0 < length ws → i < length m
@@ -116,23 +119,23 @@ starts-inside F L m (link {i = i} {x = x} {a = w} h c) b =
     omega arith
 
 -- in a tile that collects
-module _ (l : TileLayout) (rows : ℕ) (m : List ℕ) (small : length m < 2 ^ 64) (i : ℕ) (t : StoredTile (formatOf l rows m)) (z : ℕ) (c : collect (formatOf l rows m) m i ≡ ok t z) where
+module _ (l : TileLayout) (H : Parser format.TileHead) (m : List ℕ) (small : length m < 2 ^ 64) (i : ℕ) (t : StoredTile (formatOf l m)) (z : ℕ) (c : collect H (formatOf l m) m i ≡ ok t z) where
   abbrev F : Format
-  F = formatOf l rows m
+  F = formatOf l m
 
   abbrev L : Laws F
-  L = tile-laws (l .debug) rows (tagKinds (tableIn (l .«poi_tags»)) m) (tagKinds (tableIn (l .«way_tags»)) m)
+  L = tile-laws (l .debug) (tagKinds (tableIn (l .«poi_tags»)) m) (tagKinds (tableIn (l .«way_tags»)) m)
 
   uncut : (k : ℕ) (b : Bool) → ltb (k - length (t .points)) (length (t .ways)) ≡ b
-      → cond b (wayPlace l m (cut (t .start + t .head .offset)) (k - length (t .points)) rows) (no 17 [])
-      ≡ cond b (wayPlace l m (t .start + t .head .offset) (k - length (t .points)) rows) (no 17 [])
+      → cond b (wayPlace l m (cut (t .start + t .head .offset)) (k - length (t .points))) (no 17 [])
+      ≡ cond b (wayPlace l m (t .start + t .head .offset) (k - length (t .points))) (no 17 [])
   uncut k true h =
       let b = ltb-true (k - length (t .points)) (length (t .ways)) h in
-      let u = starts-inside F L m (collected F m i t z c .ways .chain) (omega arith) in
-      ap (λ a. wayPlace l m a (k - length (t .points)) rows) (cut-fits (t .start + t .head .offset) (omega arith))
+      let u = starts-inside F L m (collected H F m i t z c .ways .chain) (omega arith) in
+      ap (λ a. wayPlace l m a (k - length (t .points))) (cut-fits (t .start + t .head .offset) (omega arith))
   uncut k false h = refl
 
-  pub behind-is : (k : ℕ) → behind l m (t .start) (length (t .points)) (length (t .ways)) (t .head .offset) k rows ≡ placeIn F t k m
+  pub behind-is : (k : ℕ) → behind l m (t .start) (length (t .points)) (length (t .ways)) (t .head .offset) k ≡ placeIn F t k m
   behind-is k =
       ap (cond (ltb k (length (t .points))) (pointPlace l m (t .start) k))
       (uncut k (ltb (k - length (t .points)) (length (t .ways))) refl)
@@ -143,7 +146,7 @@ module _ (b : Bool) (i : Maybe Interval) (grid : Grid) (number : ℕ) (m : List 
   place-found = locate b i grid number m
 
   abbrev headOf : Located → Res format.TileHead
-  headOf a = tileHead b (rowsOfInterval (a .interval .min) (a .interval .max)) m (a .entry .absolute)
+  headOf a = locatedHead b a m (tileAt a)
 
   pub start-nowhere : (x y : Refusal) → g ≡ place-read.Refused x → y ≡ places.placeRefusal g → refused y ≡ tileStart b i grid number m
   unfolding tileStart
@@ -153,15 +156,15 @@ module _ (b : Bool) (i : Maybe Interval) (grid : Grid) (number : ℕ) (m : List 
       go (ok a z) d = no-ok d
       go (no n v) d = cc
 
-  module _ (p : TilePlace) (e : g ≡ place-read.At p) (small : length m < 2 ^ 64) (hd : TileHeadRead) (qh : headRes hd ≡ mapRes (headAt (p .«min_zoom») (p .«max_zoom») (p .«max_zoom»)) (intervalHead b (p .«min_zoom») (p .«max_zoom») m (p .at))) where
+  module _ (p : TilePlace) (e : g ≡ place-read.At p) (small : length m < 2 ^ 64) (hd : TileHeadRead) (qh : headRes hd ≡ mapRes (headAt (p .«min_zoom») (p .«max_zoom») (p .«max_zoom»)) (intervalHead (p .empty) b (p .«min_zoom») (p .«max_zoom») m (p .at))) where
     -- the head is that of the tile, whose place may be cut
     seen : (a : Located) (z : ℕ) → place-found ≡ ok a z → p ≡ placeOf a → headRes hd ≡ mapRes (headAt (a .interval .min) (a .interval .max) (a .interval .max)) (headOf a)
     unfolding intervalHead
     seen a z o d =
         qh
-        ∙ ap (λ (c : TilePlace). mapRes (headAt (c .«min_zoom») (c .«max_zoom») (c .«max_zoom»)) (intervalHead b (c .«min_zoom») (c .«max_zoom») m (c .at))) d
+        ∙ ap (λ (c : TilePlace). mapRes (headAt (c .«min_zoom») (c .«max_zoom») (c .«max_zoom»)) (intervalHead (c .empty) b (c .«min_zoom») (c .«max_zoom») m (c .at))) d
         ∙ rw (le-leb (a .interval .min) (a .interval .max) (located-ordered b i grid number m a z o))
-        (ap (mapRes (headAt (a .interval .min) (a .interval .max) (a .interval .max))) (tileHead-cuts b (rowsOfInterval (a .interval .min) (a .interval .max)) .at m (a .entry .absolute) small))
+        (ap (mapRes (headAt (a .interval .min) (a .interval .max) (a .interval .max))) (head-cut (a .empty) b (rowsOfInterval (a .interval .min) (a .interval .max)) m (a .entry .absolute) small))
 
     pub start-no : (x y : Refusal) → hd ≡ head-read.Refused x → y ≡ headRefusal hd → refused y ≡ tileStart b i grid number m
     unfolding tileStart
@@ -192,56 +195,53 @@ module _ (l : TileLayout) (i : Maybe Interval) (grid : Grid) (number k : ℕ) (m
   abbrev located : Res Located
   located = locate (l .debug) i grid number m
 
-  abbrev rowsAt : Located → ℕ
-  rowsAt a = rowsOfInterval (a .interval .min) (a .interval .max)
-
-  abbrev formatAt : Located → Format
-  formatAt a = formatOf l (rowsAt a) m
+  abbrev stored : Located → Res (StoredTile (formatOf l m))
+  stored a = collect (locatedHead (l .debug) a) (formatOf l m) m (tileAt a)
 
   abbrev fromTile : Located → Res Place
-  fromTile a = andThen (collect (formatAt a) m (a .entry .absolute)) (λ t _. placeIn (formatAt a) t k m)
+  fromTile a = andThen (stored a) (λ t _. placeIn (formatOf l m) t k m)
 
   pub no-start : (g : End) (x y : Refusal) → endRes tt g ≡ tileStart (l .debug) i grid number m → g ≡ end.Refused x → y ≡ endRefusal g → refused y ≡ featurePlace l i grid number k m
   unfolding tileStart featurePlace
   no-start g x y q e w = ap refused (w ∙ ap endRefusal e) ∙ go located (ap (endRes tt) (sym e) ∙ q)
     where
-      on : (a : Located) (r : Res format.TileHead) → tileHead (l .debug) (rowsAt a) m (a .entry .absolute) ≡ r → refused {A = Unit} x ≡ passed r → refused x ≡ fromTile a
+      on : (a : Located) (r : Res format.TileHead) → locatedHead (l .debug) a m (tileAt a) ≡ r → refused {A = Unit} x ≡ passed r → refused x ≡ fromTile a
       on a (ok v n) f d = no-ok d
       on a (no n v) f d = let i : refused {A = Place} x ≡ no n v = cc in rw f i
 
-      go : (r : Res Located) → refused {A = Unit} x ≡ andThen r (λ a _. passed (tileHead (l .debug) (rowsAt a) m (a .entry .absolute))) → refused x ≡ andThen r (λ a _. fromTile a)
-      go (ok a z) d = on a (tileHead (l .debug) (rowsAt a) m (a .entry .absolute)) refl d
+      go : (r : Res Located) → refused {A = Unit} x ≡ andThen r (λ a _. passed (locatedHead (l .debug) a m (tileAt a))) → refused x ≡ andThen r (λ a _. fromTile a)
+      go (ok a z) d = on a (locatedHead (l .debug) a m (tileAt a)) refl d
       go (no n v) d = cc
 
   pub no-tile : (r : TileRead) (x y : Refusal) → TileIs (collectTile l i grid number m) r → r .answer ≡ tile-answer.Refused x → y ≡ tileRefusal (r .answer) → refused y ≡ featurePlace l i grid number k m
   unfolding collectTile featurePlace
   no-tile r x y b e w = ap refused (w ∙ ap tileRefusal e) ∙ go located (ap (λ a. tileRes a (r .tile)) (sym e) ∙ b .answer)
     where
-      on : (a : Located) (c : Res (StoredTile (formatAt a))) → refused x ≡ answered (mapRes (tileOf l (rowsAt a) m) c) → refused x ≡ andThen c (λ t _. placeIn (formatAt a) t k m)
+      on : (a : Located) (c : Res (StoredTile (formatOf l m))) → refused x ≡ answered (mapRes shownTile c) → refused x ≡ andThen c (λ t _. placeIn (formatOf l m) t k m)
       on a (ok t z) d = no-ok d
       on a (no n v) d = cc
 
-      go : (g : Res Located) → refused x ≡ andThen g (λ a _. collectAt l (a .interval .min) (a .interval .max) (a .entry .absolute) m) → refused x ≡ andThen g (λ a _. fromTile a)
-      go (ok a z) d = on a (collect (formatAt a) m (a .entry .absolute)) d
+      go : (g : Res Located) → refused x ≡ andThen g (λ a _. answered (mapRes shownTile (stored a))) → refused x ≡ andThen g (λ a _. fromTile a)
+      go (ok a z) d = on a (stored a) d
       go (no n v) d = cc
 
   pub found : (g : End) (n : ℕ) (t : TileRead) (r : Res Place) → endRes tt g ≡ tileStart (l .debug) i grid number m → g ≡ end.At n → length m < 2 ^ 64
-      → TileIs (collectTile l i grid number m) t → t .answer ≡ tile-answer.Collected → Behind l m n (t .tile .points) (t .tile .ways) (t .tile .«first_way_offset») k r → r ≡ featurePlace l i grid number k m
+      → TileIs (collectTile l i grid number m) t → t .answer ≡ tile-answer.Collected → r ≡ behind l m n (t .tile .points) (t .tile .ways) (t .tile .«first_way_offset») k → r ≡ featurePlace l i grid number k m
   unfolding collectTile featurePlace tileStart
   found g n t r q e small b c w = go located (ap (endRes tt) (sym e) ∙ q) (ap (λ a. tileRes a (t .tile)) (sym c) ∙ b .answer)
     where
-      on : (a : Located) → ok tt n ≡ passed (tileHead (l .debug) (rowsAt a) m (a .entry .absolute)) → (y : Res (StoredTile (formatAt a))) → collect (formatAt a) m (a .entry .absolute) ≡ y
-          → answer (t .tile) ≡ answered (mapRes (tileOf l (rowsAt a) m) y) → r ≡ andThen y (λ t _. placeIn (formatAt a) t k m)
+      on : (a : Located) → ok tt n ≡ passed (locatedHead (l .debug) a m (tileAt a)) → (y : Res (StoredTile (formatOf l m))) → stored a ≡ y
+          → answer (t .tile) ≡ answered (mapRes shownTile y) → r ≡ andThen y (λ t _. placeIn (formatOf l m) t k m)
       on a d (ok st u) j i =
-          let C = collected (formatAt a) m (a .entry .absolute) st u j in
+          let C = collected (locatedHead (l .debug) a) (formatOf l m) m (tileAt a) st u j in
           let start : n ≡ st .start = ok-at (d ∙ ap passed (C .head)) in
-          w .each (rowsAt a)
-          ∙ ap (λ (x : Tile). behind l m n (x .points) (x .ways) (x .«first_way_offset») k (rowsAt a)) (ok-val i)
-          ∙ ap (λ x. behind l m x (length (st .points)) (length (st .ways)) (st .head .offset) k (rowsAt a)) start
-          ∙ behind-is l (rowsAt a) m small (a .entry .absolute) st u j k
+          w
+          ∙ ap (λ (x : Tile). behind l m n (x .points) (x .ways) (x .«first_way_offset») k) (ok-val i)
+          ∙ ap (λ x. behind l m x (length (st .points)) (length (st .ways)) (st .head .offset) k) start
+          ∙ behind-is l (locatedHead (l .debug) a) m small (tileAt a) st u j k
       on a d (no x y) j i = no-ok (sym i)
 
-      go : (y : Res Located) → ok tt n ≡ andThen y (λ a _. passed (tileHead (l .debug) (rowsAt a) m (a .entry .absolute)))
-          → answer (t .tile) ≡ andThen y (λ a _. collectAt l (a .interval .min) (a .interval .max) (a .entry .absolute) m) → r ≡ andThen y (λ a _. fromTile a)
-      go (ok a z) d i = on a d (collect (formatAt a) m (a .entry .absolute)) refl i
+      go : (y : Res Located) → ok tt n ≡ andThen y (λ a _. passed (locatedHead (l .debug) a m (tileAt a)))
+          → answer (t .tile) ≡ andThen y (λ a _. answered (mapRes shownTile (stored a))) → r ≡ andThen y (λ a _. fromTile a)
+      go (ok a z) d i = on a d (stored a) refl i
       go (no x y) d i = no-ok (sym d)

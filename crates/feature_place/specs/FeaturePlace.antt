@@ -2,21 +2,20 @@
 -- before it, which start where the first-way offset leads. That a read from there gives the fetched feature is a law of crate fetch.
 use Prim.Native.Nat.{ℕ, _+_, _-_}
 use mathlib.Core.Bool.{Bool, cond}
-use mathlib.Core.Path.{_≡_}
 use mathlib.Core.List.{List, []}
 use lib.Dec.{ltb}
 use lib.ListN.{length}
-use Rattle.parsing.specs.Parse.{Res, no, andThen, many, Maybe}
+use Rattle.parsing.specs.Parse.{Res, no, andThen, passed, many, Maybe}
 use Rattle.error.specs.Refusals.{refused}
 use Rattle.error.specs.declared.Refusal.{Refusal}
 use Rattle.error.specs.declared.Refusal.the-variants.{Source}
 use Rattle.arithmetic.specs.Cut.{cut}
 use Rattle.format.specs.Header.{Interval}
-use Rattle.format.specs.Index.{answer, Grid, locate}
+use Rattle.format.specs.Index.{answer, Grid, locate, tileAt}
 use Rattle.format.specs.Kinds.{tagKinds}
-use Rattle.format.specs.Rows.{rowsOfInterval}
-use Rattle.format.specs.Tile.{tileHead, point}
-use Rattle.tag_table.specs.Tables.{tableIn, passed}
+use Rattle.format.specs.Rows.{locatedHead}
+use Rattle.format.specs.Tile.{point}
+use Rattle.tag_table.specs.Tables.{tableIn}
 use Rattle.agreement.specs.Format.{Format}
 use Rattle.agreement.specs.Collected.{way, StoredTile, collect}
 use Rattle.tile_layout.specs.TileLayout.{formatOf}
@@ -46,40 +45,33 @@ placeIn F t k m =
     cond (ltb k (length (t .points)))
     (andThen (many (F .point) k m (t .start)) (λ _ x. answer (pointAt x)))
     (cond (ltb (k - length (t .points)) (length (t .ways)))
-    (andThen (many (way F) (k - length (t .points)) m (t .start + F .offset (t .head))) (λ _ x. answer (wayAt x)))
+    (andThen (many (way F) (k - length (t .points)) m (t .start + t .head .offset)) (λ _ x. answer (wayAt x)))
     (no 17 []))
 
 -- refused as collecting is, then 17
 unfoldable pub featurePlace : TileLayout → Maybe Interval → Grid → (number k : ℕ) → List ℕ → Res Place
 featurePlace l i g n k m =
     andThen (locate (l .debug) i g n m) (λ a _.
-    andThen (collect (formatOf l (rowsOfInterval (a .interval .min) (a .interval .max)) m) m (a .entry .absolute)) (λ t _.
-    placeIn (formatOf l (rowsOfInterval (a .interval .min) (a .interval .max)) m) t k m))
+    andThen (collect (locatedHead (l .debug) a) (formatOf l m) m (tileAt a)) (λ t _.
+    placeIn (formatOf l m) t k m))
 
--- What the private functions find: the place behind the tile's head
+-- What private functions find, which need not be believed: the place behind the tile's head
 unfoldable pub tileStart : (debug : Bool) → Maybe Interval → Grid → (number : ℕ) → List ℕ → Res Unit
 tileStart d i g n m =
-    andThen (locate d i g n m) (λ a _.
-    passed (tileHead d (rowsOfInterval (a .interval .min) (a .interval .max)) m (a .entry .absolute)))
+    andThen (locate d i g n m) (λ a _. passed (locatedHead d a m (tileAt a)))
 
 -- behind n points
 abbrev pub pointPlace : TileLayout → List ℕ → (at n : ℕ) → Res Place
 pointPlace l m at n = andThen (many (point (l .debug) (tagKinds (tableIn (l .«poi_tags»)) m)) n m at) (λ _ x. answer (pointAt x))
 
--- behind n ways, in a tile with any number of rows
-abbrev pub wayPlace : TileLayout → List ℕ → (at n rows : ℕ) → Res Place
-wayPlace l m at n rows = andThen (many (way (formatOf l rows m)) n m at) (λ _ x. answer (wayAt x))
-
-pub record WayPlace (l : TileLayout) (m : List ℕ) (at n : ℕ) (r : Res Place) : Type 0 where
-  pub each : (rows : ℕ) → r ≡ wayPlace l m at n rows
+-- behind n ways
+abbrev pub wayPlace : TileLayout → List ℕ → (at n : ℕ) → Res Place
+wayPlace l m at n = andThen (many (way (formatOf l m)) n m at) (λ _ x. answer (wayAt x))
 
 -- behind a head that ends at e, in a tile with these counts and this first-way offset
-abbrev pub behind : TileLayout → List ℕ → (e points ways offset k rows : ℕ) → Res Place
-behind l m e points ways offset k rows =
-    cond (ltb k points) (pointPlace l m e k) (cond (ltb (k - points) ways) (wayPlace l m (cut (e + offset)) (k - points) rows) (no 17 []))
-
-pub record Behind (l : TileLayout) (m : List ℕ) (e points ways offset k : ℕ) (r : Res Place) : Type 0 where
-  pub each : (rows : ℕ) → r ≡ behind l m e points ways offset k rows
+abbrev pub behind : TileLayout → List ℕ → (e points ways offset k : ℕ) → Res Place
+behind l m e points ways offset k =
+    cond (ltb k points) (pointPlace l m e k) (cond (ltb (k - points) ways) (wayPlace l m (cut (e + offset)) (k - points)) (no 17 []))
 
 abbrev pub tileRefusal : TileAnswer → Refusal
 tileRefusal tile-answer.Collected = Source

@@ -11,7 +11,7 @@ use types::Grid;
 ghost use mathlib.Core.Path.{_≡_};
 ghost use Rattle.types.specs.Types.{gridOf, endRes};
 ghost use Rattle.index.specs.Answers.{intervalFound};
-ghost use Rattle.feature_place.specs.FeaturePlace.{placeRes, placeRefusal, tileRefusal, pointPlace, WayPlace, Behind, tileStart, featurePlace};
+ghost use Rattle.feature_place.specs.FeaturePlace.{placeRes, placeRefusal, tileRefusal, pointPlace, wayPlace, behind, tileStart, featurePlace};
 
 // Where a point starts, or a way; its signature's place in debug maps.
 pub enum FeaturePlace {
@@ -52,7 +52,7 @@ fn point_place(map: &[u8], at: usize, n: u64, layout: TileLayout) -> FeaturePlac
 
 // Behind n ways.
 fn way_place(map: &[u8], at: usize, n: u64, layout: TileLayout) -> FeaturePlace
-    ensures { λ r. ⌜ WayPlace layout (now (map .entry)) at n (placeRes r) ⌝ }
+    ensures { λ r. ⌜ placeRes r ≡ wayPlace layout (now (map .entry)) at n ⌝ }
 {
     let got = tile_walk::measure_ways(map, at, n, layout);
     let WaysRead::Value(_, next) = got else {
@@ -71,7 +71,7 @@ fn behind_head(
     layout: TileLayout,
     feature: u64,
 ) -> FeaturePlace
-    ensures { λ r. ⌜ Behind layout (now (map .entry)) start points ways offset feature (placeRes r) ⌝ }
+    ensures { λ r. ⌜ placeRes r ≡ behind layout (now (map .entry)) start points ways offset feature ⌝ }
 {
     if feature < points {
         return point_place(map, start, feature, layout);
@@ -84,7 +84,7 @@ fn behind_head(
     way_place(map, first, way, layout)
 }
 
-// The place behind a tile's head.
+// The place behind a tile's head; 0 for a tile that its index marks empty.
 fn tile_start(map: &[u8], debug: bool, found: IntervalRead, grid: Grid, tile: usize) -> End
     ensures { λ r. ⌜ endRes tt r ≡ tileStart debug (intervalFound found) (gridOf grid) tile (now (map .entry)) ⌝ }
 {
@@ -95,6 +95,7 @@ fn tile_start(map: &[u8], debug: bool, found: IntervalRead, grid: Grid, tile: us
     let got = tile_head::read_tile_head(
         map,
         place.at as usize,
+        place.empty,
         debug,
         place.min_zoom,
         place.max_zoom,

@@ -11,7 +11,7 @@ use lib.ListN.{length, getD, drop, length-append, drop-of-length-le}
 use lib.Seq.{sets, length-sets, drop-cons}
 use borrow.Author.Tests.{ltb-true, ltb-false, lt-ltb, le-leb, lt-leb}
 use Rattle.parsing.proofs.Loops.{sets-append}
-use Rattle.error.specs.declared.Refusal.{Refusal}
+use Rattle.error.specs.declared.LentRefusal.{LentRefusal}
 use Rattle.arithmetic.specs.Cut.{cut}
 use Rattle.arithmetic.proofs.CutLaws.{cut-fits, cut-over}
 use Rattle.text.specs.Utf8.{replaced}
@@ -39,10 +39,10 @@ module _ (s b b′ : List ℕ) (at : ℕ) (g : Written) (e : outcome g b′ ≡ 
   pub put-bytes : (n : ℕ) → g ≡ Upto n → b′ ≡ sets b at (replaced s)
   put-bytes n h = written-fits s b b′ at g e n h .bytes
 
-  pub put-never : (r : Refusal) → g ≡ Refused r → at + length (replaced s) ≤ length b → at ≡ at + length (replaced s)
+  pub put-never : (r : LentRefusal) → g ≡ Refused r → at + length (replaced s) ≤ length b → at ≡ at + length (replaced s)
   put-never r h f = let x = written-short s b b′ at g e r h .room in absurd (omega arith)
 
-  pub put-never-bytes : (r : Refusal) → g ≡ Refused r → at + length (replaced s) ≤ length b → b′ ≡ sets b at (replaced s)
+  pub put-never-bytes : (r : LentRefusal) → g ≡ Refused r → at + length (replaced s) ≤ length b → b′ ≡ sets b at (replaced s)
   put-never-bytes r h f = let x = written-short s b b′ at g e r h .room in absurd (omega arith)
 
 -- the tags' strings: what is left, written behind the last one, gives what is to be written

@@ -8,7 +8,7 @@ use lib.Dec.{leb, ltb}
 use lib.ListN.{length, take, drop, replicate, length-append, length-take}
 use lib.Seq.{take-append-seam, length-take-le}
 use borrow.Author.Tests.{leb-true}
-use Rattle.parsing.specs.Parse.{Res, ok, no, andThen, mapRes, Parser, many, chunk, Part, part, pick, fail, byte, optional, Maybe, none, some}
+use Rattle.parsing.specs.Parse.{Res, ok, no, andThen, mapRes, many, chunk, Part, part, pick, fail, byte, optional, Maybe, none, some}
 use Rattle.parsing.specs.Good.{split, ok-val, ok-at, no-ok}
 use Rattle.parsing.proofs.Loops.{many-count}
 use Rattle.text.specs.Utf8.{replaced}
@@ -18,13 +18,13 @@ use Rattle.tag.specs.declared.Kind.{Kind}
 use Rattle.format.specs.Header.{bit}
 use Rattle.format.specs.TagTable.{Table, tagText}
 use Rattle.format.specs.WayData.{node, wayData}
-use Rattle.format.specs.Tile.{debugSignature, tagId, values, tagged, pointFields, Point, point, headRest, Head, head, WayFields, wayFields, dataBlockCount, Body, body}
+use Rattle.format.specs.Tile.{debugSignature, tagId, values, tagged, pointFields, point, headRest, Head, head, WayFields, wayFields, dataBlockCount, body}
 use Rattle.byte_source.specs.BigEndian.{bigEndian}
-use Rattle.types.specs.Types.{optionalSpan, maybePart}
 use Rattle.tagged.specs.TagIds.{filledIds, tagIds}
 use Rattle.tagged.specs.declared.TagIds.{TagIds}
-use Rattle.fields.proofs.StreamLaws.{Gives, any, gives-bind, gives-return, PartOf, text-within}
+use Rattle.fields.proofs.StreamLaws.{Gives, any, gives-bind, gives-return, text-within}
 use Rattle.fetched.specs.Fetched.{bytesOf, foundBytes, walkedName, idTexts, present, buffered}
+use Rattle.feature_texts.specs.Known.{Stored, PointTexts}
 use Rattle.feature_texts.proofs.TextLaws.{present-bytes}
 
 -- a text that was read
@@ -50,11 +50,6 @@ text-short m i p e h =
     let n = ap length b ∙ length-take (p .size) (drop (p .start) m) in
     let z = text-sized m i p e h in
     omega arith
-
--- a text as the code holds it is the stored one
-pub record Stored (m : List ℕ) (o : Maybe Part) : Type 0 where
-  pub same : maybePart m (optionalSpan o) ≡ o
-  pub short : length (bytesOf o) ≤ 2 ^ 20
 
 pub none-stored : (m : List ℕ) → Stored m none
 none-stored m = record { same = refl; short = omega arith }
@@ -110,11 +105,6 @@ tagged-few m kinds =
     gives-bind m (any m byte) λ s _. gives-bind m (few-ids m (length kinds) s) λ ids few. gives-bind m (any m (values kinds ids)) λ v _. gives-return m _ _ few
 
 -- what is known of a point that was read
-pub record PointTexts (m : List ℕ) (p : Point) : Type 0 where
-  pub few : length (p .tagged .ids) ≤ 15
-  pub name : Stored m (p .name)
-  pub houseNumber : Stored m (p .houseNumber)
-
 record Both (m : List ℕ) (n h : Maybe Part) : Type 0 where
   first : Stored m n
   second : Stored m h

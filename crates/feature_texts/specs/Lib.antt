@@ -1,1 +1,2 @@
 pub mod FeatureTexts
+pub mod Known

@@ -1,15 +1,14 @@
--- Arrays that a loop fills from the front: a number of each row, and five words for each tag.
-use Prim.Native.Nat.{ℕ, suc, _+_, _*_, _≤_, _<_}
+-- Words that a loop writes from the front, five for each tag.
+use Prim.Native.Nat.{ℕ, _+_, _*_, _≤_, _<_}
 use native.Mathlib.Numerals.{add-one}
 use native.Mathlib.Omega.{arith}
 use mathlib.Core.Path.{_≡_, refl, sym, ap, _∙_}
 use mathlib.Core.List.{List, [], _∷_, _++_, append-assoc}
-use mathlib.Core.List.{map as mapped}
-use lib.ListN.{length, set, take, drop, getD, replicate, length-append, length-map, length-take, length-replicate, drop-of-length-le}
+use lib.ListN.{length, set, take, getD, replicate, length-replicate, length-append, length-take, drop-of-length-le}
 use lib.Seq.{take-suc, take-all}
 use mathlib.Core.List.{append-nil}
 use Rattle.format.specs.Lent.{front}
-use Rattle.types.proofs.FillLaws.{map-append, front-more}
+use Rattle.types.proofs.FillLaws.{front-more}
 use Rattle.fetched.specs.declared.TagText.{TagText}
 use Rattle.feature_wire.specs.Features.{tagWords}
 
@@ -20,15 +19,6 @@ put xs l out k v e n h =
 
 next : {A : Type 0} (l : List A) (i : ℕ) (d : A) → i < length l → take (i + 1) l ≡ take i l ++ (getD l i d ∷ [])
 next l i d h = rw (add-one i) (take-suc l i d h)
-
-module _ {A : Type 0} (f : A → ℕ) (N : ℕ) (rows : List A) (n : length rows ≡ N) (out : List ℕ) (i : ℕ) (e : out ≡ front (mapped f (take i rows)) (replicate N 0)) where
-  pub rows-more : (d : A) → i < N → set out i (f (getD rows i d)) ≡ front (mapped f (take (i + 1) rows)) (replicate N 0)
-  rows-more d h =
-      put (mapped f (take i rows)) (replicate N 0) out i (f (getD rows i d)) e (omega (arith, length-map (take i rows) f, length-take i rows)) (omega (arith, length-replicate {A = ℕ} N 0))
-      ∙ ap (λ x. front x (replicate N 0)) (sym (ap (mapped f) (next rows i d (omega arith)) ∙ map-append f (take i rows) (getD rows i d ∷ [])))
-
-  pub rows-done : N ≤ i → out ≡ mapped f rows
-  rows-done h = e ∙ ap (λ x. front (mapped f x) (replicate N 0)) (take-all i rows (omega arith)) ∙ ap (λ x. mapped f rows ++ x) (drop-of-length-le (replicate N 0) {i = length (mapped f rows)} (omega (arith, length-replicate {A = ℕ} N 0, length-map rows f))) ∙ append-nil (mapped f rows)
 
 -- five words for a tag
 abbrev five : TagText → List ℕ

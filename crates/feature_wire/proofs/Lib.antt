@@ -1,2 +1,1 @@
-pub mod WireLaws
 pub mod FillLaws

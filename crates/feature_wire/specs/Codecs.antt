@@ -1,17 +1,21 @@
 -- How the other program reads the words of a tile and a feature, and that nothing is lost on the way.
-use Prim.Native.Nat.{ℕ}
+use Prim.Native.Nat.{ℕ, zero, suc, _≤_}
+use native.Mathlib.Omega.{arith}
 use mathlib.Core.Bool.{Bool}
 use mathlib.Core.Path.{_≡_, refl, ap}
-use mathlib.Core.List.{List, [], _∷_}
-use lib.ListN.{getD}
-use Rattle.error.specs.declared.Refusal.{Refusal}
+use mathlib.Core.List.{List, [], _∷_, _++_}
+use lib.ListN.{length, getD, drop, length-map}
+use lib.Seq.{sets}
+use Rattle.error.specs.declared.LentRefusal.{LentRefusal}
+use Rattle.format.specs.Lent.{front, sets-front}
 use Rattle.types.specs.declared.OptionalPosition.{OptionalPosition}
 use Rattle.types.specs.declared.OptionalSpan.{OptionalSpan}
 use Rattle.blocks.specs.declared.ZoomRow.{ZoomRow}
 use Rattle.poi.specs.declared.OptionalElevation.{OptionalElevation}
-use Rattle.tile.specs.declared.TileAnswer.{TileAnswer}
-use Rattle.tile.specs.declared.TileAnswer.the-variants as tile-answer
-use Rattle.tile.specs.declared.TileRead.{TileRead}
+use Rattle.tile.specs.Tile.{rowPoints, rowWays}
+use Rattle.tile.specs.declared.TileSummary.{TileSummary}
+use Rattle.tile.specs.declared.SummaryRead.{SummaryRead}
+use Rattle.tile.specs.declared.SummaryRead.the-variants as summary
 use Rattle.fetched.specs.declared.TagText.{TagText}
 use Rattle.fetched.specs.declared.OptionalText.{OptionalText}
 use Rattle.fetched.specs.declared.OptionalText.the-variants as text
@@ -21,60 +25,59 @@ use Rattle.fetched.specs.declared.FetchedWay.{FetchedWay}
 use Rattle.fetched.specs.declared.FetchAnswer.{FetchAnswer}
 use Rattle.fetched.specs.declared.FetchAnswer.the-variants as fetch-answer
 use Rattle.fetched.specs.declared.Fetch.{Fetch}
-use Rattle.wire.specs.Wire.{Wire, Decoder, Codec, word, truth, there}
-use Rattle.wire.specs.Codecs.{refusalIn, settle, settled, truth-back, spanIn, span-back, placeIn, place-back, degree}
-use Rattle.elevation_wire.specs.Elevation.{listOf, signedAt, metresIn, metres-back}
-use Rattle.feature_wire.specs.Features.{tileNumber, tileValues, rowPoints, rowWays, tileWire, textWords, tagWords, fetchWire}
+use Rattle.wire.specs.Wire.{Wire, Lent, Decoder, Codec, listOf, word, signedAt, truth, there}
+use Rattle.wire.specs.Codecs.{settle, settled, settleLent, settled-lent, truth-back, spanIn, span-back, placeIn, place-back, degree}
+use Rattle.wire.specs.Elevation.{metresIn, metres-back}
+use Rattle.wire.specs.Spread.{spreadWire, spread-out}
+use Rattle.feature_wire.specs.Features.{tileWire, textWords, tagWords, fetchWith, fetchWire}
 
--- a collected tile
-unfoldable pub rowsIn : (points ways : List ℕ) → List ZoomRow
-rowsIn (p ∷ ps) (w ∷ ws) = record { points = p; ways = w } ∷ rowsIn ps ws
-rowsIn [] ws = []
-rowsIn (p ∷ ps) [] = []
-
-pub rows-back : (l : List ZoomRow) → rowsIn (rowPoints l) (rowWays l) ≡ l
-unfolding rowsIn
-rows-back [] = refl
-rows-back (r ∷ l) = ap (λ (x : List ZoomRow). r ∷ x) (rows-back l)
-
-abbrev pub tileIn : Wire → TileRead
-tileIn w = record {
-  tile = record {
-    signature = spanIn (word w 0 6) (word w 0 7) (word w 0 8);
-    «zoom_table» = rowsIn (listOf w 1) (listOf w 2);
-    rows = word w 0 9;
-    «first_way_offset» = word w 0 10;
-    points = word w 0 11;
-    ways = word w 0 12;
-    exact = truth (word w 0 13);
-  };
-  answer = settle tile-answer.Refused tile-answer.Collected w;
+-- what is said of a collected tile
+abbrev pub summaryIn : Wire → TileSummary
+summaryIn w = record {
+  signature = spanIn (word w 0 6) (word w 0 7) (word w 0 8);
+  «first_way_offset» = word w 0 10;
+  points = word w 0 11;
+  ways = word w 0 12;
+  rows = word w 0 9;
+  exact = truth (word w 0 13);
 }
 
-tile-answer-back : (a : TileAnswer) → there (tileNumber a) tile-answer.Collected (tile-answer.Refused (refusalIn (tileNumber a) (tileValues a))) ≡ a
-tile-answer-back tile-answer.Collected = refl
-tile-answer-back (tile-answer.Refused r) = settled tile-answer.Refused tile-answer.Collected r
+abbrev pub tileIn : Wire → SummaryRead
+tileIn w = settle summary.Refused (summary.Value (summaryIn w)) w
 
-tile-with : (r : TileRead) (s s′ : OptionalSpan) (l l′ : List ZoomRow) (b b′ : Bool) (a a′ : TileAnswer) → s ≡ s′ → l ≡ l′ → b ≡ b′ → a ≡ a′ → _≡_ {A = TileRead} (record {
-  tile = record { signature = s; «zoom_table» = l; rows = r .tile .rows; «first_way_offset» = r .tile .«first_way_offset»; points = r .tile .points; ways = r .tile .ways; exact = b };
-  answer = a;
-}) (record {
-  tile = record { signature = s′; «zoom_table» = l′; rows = r .tile .rows; «first_way_offset» = r .tile .«first_way_offset»; points = r .tile .points; ways = r .tile .ways; exact = b′ };
-  answer = a′;
-})
-tile-with r s s′ l l′ b b′ a a′ q1 q2 q3 q4 = rw (q1, q2, q3, q4) refl
+summary-with : (t : TileSummary) (s s′ : OptionalSpan) (b b′ : Bool) → s ≡ s′ → b ≡ b′ → _≡_ {A = SummaryRead} (summary.Value (record { signature = s; «first_way_offset» = t .«first_way_offset»; points = t .points; ways = t .ways; rows = t .rows; exact = b })) (summary.Value (record { signature = s′; «first_way_offset» = t .«first_way_offset»; points = t .points; ways = t .ways; rows = t .rows; exact = b′ }))
+summary-with t s s′ b b′ q1 q2 = rw (q1, q2) refl
 
-pub tile-back : (r : TileRead) → tileIn (tileWire r) ≡ r
-tile-back r = tile-with r _ _ _ _ _ _ _ _ (span-back (r .tile .signature)) (rows-back (r .tile .«zoom_table»)) (truth-back (r .tile .exact)) (tile-answer-back (r .answer))
+tile-spread : (w : Wire) (r : SummaryRead) → tileIn (tileWire (spreadWire (14 ∷ []) 0 0 w) r) ≡ r
+tile-spread w (summary.Value t) = summary-with t _ _ _ _ (span-back (t .signature)) (truth-back (t .exact))
+tile-spread w (summary.Refused r) = settled summary.Refused _ _ _ r
 
-abbrev pub tileCodec : Codec tileWire
-tileCodec = record { decode = tileIn; back = tile-back }
+pub tile-back : (w : Wire) → Lent (14 ∷ []) 0 0 w → (r : SummaryRead) → tileIn (tileWire w r) ≡ r
+tile-back w h r = spread-out (14 ∷ []) 0 0 w h (λ (v : Wire). tileIn (tileWire v r) ≡ r) (tile-spread w r)
+
+abbrev pub tileCodec : (w : Wire) → Lent (14 ∷ []) 0 0 w → Codec (tileWire w)
+tileCodec w h = record { decode = tileIn; back = tile-back w h }
+
+-- its rows, so many from the fronts of two lists
+abbrev pub rowsIn : ℕ → (points ways : List ℕ) → List ZoomRow
+rowsIn zero ps ws = []
+rowsIn (suc n) ps ws = record { points = getD ps 0 0; ways = getD ws 0 0 } ∷ rowsIn n (drop 1 ps) (drop 1 ws)
+
+rows-front : (l : List ZoomRow) (ps ws : List ℕ) → rowsIn (length l) (rowPoints l ++ ps) (rowWays l ++ ws) ≡ l
+rows-front [] ps ws = refl
+rows-front (r ∷ l) ps ws = ap (λ (x : List ZoomRow). r ∷ x) (rows-front l ps ws)
+
+pub rows-back : (l : List ZoomRow) (ps ws : List ℕ) → length l ≤ length ps → length l ≤ length ws → rowsIn (length l) (sets ps 0 (rowPoints l)) (sets ws 0 (rowWays l)) ≡ l
+rows-back l ps ws h k =
+    let p : sets ps 0 (rowPoints l) ≡ front (rowPoints l) ps = sets-front (rowPoints l) ps (omega (arith, length-map l (λ (r : ZoomRow). r .points))) in
+    let w : sets ws 0 (rowWays l) ≡ front (rowWays l) ws = sets-front (rowWays l) ws (omega (arith, length-map l (λ (r : ZoomRow). r .ways))) in
+    rw (p, w) (rows-front l _ _)
 
 -- a fetched feature: the point and the way stand beside the answer, of which one is meant
 pub data Given : Type 0 where
   aPoi : FetchedPoi → Given
   aLine : FetchedWay → Given
-  noFeature : Refusal → Given
+  noFeature : LentRefusal → Given
 
 abbrev pub givenOf : FetchAnswer → FetchedPoi → FetchedWay → Given
 givenOf fetch-answer.Point p w = aPoi p
@@ -136,7 +139,7 @@ lineIn w = record {
 }
 
 abbrev pub fetchIn : Wire → Given
-fetchIn w = settle noFeature (getD (aPoi (poiIn w) ∷ []) (word w 0 6) (aLine (lineIn w))) w
+fetchIn w = settleLent noFeature (getD (aPoi (poiIn w) ∷ []) (word w 0 6) (aLine (lineIn w))) w
 
 texts-with : (g g′ : List TagText) (n n′ h h′ r r′ : OptionalText) → g ≡ g′ → n ≡ n′ → h ≡ h′ → r ≡ r′ → _≡_ {A = FeatureTexts} (record { tags = g; name = n; «house_number» = h; reference = r }) (record { tags = g′; name = n′; «house_number» = h′; reference = r′ })
 texts-with g g′ n n′ h h′ r r′ q1 q2 q3 q4 = rw (q1, q2, q3, q4) refl
@@ -155,10 +158,13 @@ poi-with p s s′ t t′ e e′ q1 q2 q3 = rw (q1, q2, q3) refl
 line-with : (y : FetchedWay) (s s′ : OptionalSpan) (t t′ : FeatureTexts) (p p′ : OptionalPosition) (b b′ : Bool) → s ≡ s′ → t ≡ t′ → p ≡ p′ → b ≡ b′ → _≡_ {A = Given} (aLine (record { signature = s; bitmap = y .bitmap; layer = y .layer; «tag_ids» = y .«tag_ids»; texts = t; «label_position» = p; «double_delta» = b; blocks = y .blocks; nodes = y .nodes })) (aLine (record { signature = s′; bitmap = y .bitmap; layer = y .layer; «tag_ids» = y .«tag_ids»; texts = t′; «label_position» = p′; «double_delta» = b′; blocks = y .blocks; nodes = y .nodes }))
 line-with y s s′ t t′ p p′ b b′ q1 q2 q3 q4 = rw (q1, q2, q3, q4) refl
 
-pub fetch-back : (a : FetchAnswer) (p : FetchedPoi) (w : FetchedWay) → fetchIn (fetchWire (record { answer = a; poi = p; way = w })) ≡ givenOf a p w
-fetch-back fetch-answer.Point p w = poi-with p _ _ _ _ _ _ (span-back (p .signature)) (texts-back (p .texts)) (metres-back (p .elevation))
-fetch-back fetch-answer.Way p w = line-with w _ _ _ _ _ _ _ _ (span-back (w .signature)) (texts-back (w .texts)) (place-back (w .«label_position»)) (truth-back (w .«double_delta»))
-fetch-back (fetch-answer.Refused r) p w = settled noFeature _ r
+fetch-spread : (w : Wire) (a : FetchAnswer) (p : FetchedPoi) (y : FetchedWay) → fetchIn (fetchWith a p y (spreadWire (35 ∷ 15 ∷ 75 ∷ []) 2 2 w)) ≡ givenOf a p y
+fetch-spread w fetch-answer.Point p y = poi-with p _ _ _ _ _ _ (span-back (p .signature)) (texts-back (p .texts)) (metres-back (p .elevation))
+fetch-spread w fetch-answer.Way p y = line-with y _ _ _ _ _ _ _ _ (span-back (y .signature)) (texts-back (y .texts)) (place-back (y .«label_position»)) (truth-back (y .«double_delta»))
+fetch-spread w (fetch-answer.Refused r) p y = settled-lent noFeature _ _ _ _ _ _ _ _ r
 
-abbrev pub fetchDecoder : Decoder fetchWire given
-fetchDecoder = record { decode = fetchIn; back = λ f. fetch-back (f .answer) (f .poi) (f .way) }
+pub fetch-back : (w : Wire) → Lent (35 ∷ 15 ∷ 75 ∷ []) 2 2 w → (f : Fetch) → fetchIn (fetchWire w f) ≡ given f
+fetch-back w h f = spread-out (35 ∷ 15 ∷ 75 ∷ []) 2 2 w h (λ (v : Wire). fetchIn (fetchWire v f) ≡ given f) (fetch-spread w (f .answer) (f .poi) (f .way))
+
+abbrev pub fetchDecoder : (w : Wire) → Lent (35 ∷ 15 ∷ 75 ∷ []) 2 2 w → Decoder (fetchWire w) given
+fetchDecoder w h = record { decode = fetchIn; back = fetch-back w h }

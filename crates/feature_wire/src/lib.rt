@@ -1,17 +1,49 @@
-// What a collected tile and a fetched feature answer, as words for programs in other languages.
-use blocks::ZoomRow;
-use error::Lengths;
+// What a collected tile and a fetched feature answer, as words for programs in other languages. An answer writes its own words; the others
+// keep their values.
+use fetched::FeatureTexts;
+use fetched::Fetch;
 use fetched::FetchAnswer;
 use fetched::FetchedPoi;
 use fetched::FetchedWay;
 use fetched::OptionalText;
 use fetched::TagText;
-use tile::Tile;
-use tile::TileAnswer;
+use tile::SummaryRead;
+use tile::TileSummary;
 ghost use mathlib.Core.Path.{_≡_};
-ghost use Rattle.feature_wire.specs.Features.{tileNumber, tileValues, tileWords, rowPoints, rowWays, textWords, fetchedPointWords, fetchedWayWords, fetchNumber, fetchWords, fetchSigned, fetchDegrees, fetchIds, tagWords, fetchTags};
-ghost use Rattle.wire.specs.Verdicts.{behind};
-ghost use lib.ListN.{replicate};
+ghost use mathlib.Core.List.{[], _∷_};
+ghost use lib.Seq.{sets};
+ghost use Rattle.wire.specs.Wire.{wire, lending};
+ghost use Rattle.wire.specs.Elevation.{metreWords};
+ghost use Rattle.feature_wire.specs.Features.{putSummary, tileWire, textWords, textsBefore, tagWords, putPoint, putWay, fetchWire};
+
+// What is said of a collected tile.
+fn put_summary(summary: TileSummary, words: &mut [u64; 14])
+    ensures { λ r. ⌜ wire 0 (now (words .exit) ∷ []) [] [] ≡ putSummary summary (lending (now (words .entry) ∷ []) [] []) ⌝ }
+{
+    let stored = summary.signature;
+    let signature = wire::span_words(stored);
+    let exact = wire::bit(summary.exact);
+    words[6] = signature.present;
+    words[7] = signature.start;
+    words[8] = signature.size;
+    words[9] = summary.rows as u64;
+    words[10] = summary.first_way_offset;
+    words[11] = summary.points;
+    words[12] = summary.ways;
+    words[13] = exact;
+}
+
+pub fn put_tile(read: SummaryRead, words: &mut [u64; 14]) -> u64
+    ensures { λ r. ⌜ wire r (now (words .exit) ∷ []) [] [] ≡ tileWire (lending (now (words .entry) ∷ []) [] []) read ⌝ }
+{
+    match read {
+        SummaryRead::Value(summary) => {
+            put_summary(summary, words);
+            0
+        }
+        SummaryRead::Refused(r) => wire::put_refusal(r, words),
+    }
+}
 
 struct TextWords {
     present: u64,
@@ -48,320 +80,168 @@ fn text_words(text: OptionalText) -> TextWords
     }
 }
 
-pub fn tile_number(answer: TileAnswer) -> u64
-    ensures { λ r. ⌜ r ≡ tileNumber answer ⌝ }
+// Name, house number and reference.
+fn put_texts(texts: FeatureTexts, words: &mut [u64; 35])
+    ensures { λ r. ⌜ now (words .exit) ≡ sets (now (words .entry)) 11 (textsBefore texts []) ⌝ }
 {
-    match answer {
-        TileAnswer::Collected => 0,
-        TileAnswer::Refused(r) => error::number_of(r) as u64,
-    }
-}
-
-fn tile_values(answer: TileAnswer) -> Lengths
-    ensures { λ r. ⌜ r ≡ tileValues answer ⌝ }
-{
-    match answer {
-        TileAnswer::Collected => wire::no_values(),
-        TileAnswer::Refused(r) => wire::values_of(r),
-    }
-}
-
-pub fn tile_words(answer: TileAnswer, tile: Tile) -> [u64; 14]
-    ensures { λ r. ⌜ r ≡ tileWords answer tile ⌝ }
-{
-    let v = tile_values(answer);
-    let stored = tile.signature;
-    let signature = wire::span_words(stored);
-    [
-        v.list1,
-        v.list2,
-        v.list3,
-        v.list4,
-        v.list5,
-        v.buffer,
-        signature.present,
-        signature.start,
-        signature.size,
-        tile.rows as u64,
-        tile.first_way_offset,
-        tile.points,
-        tile.ways,
-        wire::bit(tile.exact),
-    ]
-}
-
-// The rows' points, and their ways.
-pub fn row_points(rows: [ZoomRow; 256]) -> [u64; 256]
-    ensures { λ r. ⌜ r ≡ rowPoints rows ⌝ }
-{
-    let mut out = [0u64; 256];
-    let mut i = 0;
-    while i < 256 {
-        let row = rows[i];
-        out[i] = row.points;
-        i += 1;
-    }
-    out
-}
-
-pub fn row_ways(rows: [ZoomRow; 256]) -> [u64; 256]
-    ensures { λ r. ⌜ r ≡ rowWays rows ⌝ }
-{
-    let mut out = [0u64; 256];
-    let mut i = 0;
-    while i < 256 {
-        let row = rows[i];
-        out[i] = row.ways;
-        i += 1;
-    }
-    out
-}
-
-pub fn fetch_number(answer: FetchAnswer) -> u64
-    ensures { λ r. ⌜ r ≡ fetchNumber answer ⌝ }
-{
-    match answer {
-        FetchAnswer::Point => 0,
-        FetchAnswer::Way => 0,
-        FetchAnswer::Refused(r) => error::number_of(r) as u64,
-    }
-}
-
-fn fetched_point_words(poi: FetchedPoi) -> [u64; 35]
-    ensures { λ r. ⌜ r ≡ fetchedPointWords poi ⌝ }
-{
-    let stored = poi.signature;
-    let signature = wire::span_words(stored);
-    let tags = poi.tag_ids;
-    let texts = poi.texts;
     let stored = texts.name;
     let n = text_words(stored);
     let stored = texts.house_number;
     let h = text_words(stored);
     let stored = texts.reference;
     let r = text_words(stored);
-    let stored = poi.elevation;
-    let elevation = elevation_wire::metre_words(stored);
-    [
-        0,
-        0,
-        0,
-        0,
-        0,
-        0,
-        0,
-        tags.count as u64,
-        signature.present,
-        signature.start,
-        signature.size,
-        n.present,
-        n.len,
-        n.key_len,
-        n.value_len,
-        n.key_code,
-        n.value_code,
-        h.present,
-        h.len,
-        h.key_len,
-        h.value_len,
-        h.key_code,
-        h.value_code,
-        r.present,
-        r.len,
-        r.key_len,
-        r.value_len,
-        r.key_code,
-        r.value_code,
-        elevation.present,
-        0,
-        0,
-        0,
-        0,
-        0,
-    ]
+    words[11] = n.present;
+    words[12] = n.len;
+    words[13] = n.key_len;
+    words[14] = n.value_len;
+    words[15] = n.key_code;
+    words[16] = n.value_code;
+    words[17] = h.present;
+    words[18] = h.len;
+    words[19] = h.key_len;
+    words[20] = h.value_len;
+    words[21] = h.key_code;
+    words[22] = h.value_code;
+    words[23] = r.present;
+    words[24] = r.len;
+    words[25] = r.key_len;
+    words[26] = r.value_len;
+    words[27] = r.key_code;
+    words[28] = r.value_code;
 }
 
-fn fetched_way_words(way: FetchedWay) -> [u64; 35]
-    ensures { λ r. ⌜ r ≡ fetchedWayWords way ⌝ }
+// Five words for each tag. Zeros go first: the proof knows of the lent array's 75 words by their being written whole.
+fn put_tags(tags: [TagText; 15], words: &mut [u64; 75])
+    ensures { λ r. ⌜ now (words .exit) ≡ tagWords tags ⌝ }
 {
-    let stored = way.signature;
-    let signature = wire::span_words(stored);
-    let tags = way.tag_ids;
-    let texts = way.texts;
-    let stored = texts.name;
-    let n = text_words(stored);
-    let stored = texts.house_number;
-    let h = text_words(stored);
-    let stored = texts.reference;
-    let r = text_words(stored);
-    let stored = way.label_position;
-    let label = wire::place_words(stored);
-    [
-        0,
-        0,
-        0,
-        0,
-        0,
-        0,
-        1,
-        tags.count as u64,
-        signature.present,
-        signature.start,
-        signature.size,
-        n.present,
-        n.len,
-        n.key_len,
-        n.value_len,
-        n.key_code,
-        n.value_code,
-        h.present,
-        h.len,
-        h.key_len,
-        h.value_len,
-        h.key_code,
-        h.value_code,
-        r.present,
-        r.len,
-        r.key_len,
-        r.value_len,
-        r.key_code,
-        r.value_code,
-        0,
-        way.bitmap as u64,
-        wire::bit(way.double_delta),
-        way.blocks,
-        way.nodes,
-        label.present,
-    ]
-}
-
-fn fetch_refused(v: Lengths) -> [u64; 35]
-    ensures { λ r. ⌜ r ≡ behind v (replicate 29 0) ⌝ }
-{
-    [
-        v.list1,
-        v.list2,
-        v.list3,
-        v.list4,
-        v.list5,
-        v.buffer,
-        0,
-        0,
-        0,
-        0,
-        0,
-        0,
-        0,
-        0,
-        0,
-        0,
-        0,
-        0,
-        0,
-        0,
-        0,
-        0,
-        0,
-        0,
-        0,
-        0,
-        0,
-        0,
-        0,
-        0,
-        0,
-        0,
-        0,
-        0,
-        0,
-    ]
-}
-
-pub fn fetch_words(answer: FetchAnswer, poi: FetchedPoi, way: FetchedWay) -> [u64; 35]
-    ensures { λ r. ⌜ r ≡ fetchWords answer poi way ⌝ }
-{
-    match answer {
-        FetchAnswer::Point => fetched_point_words(poi),
-        FetchAnswer::Way => fetched_way_words(way),
-        FetchAnswer::Refused(r) => { fetch_refused(wire::values_of(r)) }
-    }
-}
-
-pub fn fetch_signed(answer: FetchAnswer, poi: FetchedPoi, way: FetchedWay) -> [i64; 2]
-    ensures { λ r. ⌜ r ≡ fetchSigned answer poi way ⌝ }
-{
-    match answer {
-        FetchAnswer::Point => {
-            let stored = poi.elevation;
-            let elevation = elevation_wire::metre_words(stored);
-            [wire::wide_i8(poi.layer), elevation.metres]
-        }
-        FetchAnswer::Way => [wire::wide_i8(way.layer), 0],
-        FetchAnswer::Refused(_) => [0, 0],
-    }
-}
-
-pub fn fetch_degrees(answer: FetchAnswer, poi: FetchedPoi, way: FetchedWay) -> [f64; 2]
-    ensures { λ r. ⌜ r ≡ fetchDegrees answer poi way ⌝ }
-{
-    match answer {
-        FetchAnswer::Point => {
-            let position = poi.position;
-            [position.latitude, position.longitude]
-        }
-        FetchAnswer::Way => {
-            let stored = way.label_position;
-            let label = wire::place_words(stored);
-            [label.latitude, label.longitude]
-        }
-        FetchAnswer::Refused(_) => [0.0; 2],
-    }
-}
-
-pub fn fetch_ids(answer: FetchAnswer, poi: FetchedPoi, way: FetchedWay) -> [u64; 15]
-    ensures { λ r. ⌜ r ≡ fetchIds answer poi way ⌝ }
-{
-    let tags = poi.tag_ids;
-    let point = tags.ids;
-    let tags = way.tag_ids;
-    let line = tags.ids;
-    match answer {
-        FetchAnswer::Point => point,
-        FetchAnswer::Way => line,
-        FetchAnswer::Refused(_) => [0; 15],
-    }
-}
-
-// Five words for each tag.
-fn tag_words(tags: [TagText; 15]) -> [u64; 75]
-    ensures { λ r. ⌜ r ≡ tagWords tags ⌝ }
-{
-    let mut out = [0u64; 75];
+    let row = [0u64; 75];
+    *words = row;
     let mut i = 0;
     while i < 15 {
         let text = tags[i];
         let tag = text.tag;
         let at = 5 * i;
-        out[at] = text.len as u64;
-        out[at + 1] = tag.key_len as u64;
-        out[at + 2] = tag.value_len as u64;
-        out[at + 3] = tag.key_code;
-        out[at + 4] = tag.value_code;
+        words[at] = text.len as u64;
+        words[at + 1] = tag.key_len as u64;
+        words[at + 2] = tag.value_len as u64;
+        words[at + 3] = tag.key_code;
+        words[at + 4] = tag.value_code;
         i += 1;
     }
-    out
 }
 
-pub fn fetch_tags(answer: FetchAnswer, poi: FetchedPoi, way: FetchedWay) -> [u64; 75]
-    ensures { λ r. ⌜ r ≡ fetchTags answer poi way ⌝ }
+// A point's layer and elevation.
+fn put_signs(poi: FetchedPoi, signed_words: &mut [i64; 2])
+    ensures { λ r. ⌜ now («signed_words» .exit) ≡ sets (now («signed_words» .entry)) 0 (poi .layer ∷ metreWords (poi .elevation) .metres ∷ []) ⌝ }
 {
+    let stored = poi.elevation;
+    let elevation = wire::metre_words(stored);
+    let metres = elevation.metres;
+    let layer = wire::wide_i8(poi.layer);
+    signed_words[0] = layer;
+    signed_words[1] = metres;
+}
+
+fn put_point(
+    poi: FetchedPoi,
+    words: &mut [u64; 35],
+    signed_words: &mut [i64; 2],
+    degrees: &mut [f64; 2],
+    ids: &mut [u64; 15],
+    tags: &mut [u64; 75],
+)
+    ensures { λ r. ⌜ wire 0 (now (words .exit) ∷ now (ids .exit) ∷ now (tags .exit) ∷ []) (now («signed_words» .exit)) (now (degrees .exit)) ≡ putPoint poi (lending (now (words .entry) ∷ now (ids .entry) ∷ now (tags .entry) ∷ []) (now («signed_words» .entry)) (now (degrees .entry))) ⌝ }
+{
+    let stored = poi.signature;
+    let signature = wire::span_words(stored);
+    let stored = poi.elevation;
+    let elevation = wire::metre_words(stored);
+    let position = poi.position;
+    let of = poi.tag_ids;
     let texts = poi.texts;
-    let point = texts.tags;
+    words[6] = 0;
+    words[7] = of.count as u64;
+    words[8] = signature.present;
+    words[9] = signature.start;
+    words[10] = signature.size;
+    put_texts(texts, words);
+    words[29] = elevation.present;
+    put_signs(poi, signed_words);
+    degrees[0] = position.latitude;
+    degrees[1] = position.longitude;
+    let row = of.ids;
+    *ids = row;
+    let row = texts.tags;
+    put_tags(row, tags);
+}
+
+fn put_layer(way: FetchedWay, signed_words: &mut [i64; 2])
+    ensures { λ r. ⌜ now («signed_words» .exit) ≡ sets (now («signed_words» .entry)) 0 (way .layer ∷ []) ⌝ }
+{
+    let layer = wire::wide_i8(way.layer);
+    signed_words[0] = layer;
+}
+
+// What a fetched way has besides its nodes.
+fn put_way(
+    way: FetchedWay,
+    words: &mut [u64; 35],
+    signed_words: &mut [i64; 2],
+    degrees: &mut [f64; 2],
+    ids: &mut [u64; 15],
+    tags: &mut [u64; 75],
+)
+    ensures { λ r. ⌜ wire 0 (now (words .exit) ∷ now (ids .exit) ∷ now (tags .exit) ∷ []) (now («signed_words» .exit)) (now (degrees .exit)) ≡ putWay way (lending (now (words .entry) ∷ now (ids .entry) ∷ now (tags .entry) ∷ []) (now («signed_words» .entry)) (now (degrees .entry))) ⌝ }
+{
+    let stored = way.signature;
+    let signature = wire::span_words(stored);
+    let stored = way.label_position;
+    let label = wire::place_words(stored);
+    let double_delta = wire::bit(way.double_delta);
+    let of = way.tag_ids;
     let texts = way.texts;
-    let line = texts.tags;
+    words[6] = 1;
+    words[7] = of.count as u64;
+    words[8] = signature.present;
+    words[9] = signature.start;
+    words[10] = signature.size;
+    put_texts(texts, words);
+    words[30] = way.bitmap as u64;
+    words[31] = double_delta;
+    words[32] = way.blocks;
+    words[33] = way.nodes;
+    words[34] = label.present;
+    put_layer(way, signed_words);
+    degrees[0] = label.latitude;
+    degrees[1] = label.longitude;
+    let row = of.ids;
+    *ids = row;
+    let row = texts.tags;
+    put_tags(row, tags);
+}
+
+pub fn put_fetch(
+    fetch: Fetch,
+    words: &mut [u64; 35],
+    signed_words: &mut [i64; 2],
+    degrees: &mut [f64; 2],
+    ids: &mut [u64; 15],
+    tags: &mut [u64; 75],
+) -> u64
+    ensures { λ r. ⌜ wire r (now (words .exit) ∷ now (ids .exit) ∷ now (tags .exit) ∷ []) (now («signed_words» .exit)) (now (degrees .exit)) ≡ fetchWire (lending (now (words .entry) ∷ now (ids .entry) ∷ now (tags .entry) ∷ []) (now («signed_words» .entry)) (now (degrees .entry))) fetch ⌝ }
+{
+    let answer = fetch.answer;
     match answer {
-        FetchAnswer::Point => tag_words(point),
-        FetchAnswer::Way => tag_words(line),
-        FetchAnswer::Refused(_) => [0; 75],
+        FetchAnswer::Point => {
+            let poi = fetch.poi;
+            put_point(poi, words, signed_words, degrees, ids, tags);
+            0
+        }
+        FetchAnswer::Way => {
+            let way = fetch.way;
+            put_way(way, words, signed_words, degrees, ids, tags);
+            0
+        }
+        FetchAnswer::Refused(r) => wire::put_lent_refusal(r, words),
     }
 }

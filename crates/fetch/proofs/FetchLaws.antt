@@ -11,14 +11,15 @@ use lib.ListN.{length}
 use borrow.Author.Tests.{ltb-true, ltb-false, le-leb}
 use Rattle.parsing.specs.Parse.{Res, ok, no, andThen, mapRes, Parser, many, Maybe, none, some, nth}
 use Rattle.parsing.proofs.Lists.{nth-past}
+use Rattle.error.specs.declared.LentRefusal.{LentRefusal}
+use Rattle.error.specs.declared.LentRefusal.the-variants as lent-refusal
 use Rattle.error.specs.declared.Refusal.{Refusal}
 use Rattle.error.specs.declared.Refusal.the-variants.{Source}
 use Rattle.format.specs.Header.{Interval}
-use Rattle.format.specs.Index.{answer, answered, Grid, Located, locate}
+use Rattle.format.specs.Index.{answer, answered, Grid, Located, locate, tileAt}
 use Rattle.format.specs.Kinds.{tagKinds}
-use Rattle.format.specs.Rows.{rowsOfInterval}
-use Rattle.format.specs.Tile.{Point, point, Head, head, Body, body}
-use Rattle.types.specs.Types.{endRes}
+use Rattle.format.specs.Rows.{locatedHead}
+use Rattle.format.specs.Tile.{TileHead, Point, point, Head, head, Body, body}
 use Rattle.types.specs.Beside.{viewOr}
 use Rattle.types.specs.declared.End.{End}
 use Rattle.types.specs.declared.End.the-variants as end
@@ -34,7 +35,9 @@ use Rattle.tile_layout.specs.declared.TileLayout.{TileLayout}
 use Rattle.feature_place.specs.FeaturePlace.{Place, pointAt, wayAt, placeRes, placeIn, featurePlace}
 use Rattle.feature_place.specs.declared.FeaturePlace.{FeaturePlace}
 use Rattle.feature_place.specs.declared.FeaturePlace.the-variants as place
-use Rattle.fetched.specs.Fetched.{walkedName, buffered, FetchLists, Fetched, fetchedPoint, poiLists, fetchedWay, fitsAll, FetchReply, deliverAll, FetchIs}
+use Rattle.fetched.specs.Fetched.{walkedName, buffered, FetchLists, Fetched, fetchedPoint, poiLists, fetchedWay, fitsAll, FetchReply, deliverAll, endRes, FetchIs}
+use Rattle.fetched.specs.declared.FetchEnd.{FetchEnd}
+use Rattle.fetched.specs.declared.FetchEnd.the-variants as fetch-end
 use Rattle.fetched.specs.declared.FetchedPoi.{FetchedPoi}
 use Rattle.fetched.specs.declared.FetchedWay.{FetchedWay}
 use Rattle.fetch_poi.specs.FetchPoi.{emptyPoi, poiStored, bufferOnly, PoiFetchIs}
@@ -48,10 +51,10 @@ use Rattle.fetched.specs.declared.FetchAnswer.the-variants as fetch-answer
 use Rattle.fetched.specs.declared.Fetch.{Fetch}
 
 -- what is made of an answer
-pub refused-there : (a : FetchAnswer) (e : End) (x : Refusal) → e ≡ end.Refused x → fetch-answer.Refused x ≡ answerAt a e
+pub refused-there : (a : FetchAnswer) (e : FetchEnd) (x : LentRefusal) → e ≡ fetch-end.Refused x → fetch-answer.Refused x ≡ answerAt a e
 refused-there a e x h = rw h
 
-pub kept-there : (a : FetchAnswer) (e : End) (n : ℕ) → e ≡ end.At n → a ≡ answerAt a e
+pub kept-there : (a : FetchAnswer) (e : FetchEnd) (n : ℕ) → e ≡ fetch-end.At n → a ≡ answerAt a e
 kept-there a e n h = rw h
 
 pub poi-made : (g : PoiFetch) (a : FetchAnswer) (w : FetchedWay) → a ≡ answerAt fetch-answer.Point (g .end) → w ≡ emptyWay → _≡_ {A = Fetch} (record { answer = a; poi = g .poi; way = w }) (ofPoi g)
@@ -60,7 +63,7 @@ poi-made g a w h k = rw (h, k)
 pub way-made : (g : WayFetch) (a : FetchAnswer) (p : FetchedPoi) → a ≡ answerAt fetch-answer.Way (g .end) → p ≡ emptyPoi → _≡_ {A = Fetch} (record { answer = a; poi = p; way = g .way }) (ofWay g)
 way-made g a p h k = rw (h, k)
 
-pub none-made : (x : Refusal) (p : FetchedPoi) (w : FetchedWay) → p ≡ emptyPoi → w ≡ emptyWay → _≡_ {A = Fetch} (record { answer = fetch-answer.Refused x; poi = p; way = w }) (noFetch x)
+pub none-made : (x : Refusal) (p : FetchedPoi) (w : FetchedWay) → p ≡ emptyPoi → w ≡ emptyWay → _≡_ {A = Fetch} (record { answer = fetch-answer.Refused (lent-refusal.Refused x); poi = p; way = w }) (noFetch x)
 none-made x p w h k = rw (h, k)
 
 -- delivering a point or a way is delivering a feature
@@ -73,7 +76,7 @@ delivered-as f (ok x e) l = go (fitsAll (x .values) l) refl
     go false h = rw h
 delivered-as f (no n v) l = refl
 
-module _ {A : Type 0} (f : A → Feature) (empty : A) (stored : Res (Fetched A)) (l left : FetchLists) (v : A) (g : End) (q : FetchIs empty stored l v g left) where
+module _ {A : Type 0} (f : A → Feature) (empty : A) (stored : Res (Fetched A)) (l left : FetchLists) (v : A) (g : FetchEnd) (q : FetchIs empty stored l v g left) where
   replied : _≡_ {A = FetchReply Feature} (record { answer = answered (mapRes f (endRes v g)); lists = left }) (deliverAll (answered (mapRes (fetchedAs f) stored)) l)
   replied = ap (λ (r : FetchReply A). record { answer = answered (mapRes f (r .answer)); lists = r .lists }) (q .reply) ∙ delivered-as f stored l
 
@@ -90,9 +93,9 @@ way-is stored l left g q = record {
   way = value-is aWay emptyWay stored l left (g .way) (g .end) q ∙ it (endRes (g .way) (g .end)) ∙ ap wayIn (answered-as aWay emptyWay stored l left (g .way) (g .end) q);
 }
   where
-    same : (e : End) → featureRes (answerAt fetch-answer.Way e) emptyPoi (g .way) ≡ answered (mapRes aWay (endRes (g .way) e))
-    same (end.At n) = refl
-    same (end.Refused x) = refl
+    same : (e : FetchEnd) → featureRes (answerAt fetch-answer.Way e) emptyPoi (g .way) ≡ answered (mapRes aWay (endRes (g .way) e))
+    same (fetch-end.At n) = refl
+    same (fetch-end.Refused x) = refl
 
     none-there : (r : Res FetchedWay) → emptyPoi ≡ poiIn (answered (mapRes aWay r))
     none-there (ok w e) = refl
@@ -109,9 +112,9 @@ poi-is stored l left g q = record {
   way = none-there (endRes (g .poi) (g .end)) ∙ ap wayIn (answered-as aPoi emptyPoi stored l left (g .poi) (g .end) q);
 }
   where
-    same : (e : End) → featureRes (answerAt fetch-answer.Point e) (g .poi) emptyWay ≡ answered (mapRes aPoi (endRes (g .poi) e))
-    same (end.At n) = refl
-    same (end.Refused x) = refl
+    same : (e : FetchEnd) → featureRes (answerAt fetch-answer.Point e) (g .poi) emptyWay ≡ answered (mapRes aPoi (endRes (g .poi) e))
+    same (fetch-end.At n) = refl
+    same (fetch-end.Refused x) = refl
 
     none-there : (r : Res FetchedPoi) → emptyWay ≡ wayIn (answered (mapRes aPoi r))
     none-there (ok w e) = refl
@@ -199,15 +202,15 @@ module _ {A : Type 0} (p : Parser A) (m : List ℕ) where
       record { before = a ∷ s .before; at = s .at; value = s .value; end = s .end; reached = rw (h, s .reached) refl; read = s .read; kth = s .kth }
 
 -- in a tile that collects, a read from where feature k stands gives what the fetch gives
-module _ (l : TileLayout) (rows : ℕ) (m : List ℕ) (i : ℕ) (t : StoredTile (formatOf l rows m)) (z : ℕ) (c : collect (formatOf l rows m) m i ≡ ok t z) (e : formatOf l rows m .End) (k : ℕ) where
+module _ (l : TileLayout) (H : Parser TileHead) (m : List ℕ) (i : ℕ) (t : StoredTile (formatOf l m)) (z : ℕ) (c : collect H (formatOf l m) m i ≡ ok t z) (e : formatOf l m .End) (k : ℕ) where
   abbrev F : Format
-  F = formatOf l rows m
+  F = formatOf l m
 
   abbrev reads : Res Place → Res (Fetched Feature)
   reads r = answered (andThen r (λ p _. readAt l p m))
 
   abbrev gives : collected.Feature (collected.storedCollection F) → Res (Fetched Feature)
-  gives f = given l rows m f
+  gives f = given l m f
 
   -- a way is its head and its body
   way-stored : (x : ℕ) → wayStored (l .debug) (l .«way_tags») m x ≡ mapRes (λ w. fetchedWay (walkedName (tableIn (l .«way_tags»)) m) (w .head) (w .body)) (way F m x)
@@ -225,12 +228,12 @@ module _ (l : TileLayout) (rows : ℕ) (m : List ℕ) (i : ℕ) (t : StoredTile 
 
   a-point : k < length (t .points) → reads (andThen (many (F .point) k m (t .start)) (λ _ x. answer (pointAt x))) ≡ gives (collected.pointOr (nth (t .points) k))
   a-point b =
-      let s = stands (F .point) m (tile.collected F m i t z c .points .chain) k b in
+      let s = stands (F .point) m (tile.collected H F m i t z c .points .chain) k b in
       rw (s .reached, s .read, s .kth)
 
   a-way : k - length (t .points) < length (t .ways) → reads (andThen (many (way F) (k - length (t .points)) m (t .start + t .head .offset)) (λ _ x. answer (wayAt x))) ≡ gives (collected.wayOr (nth (t .ways) (k - length (t .points))))
   a-way b =
-      let s = stands (way F) m (tile.collected F m i t z c .ways .chain) (k - length (t .points)) b in
+      let s = stands (way F) m (tile.collected H F m i t z c .ways .chain) (k - length (t .points)) b in
       rw (s .reached, way-stored (s .at), s .read, s .kth)
 
   place-gives : reads (placeIn F t k m) ≡ gives (collected.fetch (storedTile t e) k)
@@ -253,17 +256,14 @@ module _ (l : TileLayout) (i : Maybe Interval) (grid : Grid) (number k : ℕ) (m
   unfolding featurePlace fetchTile
   fetched-is = located (locate (l .debug) i grid number m)
     where
-      rowsAt : Located → ℕ
-      rowsAt a = rowsOfInterval (a .interval .min) (a .interval .max)
-
-      collects : (a : Located) (r : Res (StoredTile (formatOf l (rowsAt a) m))) → collect (formatOf l (rowsAt a) m) m (a .entry .absolute) ≡ r
-          → answered (andThen (andThen r (λ t _. placeIn (formatOf l (rowsAt a) m) t k m)) (λ p _. readAt l p m))
-          ≡ andThen r (λ t _. given l (rowsAt a) m (collected.fetch (storedTile t (record { subFile = 0; water = a .entry .water })) k))
-      collects a (ok t z) c = place-gives l (rowsAt a) m (a .entry .absolute) t z c (record { subFile = 0; water = a .entry .water }) k
+      collects : (a : Located) (r : Res (StoredTile (formatOf l m))) → collect (locatedHead (l .debug) a) (formatOf l m) m (tileAt a) ≡ r
+          → answered (andThen (andThen r (λ t _. placeIn (formatOf l m) t k m)) (λ p _. readAt l p m))
+          ≡ andThen r (λ t _. given l m (collected.fetch (storedTile t (record { subFile = 0; water = a .entry .water })) k))
+      collects a (ok t z) c = place-gives l (locatedHead (l .debug) a) m (tileAt a) t z c (record { subFile = 0; water = a .entry .water }) k
       collects a (no n v) c = refl
 
-      located : (r : Res Located) → answered (andThen (andThen r (λ a _. andThen (collect (formatOf l (rowsAt a) m) m (a .entry .absolute)) (λ t _. placeIn (formatOf l (rowsAt a) m) t k m))) (λ p _. readAt l p m)) ≡ andThen r (λ a _. fetchAt l k a m)
-      located (ok a z) = collects a (collect (formatOf l (rowsAt a) m) m (a .entry .absolute)) refl
+      located : (r : Res Located) → answered (andThen (andThen r (λ a _. andThen (collect (locatedHead (l .debug) a) (formatOf l m) m (tileAt a)) (λ t _. placeIn (formatOf l m) t k m))) (λ p _. readAt l p m)) ≡ andThen r (λ a _. fetchAt l k a m)
+      located (ok a z) = collects a (collect (locatedHead (l .debug) a) (formatOf l m) m (tileAt a)) refl
       located (no n v) = refl
 
   feature-is : (p : Res Place) (lists left : FetchLists) (r : Fetch) → p ≡ featurePlace l i grid number k m → FetchedAt l p m lists r left → FeatureIs (fetchTile l i grid number k m) lists r left

@@ -6,13 +6,14 @@ use mathlib.Core.Path.{_≡_}
 use mathlib.Core.List.{List, []}
 use lib.Ieee.{Float}
 use Rattle.parsing.specs.Parse.{Res, ok, no, andThen, mapRes, Maybe}
-use Rattle.error.specs.Refusals.{refused}
+use Rattle.error.specs.Refusals.{lentRefused}
+use Rattle.error.specs.declared.LentRefusal.the-variants as lent-refusal
 use Rattle.error.specs.declared.Refusal.{Refusal}
 use Rattle.error.specs.declared.Refusal.the-variants.{Source}
 use Rattle.format.specs.Header.{Interval}
-use Rattle.format.specs.Index.{answer, answered, Grid, Located, locate}
+use Rattle.format.specs.Index.{answer, answered, Grid, Located, locate, tileAt}
 use Rattle.format.specs.Kinds.{tagKinds}
-use Rattle.format.specs.Rows.{rowsOfInterval}
+use Rattle.format.specs.Rows.{locatedHead}
 use Rattle.types.specs.declared.End.{End}
 use Rattle.types.specs.declared.End.the-variants as end
 use Rattle.tag_table.specs.Tables.{tableIn}
@@ -26,6 +27,8 @@ use Rattle.feature_place.specs.FeaturePlace.{Place, pointAt, wayAt, placeRes}
 use Rattle.feature_place.specs.declared.FeaturePlace.{FeaturePlace}
 use Rattle.feature_place.specs.declared.FeaturePlace.the-variants as place
 use Rattle.fetched.specs.Fetched.{walkedName, FetchLists, Fetched, fetchedPoint, fetchedWay, FetchReply, deliverAll}
+use Rattle.fetched.specs.declared.FetchEnd.{FetchEnd}
+use Rattle.fetched.specs.declared.FetchEnd.the-variants as fetch-end
 use Rattle.fetched.specs.declared.FetchedPoi.{FetchedPoi}
 use Rattle.fetched.specs.declared.FetchedWay.{FetchedWay}
 use Rattle.fetch_poi.specs.FetchPoi.{emptyPoi, poiStored}
@@ -45,23 +48,23 @@ abbrev pub fetchedAs : {A : Type 0} → (A → Feature) → Fetched A → Fetche
 fetchedAs f x = record { value = f (x .value); values = x .values }
 
 -- a stored feature as it is given, by the names of the tags; 17 for a number at or above the count
-abbrev pub givenBy : (debug : Bool) (rows : ℕ) (poiKinds wayKinds : List Kind) → (poiName wayName : ℕ → List ℕ) → collected.Feature (storedCollection (tileFormat debug rows poiKinds wayKinds)) → Res (Fetched Feature)
-givenBy debug rows poiKinds wayKinds poiName wayName (collected.aPoint p) = answer (fetchedAs aPoi (fetchedPoint poiName p))
-givenBy debug rows poiKinds wayKinds poiName wayName (collected.aWay w) = answer (fetchedAs aWay (fetchedWay wayName (w .head) (w .body)))
-givenBy debug rows poiKinds wayKinds poiName wayName collected.missing = no 17 []
+abbrev pub givenBy : (debug : Bool) (poiKinds wayKinds : List Kind) → (poiName wayName : ℕ → List ℕ) → collected.Feature (storedCollection (tileFormat debug poiKinds wayKinds)) → Res (Fetched Feature)
+givenBy debug poiKinds wayKinds poiName wayName (collected.aPoint p) = answer (fetchedAs aPoi (fetchedPoint poiName p))
+givenBy debug poiKinds wayKinds poiName wayName (collected.aWay w) = answer (fetchedAs aWay (fetchedWay wayName (w .head) (w .body)))
+givenBy debug poiKinds wayKinds poiName wayName collected.missing = no 17 []
 
-abbrev pub given : (l : TileLayout) (rows : ℕ) (m : List ℕ) → collected.Feature (storedCollection (formatOf l rows m)) → Res (Fetched Feature)
-given l rows m f =
-    givenBy (l .debug) rows (tagKinds (tableIn (l .«poi_tags»)) m) (tagKinds (tableIn (l .«way_tags»)) m) (walkedName (tableIn (l .«poi_tags»)) m)
+abbrev pub given : (l : TileLayout) (m : List ℕ) → collected.Feature (storedCollection (formatOf l m)) → Res (Fetched Feature)
+given l m f =
+    givenBy (l .debug) (tagKinds (tableIn (l .«poi_tags»)) m) (tagKinds (tableIn (l .«way_tags»)) m) (walkedName (tableIn (l .«poi_tags»)) m)
     (walkedName (tableIn (l .«way_tags»)) m) f
 
 -- feature k of the tile at a place (what the end of its stream says plays no part in it)
 abbrev pub fetchAt : TileLayout → (k : ℕ) → Located → List ℕ → Res (Fetched Feature)
 fetchAt l k a m =
-    andThen (collect (formatOf l (rowsOfInterval (a .interval .min) (a .interval .max)) m) m (a .entry .absolute)) (λ t _.
-    given l (rowsOfInterval (a .interval .min) (a .interval .max)) m (collected.fetch (storedTile t (record { subFile = 0; water = a .entry .water })) k))
+    andThen (collect (locatedHead (l .debug) a) (formatOf l m) m (tileAt a)) (λ t _.
+    given l m (collected.fetch (storedTile t (record { subFile = 0; water = a .entry .water })) k))
 
--- refused as collecting is (sub file, grid, tile, entry, interval, the tile's bytes), then 17
+-- refused as collecting is (sub file, grid, tile, its entry and the next one, interval, the tile's bytes), then 17
 unfoldable pub fetchTile : TileLayout → Maybe Interval → Grid → (number k : ℕ) → List ℕ → Res (Fetched Feature)
 fetchTile l i g n k m = andThen (locate (l .debug) i g n m) (λ a _. fetchAt l k a m)
 
@@ -69,7 +72,7 @@ fetchTile l i g n k m = andThen (locate (l .debug) i g n m) (λ a _. fetchAt l k
 abbrev pub featureRes : FetchAnswer → FetchedPoi → FetchedWay → Res Feature
 featureRes fetch-answer.Point p w = answer (aPoi p)
 featureRes fetch-answer.Way p w = answer (aWay w)
-featureRes (fetch-answer.Refused r) p w = refused r
+featureRes (fetch-answer.Refused r) p w = lentRefused r
 
 -- the point and the way beside it: empty where it is none
 abbrev pub poiIn : Res Feature → FetchedPoi
@@ -88,10 +91,10 @@ pub record FeatureIs (stored : Res (Fetched Feature)) (lent : FetchLists) (r : F
   pub poi : r .poi ≡ poiIn (deliverAll stored lent .answer)
   pub way : r .way ≡ wayIn (deliverAll stored lent .answer)
 
--- what the private functions make
-abbrev pub answerAt : FetchAnswer → End → FetchAnswer
-answerAt a (end.At n) = a
-answerAt a (end.Refused r) = fetch-answer.Refused r
+-- What private functions make, which need not be believed.
+abbrev pub answerAt : FetchAnswer → FetchEnd → FetchAnswer
+answerAt a (fetch-end.At n) = a
+answerAt a (fetch-end.Refused r) = fetch-answer.Refused r
 
 abbrev pub ofPoi : PoiFetch → Fetch
 ofPoi g = record { answer = answerAt fetch-answer.Point (g .end); poi = g .poi; way = emptyWay }
@@ -100,7 +103,7 @@ abbrev pub ofWay : WayFetch → Fetch
 ofWay g = record { answer = answerAt fetch-answer.Way (g .end); poi = emptyPoi; way = g .way }
 
 abbrev pub noFetch : Refusal → Fetch
-noFetch r = record { answer = fetch-answer.Refused r; poi = emptyPoi; way = emptyWay }
+noFetch r = record { answer = fetch-answer.Refused (lent-refusal.Refused r); poi = emptyPoi; way = emptyWay }
 
 -- the feature that is read from a place, and what is delivered of it
 abbrev pub readAt : TileLayout → Place → List ℕ → Res (Fetched Feature)

@@ -1,10 +1,12 @@
 // tile.rs: a feature of a collected tile, by its number: points from 0, ways behind them.
+use error::LentRefusal;
 use error::Refusal;
 use feature_place::FeaturePlace;
 use fetch_poi::PoiFetch;
 use fetch_way::WayFetch;
 use fetched::Fetch;
 use fetched::FetchAnswer;
+use fetched::FetchEnd;
 use fetched::FetchedPoi;
 use fetched::FetchedWay;
 use index::IntervalRead;
@@ -18,10 +20,10 @@ ghost use Rattle.fetch_way.specs.FetchWay.{lent};
 ghost use Rattle.fetch.specs.Fetch.{answerAt, ofPoi, ofWay, noFetch, fetchTile, wayEnd, OtherAt, FeatureIs};
 
 // An answer that came from a place, or the refusal there.
-fn answer_at(answer: FetchAnswer, end: End) -> FetchAnswer
+fn answer_at(answer: FetchAnswer, end: FetchEnd) -> FetchAnswer
     ensures { λ r. ⌜ r ≡ answerAt answer end ⌝ }
 {
-    let End::Refused(refusal) = end else {
+    let FetchEnd::Refused(refusal) = end else {
         return answer;
     };
     FetchAnswer::Refused(refusal)
@@ -55,7 +57,7 @@ fn no_fetch(refusal: Refusal) -> Fetch
     ensures { λ r. ⌜ r ≡ noFetch refusal ⌝ }
 {
     Fetch {
-        answer: FetchAnswer::Refused(refusal),
+        answer: FetchAnswer::Refused(LentRefusal::Refused(refusal)),
         poi: fetch_poi::empty_poi(),
         way: measured_way::empty_way(),
     }

@@ -9,7 +9,9 @@ use lib.Seq.{take-all}
 use borrow.Author.Tests.{lt-ltb, le-leb, lt-leb}
 use Rattle.parsing.specs.Parse.{Res, ok, no, mapRes, none}
 use Rattle.parsing.specs.Good.{no-ok}
-use Rattle.error.specs.Refusals.{refused, shortBuffer}
+use Rattle.error.specs.Refusals.{refused, lentRefused, shortBuffer}
+use Rattle.error.specs.declared.LentRefusal.{LentRefusal}
+use Rattle.error.specs.declared.LentRefusal.the-variants as lent-refusal
 use Rattle.error.specs.declared.Refusal.{Refusal}
 use Rattle.arithmetic.specs.Cut.{cut}
 use Rattle.arithmetic.proofs.CutLaws.{cut-fits}
@@ -27,11 +29,13 @@ use Rattle.poi.specs.declared.Poi.{Poi}
 use Rattle.poi.specs.declared.PoiRead.{PoiRead}
 use Rattle.fetched.specs.Fetched.{walkedName, buffered, featureTexts, noTexts, fetchedPoint, FetchReply, deliverAll}
 use Rattle.fetched.specs.declared.FeatureTexts.{FeatureTexts}
+use Rattle.fetched.specs.declared.FetchEnd.the-variants as fetch-end
 use Rattle.fetched.specs.declared.FetchedPoi.{FetchedPoi}
 use Rattle.fetched.proofs.FetchLaws.{is-refused, is-done}
 use Rattle.feature_texts.specs.FeatureTexts.{textsIn, writeTexts}
 use Rattle.feature_texts.specs.declared.TextParts.{TextParts}
-use Rattle.feature_texts.proofs.ShortLaws.{Known, known-by, PointTexts, point-texts, none-stored, texts-short, ids-within, ids-counted, ids-are}
+use Rattle.feature_texts.specs.Known.{PointTexts}
+use Rattle.feature_texts.proofs.ShortLaws.{Known, known-by, point-texts, none-stored, texts-short, ids-within, ids-counted, ids-are}
 use Rattle.feature_tags.specs.FeatureTags.{textsOf}
 use Rattle.fetch_poi.specs.FetchPoi.{poiParts, poiWith, emptyPoi, poiStored, bufferOnly, PoiFetchIs, PoiWritten}
 use Rattle.fetch_poi.specs.declared.PoiFetch.{PoiFetch}
@@ -72,11 +76,11 @@ module _ (t : TagTable) (p : Poi) (ids : List ℕ) (next : ℕ) (m b : List ℕ)
         ∙ ap (λ x. featureTexts name (take 15 (s .tagged .ids)) (s .name) x none) (w .houseNumber .same)
         ∙ ap (λ x. featureTexts name x (s .name) (s .houseNumber) none) (take-all 15 (s .tagged .ids) (w .few))
 
-    short-reply : length b < len → _≡_ {A = Reply} (record { answer = refused (shortBuffer len); lists = bufferOnly b }) (deliverAll (ok (fetchedPoint name s) next) (bufferOnly b))
+    short-reply : length b < len → _≡_ {A = Reply} (record { answer = lentRefused (shortBuffer len); lists = bufferOnly b }) (deliverAll (ok (fetchedPoint name s) next) (bufferOnly b))
     short-reply h =
         let x = measured in
         let y : length b < length bytes = omega arith in
-        ap (λ n. record { answer = refused (shortBuffer n); lists = bufferOnly b }) x ∙ rw (lt-leb (length bytes) (length b) y)
+        ap (λ n. record { answer = lentRefused (shortBuffer n); lists = bufferOnly b }) x ∙ rw (lt-leb (length bytes) (length b) y)
 
     done-reply : (left : List ℕ) (tx : FeatureTexts) (v : FetchedPoi) → len ≤ length b → left ≡ writeTexts (textsIn pr m ids) b → tx ≡ textsOf pr m ids → v ≡ poiWith p tx
         → _≡_ {A = Reply} (record { answer = ok v next; lists = bufferOnly left }) (deliverAll (ok (fetchedPoint name s) next) (bufferOnly b))
@@ -88,11 +92,11 @@ module _ (t : TagTable) (p : Poi) (ids : List ℕ) (next : ℕ) (m b : List ℕ)
         ∙ ap (λ c. record { answer = ok c next; lists = bufferOnly (front bytes b) }) (a ∙ ap (λ c. poiWith c tx) e ∙ ap (poiWith (poiOf s)) (described tx d))
         ∙ rw (le-leb (length bytes) (length b) y)
 
-  pub poi-short : (r : PoiFetch) (x : Refusal) → length b < len → x ≡ shortBuffer len → r .poi ≡ emptyPoi → r .end ≡ end.Refused x → PoiWritten t p ids next m b r b
-  poi-short r x h d v c = record { each = λ s e i w. is-refused emptyPoi _ (bufferOnly b) (r .poi) (r .end) (shortBuffer len) v (c ∙ ap end.Refused d) (short-reply s e i w h) }
+  pub poi-short : (r : PoiFetch) (x : LentRefusal) → length b < len → x ≡ shortBuffer len → r .poi ≡ emptyPoi → r .end ≡ fetch-end.Refused x → PoiWritten t p ids next m b r b
+  poi-short r x h d v c = record { each = λ s e i w. is-refused emptyPoi _ (bufferOnly b) (r .poi) (r .end) (shortBuffer len) v (c ∙ ap fetch-end.Refused d) (short-reply s e i w h) }
 
   pub poi-done : (left : List ℕ) (tx : FeatureTexts) (v : FetchedPoi) → len ≤ length b → left ≡ writeTexts (textsIn pr m ids) b → tx ≡ textsOf pr m ids → v ≡ poiWith p tx
-      → PoiWritten t p ids next m b (record { poi = v; end = end.At next }) left
+      → PoiWritten t p ids next m b (record { poi = v; end = fetch-end.At next }) left
   poi-done left tx v h u d a = record { each = λ s e i w. is-done emptyPoi _ (bufferOnly b) v next (bufferOnly left) (done-reply s e i w left tx v h u d a) }
 
 -- the point, read from its place
@@ -100,8 +104,8 @@ module _ (debug : Bool) (t : TagTable) (m : List ℕ) (at : ℕ) (g : PoiRead) (
   abbrev stored : Res Point
   stored = point debug (tagKinds (tableIn t) m) m at
 
-  pub fetch-no : (b : List ℕ) (r : PoiFetch) (x y : Refusal) → g .end ≡ end.Refused x → y ≡ endRefusal (g .end) → r .poi ≡ emptyPoi → r .end ≡ end.Refused y → PoiFetchIs (poiStored debug t m at) b r b
-  fetch-no b r x y h w v e = is-refused emptyPoi (poiStored debug t m at) (bufferOnly b) (r .poi) (r .end) x v (e ∙ ap end.Refused (w ∙ ap endRefusal h)) (go stored (ap (endRes (g .poi)) (sym h) ∙ q .answer))
+  pub fetch-no : (b : List ℕ) (r : PoiFetch) (x y : Refusal) → g .end ≡ end.Refused x → y ≡ endRefusal (g .end) → r .poi ≡ emptyPoi → r .end ≡ fetch-end.Refused (lent-refusal.Refused y) → PoiFetchIs (poiStored debug t m at) b r b
+  fetch-no b r x y h w v e = is-refused emptyPoi (poiStored debug t m at) (bufferOnly b) (r .poi) (r .end) (lent-refusal.Refused x) v (e ∙ ap (λ a. fetch-end.Refused (lent-refusal.Refused a)) (w ∙ ap endRefusal h)) (go stored (ap (endRes (g .poi)) (sym h) ∙ q .answer))
     where
       go : (s : Res Point) → refused x ≡ mapRes poiOf s → _≡_ {A = Reply} (record { answer = refused x; lists = bufferOnly b }) (deliverAll (mapRes (fetchedPoint (walkedName (tableIn t) m)) s) (bufferOnly b))
       go (ok s e) d = no-ok d

@@ -16,7 +16,7 @@ use Rattle.fetched.specs.Fetched.{walkedName, noTexts, Fetched, fetchedPoint, F
 use Rattle.fetched.specs.declared.FeatureTexts.{FeatureTexts}
 use Rattle.fetched.specs.declared.FetchedPoi.{FetchedPoi}
 use Rattle.feature_texts.specs.declared.TextParts.{TextParts}
-use Rattle.feature_texts.proofs.ShortLaws.{PointTexts}
+use Rattle.feature_texts.specs.Known.{PointTexts}
 use Rattle.fetch_poi.specs.declared.PoiFetch.{PoiFetch}
 
 -- the point at a place
@@ -51,7 +51,7 @@ emptyPoi = poiWith poi.emptyPoi noTexts
 abbrev pub PoiFetchIs : Res (Fetched FetchedPoi) → (buffer : List ℕ) → PoiFetch → (left : List ℕ) → Type 0
 PoiFetchIs stored buffer r left = FetchIs emptyPoi stored (bufferOnly buffer) (r .poi) (r .end) (bufferOnly left)
 
--- what the texts of a point are made of
+-- What private functions make, which need not be believed: what the texts of a point are made of
 abbrev pub poiParts : Poi → TagTable → TextParts
 poiParts p t = record { table = t; name = p .name; «house_number» = p .«house_number»; reference = Absent }
 

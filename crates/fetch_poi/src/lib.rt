@@ -1,7 +1,8 @@
 // poi.rs and tag.rs: a point as a fetch gives it, its texts in a lent buffer.
-use error::Refusal;
+use error::LentRefusal;
 use feature_texts::TextParts;
 use fetched::FeatureTexts;
+use fetched::FetchEnd;
 use fetched::FetchedPoi;
 use poi::OptionalElevation;
 use poi::Poi;
@@ -16,7 +17,7 @@ ghost use Rattle.fetch_poi.specs.FetchPoi.{poiParts, poiWith, emptyPoi, 
 // Where the fetch is refused, the point is empty.
 pub struct PoiFetch {
     pub poi: FetchedPoi,
-    pub end: End,
+    pub end: FetchEnd,
 }
 
 // What stands where there is no point.
@@ -39,12 +40,12 @@ pub fn empty_poi() -> FetchedPoi
     }
 }
 
-fn refused_poi(refusal: Refusal) -> PoiFetch
-    ensures { λ r. ⌜ (r .poi ≡ emptyPoi) × (r .end ≡ End.Refused refusal) ⌝ }
+fn refused_poi(refusal: LentRefusal) -> PoiFetch
+    ensures { λ r. ⌜ (r .poi ≡ emptyPoi) × (r .end ≡ FetchEnd.Refused refusal) ⌝ }
 {
     PoiFetch {
         poi: empty_poi(),
-        end: End::Refused(refusal),
+        end: FetchEnd::Refused(refusal),
     }
 }
 
@@ -99,7 +100,7 @@ fn write_poi(
     let texts = feature_tags::texts_of(map, ids, parts);
     PoiFetch {
         poi: poi_with(poi, texts),
-        end: End::At(next),
+        end: FetchEnd::At(next),
     }
 }
 
@@ -110,7 +111,7 @@ pub fn fetch_poi(map: &[u8], at: usize, debug: bool, table: TagTable, buffer: &m
     let got = poi::read_poi(map, at, debug, table);
     let end = got.end;
     let End::At(next) = end else {
-        return refused_poi(types::end_refusal(end));
+        return refused_poi(LentRefusal::Refused(types::end_refusal(end)));
     };
     let poi = got.poi;
     let tag_ids = poi.tag_ids;

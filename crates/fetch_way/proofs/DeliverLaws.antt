@@ -12,26 +12,25 @@ use borrow.Author.Needs.{needs}
 use borrow.Author.Tests.{leb-true, lt-ltb, le-leb}
 use Rattle.parsing.specs.Parse.{Res, ok, no, andThen, mapRes}
 use Rattle.parsing.specs.Good.{ok-val, ok-at, no-ok}
-use Rattle.error.specs.Refusals.{refused}
+use Rattle.error.specs.Refusals.{lentRefused}
 use Rattle.error.specs.declared.Lengths.{Lengths}
-use Rattle.error.specs.declared.Refusal.{Refusal}
+use Rattle.error.specs.declared.LentRefusal.{LentRefusal}
 use Rattle.format.specs.Kinds.{tagKinds}
 use Rattle.format.specs.Lent.{front, fits}
 use Rattle.format.specs.WayData.{concat}
 use Rattle.format.specs.Nodes.{latitudeOf, longitudeOf, initialNode, initialLatitudes, initialLongitudes}
 use Rattle.format.specs.BodyLists.{bodyLists}
 use Rattle.format.specs.Tile.{Head, head, Body, body}
-use Rattle.types.specs.Types.{endRes}
 use Rattle.types.specs.Beside.{viewOr}
-use Rattle.types.specs.declared.End.{End}
-use Rattle.types.specs.declared.End.the-variants as end
 use Rattle.types.specs.declared.TagTable.{TagTable}
 use Rattle.tag_table.specs.Tables.{tableIn}
 use Rattle.tagged.specs.TagIds.{tagIds}
 use Rattle.way.specs.Way.{bodyOf}
 use Rattle.way_data.specs.Reply as lists
 use Rattle.way_lists.specs.WayLists.{ListsWritten}
-use Rattle.fetched.specs.Fetched.{walkedName, FetchLists, FetchReply, fetchedWay, wayRecord, wayLists, writtenAll, neededAll, deliverAll}
+use Rattle.fetched.specs.Fetched.{walkedName, FetchLists, FetchReply, fetchedWay, wayRecord, wayLists, writtenAll, neededAll, deliverAll, endRes}
+use Rattle.fetched.specs.declared.FetchEnd.{FetchEnd}
+use Rattle.fetched.specs.declared.FetchEnd.the-variants as end
 use Rattle.fetched.specs.declared.FetchedWay.{FetchedWay}
 use Rattle.fetched.proofs.FetchLaws.{is-refused, is-done}
 use Rattle.feature_texts.specs.FeatureTexts.{textsIn, writeTexts}
@@ -53,11 +52,11 @@ module _ (debug : Bool) (t : TagTable) (room : Lengths) (m : List ℕ) (at : ℕ
   stored = head debug (tagKinds (tableIn t) m) m at
 
   -- of a way that is refused nothing is to be written
-  module _ (x : Refusal) (e : g .end ≡ end.Refused x) where
-    answered : refused x ≡ mapRes shownOf (measured room (toldWay debug t m at))
+  module _ (x : LentRefusal) (e : g .end ≡ end.Refused x) where
+    answered : lentRefused x ≡ mapRes shownOf (measured room (toldWay debug t m at))
     answered = ap (endRes (shown g)) (sym e) ∙ q .answer
 
-    empty-then : (r : Res Told) → refused x ≡ mapRes shownOf r → viewOr shownOf nothing r ≡ nothing
+    empty-then : (r : Res Told) → lentRefused x ≡ mapRes shownOf r → viewOr shownOf nothing r ≡ nothing
     empty-then (ok y n) d = no-ok d
     empty-then (no n v) d = refl
 
@@ -112,7 +111,7 @@ module _ (debug : Bool) (t : TagTable) (room : Lengths) (m : List ℕ) (at : ℕ
   pub ids-in : g .texts .«tag_ids» .count ≤ length (g .texts .«tag_ids» .ids)
   ids-in = go (g .end) refl
     where
-      go : (k : End) → g .end ≡ k → g .texts .«tag_ids» .count ≤ length (g .texts .«tag_ids» .ids)
+      go : (k : FetchEnd) → g .end ≡ k → g .texts .«tag_ids» .count ≤ length (g .texts .«tag_ids» .ids)
       go (end.At n) e = ids-within (g .texts .«tag_ids») (known n e .first .tagged .ids) (ids-told n e)
       go (end.Refused x) e = no-ids x e
 
@@ -128,28 +127,28 @@ module _ (debug : Bool) (t : TagTable) (m : List ℕ) (at : ℕ) (c : List ℕ) 
   given = lent c la lo il io bu
 
   -- what is refused when it is measured is refused when it is delivered
-  refused-as : (x : Refusal) → refused x ≡ mapRes shownOf (measured (roomOf given) (toldWay debug t m at)) → _≡_ {A = Answer} (record { answer = refused x; lists = given }) (deliverAll (wayStored debug t m at) given)
+  refused-as : (x : LentRefusal) → lentRefused x ≡ mapRes shownOf (measured (roomOf given) (toldWay debug t m at)) → _≡_ {A = Answer} (record { answer = lentRefused x; lists = given }) (deliverAll (wayStored debug t m at) given)
   refused-as x h = headed (head debug (tagKinds (tableIn t) m) m at) h
     where
-      tested : (s : Head) (e : ℕ) (d : Body) (n : ℕ) (b : Bool) → fitsIn (wayLists (walkedName (tableIn t) m) s d) (roomOf given) ≡ b → refused x ≡ mapRes shownOf (cond b (ok (toldOf t m s e d) n) (no 15 (neededAll (wayLists (walkedName (tableIn t) m) s d))))
-          → _≡_ {A = Answer} (record { answer = refused x; lists = given }) (deliverAll (ok (fetchedWay (walkedName (tableIn t) m) s d) n) given)
+      tested : (s : Head) (e : ℕ) (d : Body) (n : ℕ) (b : Bool) → fitsIn (wayLists (walkedName (tableIn t) m) s d) (roomOf given) ≡ b → lentRefused x ≡ mapRes shownOf (cond b (ok (toldOf t m s e d) n) (no 15 (neededAll (wayLists (walkedName (tableIn t) m) s d))))
+          → _≡_ {A = Answer} (record { answer = lentRefused x; lists = given }) (deliverAll (ok (fetchedWay (walkedName (tableIn t) m) s d) n) given)
       tested s e d n true f i = no-ok i
-      tested s e d n false f i = let o : refused {A = FetchedWay} x ≡ no 15 (neededAll (wayLists (walkedName (tableIn t) m) s d)) = cc in rw (f, o) refl
+      tested s e d n false f i = let o : lentRefused {A = FetchedWay} x ≡ no 15 (neededAll (wayLists (walkedName (tableIn t) m) s d)) = cc in rw (f, o) refl
 
-      bodied : (s : Head) (e : ℕ) (r : Res Body) → refused x ≡ mapRes shownOf (measured (roomOf given) (mapRes (toldOf t m s e) r)) → _≡_ {A = Answer} (record { answer = refused x; lists = given }) (deliverAll (mapRes (fetchedWay (walkedName (tableIn t) m) s) r) given)
+      bodied : (s : Head) (e : ℕ) (r : Res Body) → lentRefused x ≡ mapRes shownOf (measured (roomOf given) (mapRes (toldOf t m s e) r)) → _≡_ {A = Answer} (record { answer = lentRefused x; lists = given }) (deliverAll (mapRes (fetchedWay (walkedName (tableIn t) m) s) r) given)
       bodied s e (ok d n) i = tested s e d n (fitsIn (wayLists (walkedName (tableIn t) m) s d) (roomOf given)) refl i
-      bodied s e (no n v) i = let o : refused {A = FetchedWay} x ≡ no n v = cc in rw o
+      bodied s e (no n v) i = let o : lentRefused {A = FetchedWay} x ≡ no n v = cc in rw o
 
-      headed : (r : Res Head) → refused x ≡ mapRes shownOf (measured (roomOf given) (andThen r (λ h e. mapRes (toldOf t m h e) (body m e)))) → _≡_ {A = Answer} (record { answer = refused x; lists = given }) (deliverAll (andThen r (λ h e. mapRes (fetchedWay (walkedName (tableIn t) m) h) (body m e))) given)
+      headed : (r : Res Head) → lentRefused x ≡ mapRes shownOf (measured (roomOf given) (andThen r (λ h e. mapRes (toldOf t m h e) (body m e)))) → _≡_ {A = Answer} (record { answer = lentRefused x; lists = given }) (deliverAll (andThen r (λ h e. mapRes (fetchedWay (walkedName (tableIn t) m) h) (body m e))) given)
       headed (ok s e) i = bodied s e (body m e) i
-      headed (no n v) i = let o : refused {A = FetchedWay} x ≡ no n v = cc in rw o
+      headed (no n v) i = let o : lentRefused {A = FetchedWay} x ≡ no n v = cc in rw o
 
   -- what was written
   module _ (c′ : List ℕ) (la′ lo′ il′ io′ : List Float) (bu′ : List ℕ) (w : ListsWritten m (g .lists) c la lo il io c′ la′ lo′ il′ io′) (u : bu′ ≡ textsWritten m (g .texts) bu) where
     abbrev left : FetchLists
     left = lent c′ la′ lo′ il′ io′ bu′
 
-    not-fetched : (x : Refusal) → g .end ≡ end.Refused x → WayFetchIs (wayStored debug t m at) given (answerOf g) left
+    not-fetched : (x : LentRefusal) → g .end ≡ end.Refused x → WayFetchIs (wayStored debug t m at) given (answerOf g) left
     not-fetched x e =
         let z : shown g ≡ nothing = empty debug t (roomOf given) m at g q x e in
         let no-text : bu′ ≡ bu = u ∙ ap (λ (y : Shown). textsWritten m (y .texts) bu) z ∙ rw (le-leb 0 (length bu) (omega arith)) in
@@ -211,7 +210,7 @@ module _ (debug : Bool) (t : TagTable) (m : List ℕ) (at : ℕ) (c : List ℕ) 
           let o = length-map (concat (d .dataBlocks)) (λ b. initialNode (map latitudeOf b)) in
           let a = length-map (concat (d .dataBlocks)) (λ b. initialNode (map longitudeOf b)) in
           let there : g .lists .present ≡ true = ap (λ (a : Shown). a .lists .present) (k .shows) in
-          subst (λ (z : End). WayFetchIs (wayStored debug t m at) given (record { way = g .way; end = z }) left) (sym e)
+          subst (λ (z : FetchEnd). WayFetchIs (wayStored debug t m at) given (record { way = g .way; end = z }) left) (sym e)
           (is-done emptyWay (wayStored debug t m at) given (g .way) n left
           (ap (λ l. record { answer = ok (g .way) n; lists = l }) (lists-written m (g .lists) c la lo il io c′ la′ lo′ il′ io′ w d n there (k .body) z lists-fit bu′ (omega arith) (omega arith))
           ∙ ap (λ l. record { answer = ok (g .way) n; lists = listsOf d c la lo il io l }) text-written
@@ -222,6 +221,6 @@ module _ (debug : Bool) (t : TagTable) (m : List ℕ) (at : ℕ) (c : List ℕ) 
     pub way-fetched : (r : WayFetch) → r ≡ answerOf g → WayFetchIs (wayStored debug t m at) given r left
     way-fetched r a = subst (λ (y : WayFetch). WayFetchIs (wayStored debug t m at) given y left) (sym a) (go (g .end) refl)
       where
-        go : (k : End) → g .end ≡ k → WayFetchIs (wayStored debug t m at) given (answerOf g) left
+        go : (k : FetchEnd) → g .end ≡ k → WayFetchIs (wayStored debug t m at) given (answerOf g) left
         go (end.At n) e = fetched n e
         go (end.Refused x) e = not-fetched x e

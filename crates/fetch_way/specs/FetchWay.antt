@@ -27,7 +27,7 @@ lent counts lats lons initialLats initialLons buffer = record {
 abbrev pub WayFetchIs : Res (Fetched FetchedWay) → (lent : FetchLists) → WayFetch → (left : FetchLists) → Type 0
 WayFetchIs stored l r left = FetchIs emptyWay stored l (r .way) (r .end) left
 
--- what the private functions are asked and leave: the lengths of the lists, the answer, and the buffer
+-- What private functions are asked and leave, which need not be believed: the lengths of the lists, the answer, and the buffer
 abbrev pub roomOf : FetchLists → Lengths
 roomOf l = record {
   list1 = length (l .lists .counts);

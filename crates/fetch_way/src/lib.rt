@@ -1,9 +1,9 @@
 // way.rs and tag.rs: a way as a fetch gives it, its nodes and its blocks' initial positions in lent lists, its texts in a lent buffer.
 use error::Lengths;
+use fetched::FetchEnd;
 use fetched::FetchedWay;
 use measured_way::MeasuredWay;
 use measured_way::TextPlan;
-use types::End;
 use types::TagTable;
 ghost use mathlib.Core.Path.{_≡_};
 ghost use Prim.Native.Nat.{_≤_};
@@ -14,7 +14,7 @@ ghost use Rattle.fetch_way.specs.FetchWay.{lent, WayFetchIs, answerOf, t
 // Where the fetch is refused, the way is empty.
 pub struct WayFetch {
     pub way: FetchedWay,
-    pub end: End,
+    pub end: FetchEnd,
 }
 
 fn answer_of(got: MeasuredWay) -> WayFetch

@@ -4,34 +4,34 @@
 -- positions). `nameOf` gives the stored bytes of a tag's name by its id.
 use Prim.Native.Nat.{ℕ}
 use mathlib.Core.Path.{_≡_}
-use mathlib.Core.Bool.{Bool, _&&_, cond}
+use mathlib.Core.Bool.{Bool, _&&_}
 use mathlib.Core.List.{List, [], _++_, map}
 use lib.Dec.{leb}
 use lib.Ieee.{Float}
 use lib.ListN.{length, replicate}
 use Rattle.parsing.specs.Parse.{Res, ok, no, Part, Maybe, none, some, nth}
-use Rattle.error.specs.Refusals.{lengths}
+use Rattle.error.specs.Refusals.{lentRefused, lengths}
 use Rattle.arithmetic.specs.Cut.{cut}
 use Rattle.text.specs.Utf8.{replaced}
 use Rattle.tag.specs.Tag.{newTag, tagOf, keyBytes}
-use Rattle.tag.specs.declared.Tag.{Tag}
 use Rattle.tag.specs.declared.TextKey.{TextKey}
 use Rattle.tag.specs.declared.TextKey.the-variants.{Name, HouseNumber, Ref}
-use Rattle.format.specs.Lent.{front, LentLists, fits, written}
+use Rattle.format.specs.Lent.{front, LentLists, Replied, fits, written, deliverTo}
 use Rattle.format.specs.WayData.{concat, nodeCount}
 use Rattle.format.specs.Nodes.{initialLatitudes, initialLongitudes}
 use Rattle.format.specs.BodyLists.{bodyLists}
 use Rattle.format.specs.TagTable.{Table, tagText}
 use Rattle.format.specs.Tile.{Point, Head, Body, doubleDelta}
-use Rattle.types.specs.Types.{endRes, optionalSpan, nodePosition, optionalPosition}
+use Rattle.types.specs.Types.{optionalSpan, nodePosition, optionalPosition}
 use Rattle.types.specs.Beside.{viewOr}
-use Rattle.types.specs.declared.End.{End}
 use Rattle.tagged.specs.TagIds.{tagIds}
 use Rattle.poi.specs.Poi.{optionalElevation}
 use Rattle.fetched.specs.declared.TagText.{TagText}
 use Rattle.fetched.specs.declared.OptionalText.{OptionalText}
 use Rattle.fetched.specs.declared.OptionalText.the-variants.{Absent, At}
 use Rattle.fetched.specs.declared.FeatureTexts.{FeatureTexts}
+use Rattle.fetched.specs.declared.FetchEnd.{FetchEnd}
+use Rattle.fetched.specs.declared.FetchEnd.the-variants as end
 use Rattle.fetched.specs.declared.FetchedPoi.{FetchedPoi}
 use Rattle.fetched.specs.declared.FetchedWay.{FetchedWay}
 
@@ -172,19 +172,20 @@ neededAll v =
     (length (v .initialLongitudes)) (length (v .buffer))
 
 -- an answer, and the lists after the call
-pub record FetchReply (A : Type 0) : Type 0 where
-  pub answer : Res A
-  pub lists : FetchLists
+abbrev pub FetchReply : Type 0 → Type 0
+FetchReply A = Replied FetchLists (Res A)
 
--- the feature with its lists written; 15 if a list is shorter, which comes only when nothing else is refused. With any refusal the
--- lists are as before the call.
+-- the feature with its lists written, or 15
 abbrev pub deliverAll : {A : Type 0} → Res (Fetched A) → (lent : FetchLists) → FetchReply A
-deliverAll (ok f e) l =
-    cond (fitsAll (f .values) l) (record { answer = ok (f .value) e; lists = writtenAll (f .values) l }) (record { answer = no 15 (neededAll (f .values)); lists = l })
-deliverAll (no n v) l = record { answer = no n v; lists = l }
+deliverAll r l = deliverTo (record { room = fitsAll; put = writtenAll; need = neededAll }) (λ f. f .value) (λ f. f .values) r l
+
+-- a value that stands beside the place where its feature ends
+abbrev pub endRes : {A : Type 0} → A → FetchEnd → Res A
+endRes a (end.At n) = ok a n
+endRes a (end.Refused r) = lentRefused r
 
 -- the answer to a call, where the definition says `stored`: the value beside its end (an enum holds no array), and what the lists hold
 -- then; where the call is refused, the value is `empty`
-pub record FetchIs {A : Type 0} (empty : A) (stored : Res (Fetched A)) (lent : FetchLists) (value : A) (end : End) (left : FetchLists) : Type 0 where
+pub record FetchIs {A : Type 0} (empty : A) (stored : Res (Fetched A)) (lent : FetchLists) (value : A) (end : FetchEnd) (left : FetchLists) : Type 0 where
   pub reply : _≡_ {A = FetchReply A} (record { answer = endRes value end; lists = left }) (deliverAll stored lent)
   pub whole : value ≡ viewOr (λ v. v) empty (deliverAll stored lent .answer)

@@ -1,5 +1,5 @@
 // What is handed out of a fetched feature: records, and their definitions in specs/. No code.
-use error::Refusal;
+use error::LentRefusal;
 use poi::OptionalElevation;
 use tag::Tag;
 use tagged::TagIds;
@@ -31,29 +31,35 @@ pub struct FeatureTexts {
 pub struct FetchedPoi {
     pub signature: OptionalSpan,
     pub position: Position,
-    pub layer: i8,
     pub tag_ids: TagIds,
     pub texts: FeatureTexts,
     pub elevation: OptionalElevation,
+    pub layer: i8,
 }
 
 // A fetched way. `blocks` and `nodes` count what stands in the lent lists.
 pub struct FetchedWay {
     pub signature: OptionalSpan,
-    pub bitmap: u16,
-    pub layer: i8,
     pub tag_ids: TagIds,
     pub texts: FeatureTexts,
     pub label_position: OptionalPosition,
-    pub double_delta: bool,
     pub blocks: u64,
     pub nodes: u64,
+    pub bitmap: u16,
+    pub layer: i8,
+    pub double_delta: bool,
+}
+
+// Where a feature that is fetched ends, or why there is none.
+pub enum FetchEnd {
+    At(usize),
+    Refused(LentRefusal),
 }
 
 pub enum FetchAnswer {
     Point,
     Way,
-    Refused(Refusal),
+    Refused(LentRefusal),
 }
 
 // The point and the way stand beside the answer; each is empty where it is not the answer.

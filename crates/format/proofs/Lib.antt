@@ -1,2 +1,5 @@
 pub mod TagLaws
+pub mod IntervalLaws
 pub mod CutOffLaws
+pub mod EmptyFigures
+pub mod EmptyLaws

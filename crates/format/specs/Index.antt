@@ -3,10 +3,10 @@
 use Prim.Native.Nat.{ℕ, zero, suc, _+_, _*_, _-_, _%_, _^_}
 use mathlib.Core.Bool.{Bool, true, false, cond, _&&_}
 use mathlib.Core.List.{List, [], _∷_}
-use lib.Dec.{leb, ltb}
+use lib.Dec.{leb, ltb, eqb}
 use lib.IntN.{ℤ, natAbs, _-ℤ_}
 use lib.Signed.{leZ}
-use Rattle.parsing.specs.Parse.{Res, ok, no, Parser, andThen, mapRes, _>>=_, return, Maybe, none, some}
+use Rattle.parsing.specs.Parse.{Res, ok, no, Parser, andThen, mapRes, _>>=_, return, fail, pick, Maybe, none, some}
 use Rattle.parsing.specs.Good.{Good, goods}
 use Rattle.byte_source.specs.BigEndian.{bigEndian, bytes}
 use Rattle.format.specs.Header.{Interval, between}
@@ -95,31 +95,75 @@ entry start = do
 abbrev pub entryAt : Bool → ℕ → ℕ → ℕ
 entryAt d start tile = start + cond d 16 0 + 5 * tile
 
+-- grid (14), tile (8), then what is read of the tile, by the number of the grid's tiles
+abbrev pub ofTile : {A : Type 0} → Grid → (tile : ℕ) → ((tiles : ℕ) → Parser A) → Parser A
+ofTile g tile p m i = andThen (gridTiles g) (λ n _. cond (ltb tile n) (p n m i) (no 8 []))
+
 -- grid (14), tile (8), entry (19), in the sub file with this start; d is the debug flag
 unfoldable pub entryIn : Bool → ℕ → Grid → ℕ → List ℕ → Res Entry
-entryIn d start g tile m =
-    andThen (gridTiles g) (λ n _. cond (ltb tile n) (entry start m (entryAt d start tile)) (no 8 []))
+entryIn d start g tile m = ofTile g tile (λ _. entry start) m (entryAt d start tile)
 
 -- sub file (8) first
 unfoldable pub tileIndexEntry : Bool → Maybe Interval → Grid → ℕ → List ℕ → Res Entry
 tileIndexEntry d i g tile m = inSubFile i (no 8 []) (λ z. entryIn d (z .start) g tile m)
 
--- a tile's interval and entry
+-- Where the next tile starts, from the sub file's start (request 5 of document 02): its entry stands right behind the tile's own. For
+-- the last tile it is the sub file's size, and no next entry is read.
+unfoldable pub nextOffset : Interval → (last : Bool) → Parser ℕ
+nextOffset z last =
+    pick last (return (z .size)) (do
+      e ← entry (z .start)
+      return (e .offset))
+
+-- a tile's interval and entry; it is marked empty if the next tile has the same offset, whatever the two water bits are
 pub record Located : Type 0 where
   pub interval : Interval
   pub entry : Entry
+  pub empty : Bool
 
--- grid (14), tile (8), entry (19), and last the interval (13)
+-- the tile's entry (19), the next one (19), and last the interval (13)
+unfoldable pub locatedEntry : Interval → (last : Bool) → Parser Located
+locatedEntry z last = do
+  e ← entry (z .start)
+  n ← nextOffset z last
+  pick (leb (z .min) (z .max)) (return (record { interval = z; entry = e; empty = eqb (e .offset) n })) (fail 13 [])
+
+-- grid (14) and tile (8) first
+unfoldable pub located : Grid → (tile : ℕ) → Interval → Parser Located
+located g tile z = ofTile g tile (λ n. locatedEntry z (eqb (tile + 1) n))
+
 unfoldable pub locateIn : Bool → Interval → Grid → ℕ → List ℕ → Res Located
-locateIn d z g tile m =
-    andThen (entryIn d (z .start) g tile m) (λ n _.
-    cond (leb (z .min) (z .max)) (answer (record { interval = z; entry = n })) (no 13 []))
+locateIn d z g tile m = answered (located g tile z m (entryAt d (z .start) tile))
 
 -- sub file (8) first
 unfoldable pub locate : Bool → Maybe Interval → Grid → ℕ → List ℕ → Res Located
 locate d i g tile m = inSubFile i (no 8 []) (λ z. locateIn d z g tile m)
 
+-- the tile's first byte; an empty tile has none, and 0 stands there
+abbrev pub tileAt : Located → ℕ
+tileAt l = cond (l .empty) 0 (l .entry .absolute)
+
 -- the laws
 pub entry-good : (start : ℕ) → Good (entry start)
 unfolding entry
 entry-good start = search bytes
+
+pub nextOffset-good : (z : Interval) (last : Bool) → Good (nextOffset z last)
+unfolding nextOffset
+nextOffset-good z last = search (goods, entry-good)
+
+pub locatedEntry-good : (z : Interval) (last : Bool) → Good (locatedEntry z last)
+unfolding locatedEntry
+locatedEntry-good z last = search (goods, entry-good, nextOffset-good)
+
+pub located-good : (g : Grid) (tile : ℕ) (z : Interval) → Good (located g tile z)
+unfolding located gridTiles
+located-good g tile z = in-grid (goodGrid g)
+  where
+    in-tile : (c : Bool) → Good {A = Located} (λ m i. cond c (locatedEntry z (eqb (tile + 1) (tilesOf g)) m i) (no 8 []))
+    in-tile true = locatedEntry-good z (eqb (tile + 1) (tilesOf g))
+    in-tile false = search goods
+
+    in-grid : (c : Bool) → Good {A = Located} (λ m i. andThen (cond c (answer (tilesOf g)) (no 14 [])) (λ n _. cond (ltb tile n) (locatedEntry z (eqb (tile + 1) n) m i) (no 8 [])))
+    in-grid true = in-tile (ltb tile (tilesOf g))
+    in-grid false = search goods

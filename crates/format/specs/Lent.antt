@@ -23,9 +23,12 @@ pub record LentLists : Type 0 where
   pub longitudes : List Float
 
 -- an answer, and the lent lists after the call
-pub record Reply (A : Type 0) : Type 0 where
+pub record Replied (L A : Type 0) : Type 0 where
   pub answer : A
-  pub lists : LentLists
+  pub lists : L
+
+abbrev pub Reply : Type 0 → Type 0
+Reply A = Replied LentLists A
 
 -- no lent list is shorter than what is to go to it
 abbrev pub fits : (values lent : LentLists) → Bool
@@ -45,12 +48,22 @@ written v l = record {
 abbrev pub needed : LentLists → List ℕ
 needed v = lengths (length (v .counts)) (length (v .latitudes)) (length (v .longitudes)) 0 0 0
 
+-- The rule for lists of any kind: whether the values fit, what is written then, and the lengths that refusal 15 gives else.
+pub record Lending (L : Type 0) : Type 0 where
+  pub room : (values lent : L) → Bool
+  pub put : (values lent : L) → L
+  pub need : (values : L) → List ℕ
+
 -- What was decoded whole: its value as it is shown, and its lists written; 15 if a lent list is shorter, which comes only when nothing
 -- else is refused. With any refusal the lists are as before the call.
+abbrev pub deliverTo : {L A B : Type 0} → Lending L → (show : A → B) → (values : A → L) → Res A → (lent : L) → Replied L (Res B)
+deliverTo k show values (ok a e) l =
+    cond (k .room (values a) l) (record { answer = ok (show a) e; lists = k .put (values a) l }) (record { answer = no 15 (k .need (values a)); lists = l })
+deliverTo k show values (no n v) l = record { answer = no n v; lists = l }
+
+-- of a way's body
 abbrev pub deliver : {A B : Type 0} → (show : A → B) → (values : A → LentLists) → Res A → (lent : LentLists) → Reply (Res B)
-deliver show values (ok a e) l =
-    cond (fits (values a) l) (record { answer = ok (show a) e; lists = written (values a) l }) (record { answer = no 15 (needed (values a)); lists = l })
-deliver show values (no n v) l = record { answer = no n v; lists = l }
+deliver show values r l = deliverTo (record { room = fits; put = written; need = needed }) show values r l
 
 -- as a run of stores leaves it
 pub sets-front : {A : Type 0} (xs l : List A) → length xs ≤ length l → sets l 0 xs ≡ front xs l

@@ -1,6 +1,7 @@
 pub mod CutOff
 pub mod Header
 pub mod TagTable
+pub mod IntervalTable
 pub mod Kinds
 pub mod Index
 pub mod WayData

@@ -3,7 +3,7 @@
 use mathlib.Core.Bool.{cond}
 use Rattle.parsing.specs.Parse.{Part, Maybe, none, some}
 use Rattle.text.specs.Utf8.{valid, streamedText}
-use Rattle.format.specs.Tile.{Point, WayFields}
+use Rattle.format.specs.Tile.{Point}
 
 abbrev pub streamedPart : Part → Part
 streamedPart p = record { start = p .start; size = cond (valid (p .bytes)) (p .size) 0; bytes = streamedText (p .bytes) }
@@ -20,13 +20,4 @@ streamedPoint p = record {
   name = streamedMaybe (p .name);
   houseNumber = streamedMaybe (p .houseNumber);
   elevation = p .elevation;
-}
-
-abbrev pub streamedFields : WayFields → WayFields
-streamedFields f = record {
-  name = streamedMaybe (f .name);
-  houseNumber = streamedMaybe (f .houseNumber);
-  reference = streamedMaybe (f .reference);
-  label = f .label;
-  flags = f .flags;
 }

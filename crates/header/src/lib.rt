@@ -1,4 +1,5 @@
-// header.rs: the file header.
+// header.rs: the file header. It is read without its intervals, which stand last; `with_intervals` adds them.
+use byte_source::ByteRead;
 use byte_source::Span;
 use error::Refusal;
 use header_fields::StoredBox;
@@ -11,27 +12,44 @@ use header_parts::OptionsRead;
 use tag_table::TagTableRead;
 use types::BoundingBox;
 use types::End;
+use types::HeaderFields;
 use types::MapHeader;
 use types::OptionalByte;
 use types::OptionalPosition;
 use types::OptionalSpan;
 use types::Position;
 use types::TagTable;
+use types::ZoomInterval;
 use utils::Microdegrees;
-use zoom_intervals::IntervalsRead;
-use zoom_intervals::ZoomIntervals;
 ghost use mathlib.Core.Path.{_≡_};
+ghost use Rattle.parsing.specs.Parse.{andThen};
 ghost use Rattle.format.specs.Header.{tables, header};
 ghost use Rattle.types.specs.Types.{nodePosition, optionalPosition};
+ghost use Rattle.types.specs.Beside.{Beside};
 ghost use Rattle.header_fields.specs.Fields.{placeOf, boxOf};
 ghost use Rattle.header_parts.specs.Parts.{frontOf, optionsOf, maybePlace};
-ghost use Rattle.header.specs.HeaderView.{boundingBox, emptyHeader, HeaderIs};
+ghost use Rattle.header.specs.HeaderView.{boundingBox, withIntervals, emptyHeader, fieldsRes, fieldsRefusal, FieldsAre, HeaderIs, whole};
 ghost use Rattle.header.specs.Made.{Made, Checked};
+
+// The header without its intervals, with the place behind it.
+pub enum FieldsRead {
+    Value(HeaderFields, usize),
+    Refused(Refusal),
+}
 
 // The header, with the place behind it; beside a refusal an empty header.
 pub struct HeaderRead {
     pub header: MapHeader,
     pub end: End,
+}
+
+pub fn fields_refusal(got: FieldsRead) -> Refusal
+    ensures { λ r. ⌜ r ≡ fieldsRefusal got ⌝ }
+{
+    match got {
+        FieldsRead::Refused(r) => r,
+        FieldsRead::Value(_, _) => Refusal::Source,
+    }
 }
 
 fn degrees_of(p: StoredPosition) -> Position
@@ -61,15 +79,15 @@ fn optional_position_of(p: OptionalStored) -> OptionalPosition
     }
 }
 
-// The header of its parts.
-fn header_of(
+// The fields of the header's parts.
+fn fields_of(
     front: Front,
     options: Options,
     poi_tags: TagTable,
     way_tags: TagTable,
-    zooms: ZoomIntervals,
-) -> MapHeader
-    ensures { λ r. ⌜ Made front options «poi_tags» «way_tags» zooms r ⌝ }
+    num_zoom_intervals: u8,
+) -> HeaderFields
+    ensures { λ r. ⌜ Made front options «poi_tags» «way_tags» «num_zoom_intervals» r ⌝ }
 {
     let stored = front.bounding_box;
     let start = options.start_position;
@@ -80,8 +98,7 @@ fn header_of(
     let language_preference = options.language_preference;
     let comment = options.comment;
     let created_by = options.created_by;
-    let zoom_interval_configuration = zooms.intervals;
-    MapHeader {
+    HeaderFields {
         magic: Span { start: 0, size: 20 },
         header_size: front.preamble.header_size,
         file_version: front.preamble.file_version,
@@ -98,9 +115,58 @@ fn header_of(
         created_by,
         poi_tags,
         way_tags,
-        num_zoom_intervals: zooms.count,
-        zoom_interval_configuration,
+        num_zoom_intervals,
     }
+}
+
+// The fields of the header's parts, once the intervals were passed. Header size 0 is refused only then.
+fn checked_fields(
+    front: Front,
+    options: Options,
+    poi_tags: TagTable,
+    way_tags: TagTable,
+    got: ByteRead,
+) -> FieldsRead
+    ensures { λ r. ⌜ Checked front options «poi_tags» «way_tags» got r ⌝ }
+{
+    let ByteRead::Value(count, at) = got else {
+        return FieldsRead::Refused(byte_source::byte_refusal(got));
+    };
+    if front.preamble.header_size == 0 {
+        return FieldsRead::Refused(Refusal::InvalidHeaderSize);
+    }
+    let fields = fields_of(front, options, poi_tags, way_tags, count);
+    FieldsRead::Value(fields, at)
+}
+
+// What stands behind the optional fields.
+fn read_tables(map: &[u8], at: usize, front: Front, options: Options) -> FieldsRead
+    ensures { λ r. ⌜ FieldsAre (tables (frontOf (now (map .entry)) front) (optionsOf (now (map .entry)) options) (now (map .entry)) at) r ⌝ }
+{
+    let got = tag_table::read_tag_table(map, at);
+    let TagTableRead::Value(poi_tags, at) = got else {
+        return FieldsRead::Refused(tag_table::tag_table_refusal(got));
+    };
+    let got = tag_table::read_tag_table(map, at);
+    let TagTableRead::Value(way_tags, at) = got else {
+        return FieldsRead::Refused(tag_table::tag_table_refusal(got));
+    };
+    let got = zoom_intervals::pass_intervals(map, at);
+    checked_fields(front, options, poi_tags, way_tags, got)
+}
+
+pub fn read_fields(map: &[u8]) -> FieldsRead
+    ensures { λ r. ⌜ FieldsAre (header (now (map .entry)) 0) r ⌝ }
+{
+    let got = header_parts::read_front(map, 0);
+    let FrontRead::Value(front, at) = got else {
+        return FieldsRead::Refused(header_parts::front_refusal(got));
+    };
+    let got = header_parts::read_options(map, front.flags, at);
+    let OptionsRead::Value(options, at) = got else {
+        return FieldsRead::Refused(header_parts::options_refusal(got));
+    };
+    read_tables(map, at, front, options)
 }
 
 fn empty_header() -> MapHeader
@@ -135,7 +201,7 @@ fn empty_header() -> MapHeader
 }
 
 // The answer where there is no header.
-pub fn refused_header(refusal: Refusal) -> HeaderRead
+fn refused_header(refusal: Refusal) -> HeaderRead
     ensures { λ r. ⌜ (r .header ≡ emptyHeader) × (r .end ≡ End.Refused refusal) ⌝ }
 {
     let header = empty_header();
@@ -145,57 +211,64 @@ pub fn refused_header(refusal: Refusal) -> HeaderRead
     }
 }
 
-// The header of its parts, once the intervals were read. Header size 0 is refused only then.
-fn checked_header(
-    front: Front,
-    options: Options,
-    poi_tags: TagTable,
-    way_tags: TagTable,
-    got: IntervalsRead,
-) -> HeaderRead
-    ensures { λ r. ⌜ Checked front options «poi_tags» «way_tags» got r ⌝ }
+fn header_of(fields: HeaderFields, zoom_interval_configuration: [ZoomInterval; 255]) -> MapHeader
+    ensures { λ r. ⌜ r ≡ withIntervals fields «zoom_interval_configuration» ⌝ }
 {
-    let end = got.end;
+    let magic = fields.magic;
+    let bounding_box = fields.bounding_box;
+    let projection = fields.projection;
+    let map_start_position = fields.map_start_position;
+    let start_zoom_level = fields.start_zoom_level;
+    let language_preference = fields.language_preference;
+    let comment = fields.comment;
+    let created_by = fields.created_by;
+    let poi_tags = fields.poi_tags;
+    let way_tags = fields.way_tags;
+    MapHeader {
+        magic,
+        header_size: fields.header_size,
+        file_version: fields.file_version,
+        file_size: fields.file_size,
+        creation_date: fields.creation_date,
+        bounding_box,
+        tile_size: fields.tile_size,
+        projection,
+        flags: fields.flags,
+        map_start_position,
+        start_zoom_level,
+        language_preference,
+        comment,
+        created_by,
+        poi_tags,
+        way_tags,
+        num_zoom_intervals: fields.num_zoom_intervals,
+        zoom_interval_configuration,
+    }
+}
+
+// A header that was read, with its intervals.
+pub fn with_intervals(map: &[u8], got: FieldsRead) -> HeaderRead
+    ensures { λ r. ⌜ Beside (λ h. h) emptyHeader (andThen (fieldsRes got) (whole (now (map .entry)))) (r .header) (r .end) ⌝ }
+{
+    let FieldsRead::Value(fields, at) = got else {
+        return refused_header(fields_refusal(got));
+    };
+    let table = zoom_intervals::table_before(at, fields.num_zoom_intervals);
+    let read = zoom_intervals::fill_intervals(map, table.start, table.count);
+    let end = read.end;
     let End::At(at) = end else {
         return refused_header(types::end_refusal(end));
     };
-    if front.preamble.header_size == 0 {
-        return refused_header(Refusal::InvalidHeaderSize);
-    }
-    let zooms = got.zooms;
-    let header = header_of(front, options, poi_tags, way_tags, zooms);
+    let intervals = read.zooms.intervals;
+    let header = header_of(fields, intervals);
     HeaderRead {
         header,
         end: End::At(at),
     }
 }
 
-// What stands behind the optional fields.
-fn read_tables(map: &[u8], at: usize, front: Front, options: Options) -> HeaderRead
-    ensures { λ r. ⌜ HeaderIs (tables (frontOf (now (map .entry)) front) (optionsOf (now (map .entry)) options) (now (map .entry)) at) r ⌝ }
-{
-    let got = tag_table::read_tag_table(map, at);
-    let TagTableRead::Value(poi_tags, at) = got else {
-        return refused_header(tag_table::tag_table_refusal(got));
-    };
-    let got = tag_table::read_tag_table(map, at);
-    let TagTableRead::Value(way_tags, at) = got else {
-        return refused_header(tag_table::tag_table_refusal(got));
-    };
-    let got = zoom_intervals::read_intervals(map, at);
-    checked_header(front, options, poi_tags, way_tags, got)
-}
-
 pub fn read_from_file(map: &[u8]) -> HeaderRead
     ensures { λ r. ⌜ HeaderIs (header (now (map .entry)) 0) r ⌝ }
 {
-    let got = header_parts::read_front(map, 0);
-    let FrontRead::Value(front, at) = got else {
-        return refused_header(header_parts::front_refusal(got));
-    };
-    let got = header_parts::read_options(map, front.flags, at);
-    let OptionsRead::Value(options, at) = got else {
-        return refused_header(header_parts::options_refusal(got));
-    };
-    read_tables(map, at, front, options)
+    with_intervals(map, read_fields(map))
 }

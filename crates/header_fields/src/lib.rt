@@ -33,10 +33,10 @@ pub enum StoredBoxRead {
 }
 
 pub struct Preamble {
-    pub header_size: u32,
-    pub file_version: u32,
     pub file_size: u64,
     pub creation_date: u64,
+    pub header_size: u32,
+    pub file_version: u32,
 }
 
 pub enum PreambleRead {

@@ -21,8 +21,8 @@ ghost use Rattle.header_parts.specs.Parts.{frontRes, frontRefusal, optio
 pub struct Front {
     pub preamble: Preamble,
     pub bounding_box: StoredBox,
-    pub tile_size: u16,
     pub projection: Span,
+    pub tile_size: u16,
     pub flags: u8,
 }
 
@@ -48,10 +48,10 @@ pub enum OptionalByteRead {
 
 pub struct Options {
     pub start_position: OptionalStored,
-    pub start_zoom_level: OptionalByte,
     pub language_preference: OptionalSpan,
     pub comment: OptionalSpan,
     pub created_by: OptionalSpan,
+    pub start_zoom_level: OptionalByte,
 }
 
 pub enum OptionsRead {

@@ -2,6 +2,8 @@
 use Prim.Native.Nat.{ℕ, _+_, _*_, _%_, _^_, _≤_, _<_}
 use native.Mathlib.Nat.{add-assoc}
 use native.Mathlib.Omega.{arith}
+use mir.Syntax.{w32}
+use mir.Val.{Fits}
 use mathlib.Core.Path.{_≡_, refl, sym, ap, _∙_}
 use mathlib.Core.Bool.{Bool, true, false, cond}
 use mathlib.Core.List.{List, [], _∷_}
@@ -43,8 +45,8 @@ flag-clear d x y h = rw h
 pub place-is : (d : Bool) (size tile start r : ℕ) → size ≡ cond d 16 0 → r ≡ cut (start + (size + 5 * tile)) → r ≡ cut (entryAt d start tile)
 place-is d size tile start r e h = h ∙ rw (e, add-assoc start (cond d 16 0) (5 * tile))
 
-pub tile-small : (r : GridRead) (n : ℕ) (g : TileGrid) (tile : ℕ) → gridRes r ≡ gridTiles g → r ≡ grid.Tiles n → tile < n → tile < 2 ^ 32
-tile-small r n g tile e h k = omega (arith, tiles-small r n g e h)
+pub tile-fits : (r : GridRead) (n : ℕ) (g : TileGrid) (tile : ℕ) → gridRes r ≡ gridTiles g → r ≡ grid.Tiles n → tile < n → Fits w32 tile
+tile-fits r n g tile e h k = record { fits = omega (arith, tiles-small r n g e h) }
 
 -- the entry as it is handed out
 pub entry-held : (n start absolute : ℕ) → absolute ≡ cut (start + n % 549755813888) → ok (record { «is_water» = leb 549755813888 n; offset = n % 549755813888; «offset_abs» = absolute }) 0 ≡ ok (heldEntry (record { water = leb (2 ^ 39) n; offset = n % 2 ^ 39; absolute = start + n % 2 ^ 39 })) 0
@@ -73,8 +75,8 @@ entry-cuts : (start : ℕ) → Cuts (entry start)
 unfolding entry
 entry-cuts start = cuts-bind _ (cuts-instead 19 (bigEndian-end 5 (lit≤ tt)))
 
-pub entry-cut : {B : Type 0} (m : List ℕ) (start place at : ℕ) (f : Entry → ℕ → Res B) (x : Res B) → length m < 2 ^ 64 → at ≡ cut place → x ≡ andThen (entry start m at) f → x ≡ andThen (entry start m place) f
-entry-cut m start place at f x l h e = e ∙ ap (λ r. andThen r f) (ap (entry start m) h ∙ entry-cuts start .at m place l)
+pub entry-cut : (m : List ℕ) (start place at : ℕ) (x : Res TileIndexEntry) → length m < 2 ^ 64 → at ≡ cut place → x ≡ heldRes (entry start m at) → x ≡ heldRes (entry start m place)
+entry-cut m start place at x l h e = e ∙ ap heldRes (ap (entry start m) h ∙ entry-cuts start .at m place l)
 
 -- the entry of a tile, by the answer of its grid
 module _ (d : Bool) (start : ℕ) (g : TileGrid) (tile : ℕ) (m : List ℕ) (r : GridRead) (q : gridRes r ≡ gridTiles g) where
@@ -88,9 +90,9 @@ module _ (d : Bool) (start : ℕ) (g : TileGrid) (tile : ℕ) (m : List ℕ) (r 
   pub in-past : (n : ℕ) → r ≡ grid.Tiles n → n ≤ tile → no 8 [] ≡ heldRes (entryIn d start g tile m)
   in-past n h k = ap (λ c. heldRes (cond c (entry start m (entryAt d start tile)) (no 8 []))) (sym (le-ltb tile n k)) ∙ tiles-by (grid.Tiles n) h
 
-  pub in-read : (n at : ℕ) (x : Res TileIndexEntry) → r ≡ grid.Tiles n → tile < n → length m < 2 ^ 64 → at ≡ cut (entryAt d start tile) → x ≡ heldRes (entry start m at) → x ≡ heldRes (entryIn d start g tile m)
-  in-read n at x h k l p e =
-      entry-cut m start (entryAt d start tile) at (λ v _. ok (heldEntry v) 0) x l p e
+  pub in-read : (n : ℕ) (x : Res TileIndexEntry) → r ≡ grid.Tiles n → tile < n → x ≡ heldRes (entry start m (entryAt d start tile)) → x ≡ heldRes (entryIn d start g tile m)
+  in-read n x h k e =
+      e
       ∙ ap (λ c. heldRes (cond c (entry start m (entryAt d start tile)) (no 8 []))) (sym (lt-ltb tile n k)) ∙ tiles-by (grid.Tiles n) h
 
 -- the same by its interval

@@ -1,4 +1,4 @@
--- What private helpers ask of their callers.
+-- What private functions ask of their callers; it need not be believed.
 use mathlib.Core.Path.{_≡_}
 use mathlib.Core.Bool.{true}
 use lib.IntN.{ℤ}

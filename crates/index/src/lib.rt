@@ -48,9 +48,9 @@ pub enum IndexRead {
 
 // An entry of the tile index: where the tile stands, from its sub file's start and from the map's (2^64 - 1 for any larger place).
 pub struct TileIndexEntry {
-    pub is_water: bool,
     pub offset: u64,
     pub offset_abs: u64,
+    pub is_water: bool,
 }
 
 pub enum EntryRead {
@@ -87,7 +87,8 @@ pub fn interval_of(header: MapHeader, sub_file: usize) -> IntervalRead
     IntervalRead::At(header.zoom_interval_configuration[sub_file])
 }
 
-fn holds_zoom(interval: ZoomInterval, zoom: u8) -> bool
+// Whether a sub file has the zoom, by its interval.
+pub fn holds_zoom(interval: ZoomInterval, zoom: u8) -> bool
     ensures { λ r. ⌜ r ≡ holdsZoom (intervalOf interval) zoom ⌝ }
 {
     if zoom < interval.min_zoom_level {
@@ -255,6 +256,13 @@ fn read_entry(map: &[u8], start: u64, at: usize) -> EntryRead
     })
 }
 
+// The entry with this number in the sub file with this start, whatever tiles there are.
+pub fn entry_at(map: &[u8], debug: bool, start: u64, tile: u32) -> EntryRead
+    ensures { λ r. ⌜ entryRes r ≡ heldRes (entry start (now (map .entry)) (entryAt debug start tile)) ⌝ }
+{
+    read_entry(map, start, entry_place(debug, start, tile as usize))
+}
+
 // The entry of a tile of the sub file with this start.
 pub fn entry_in(map: &[u8], debug: bool, start: u64, grid: Grid, tile: usize) -> EntryRead
     ensures { λ r. ⌜ entryRes r ≡ heldRes (entryIn debug start (gridOf grid) tile (now (map .entry))) ⌝ }
@@ -266,7 +274,7 @@ pub fn entry_in(map: &[u8], debug: bool, start: u64, grid: Grid, tile: usize) ->
     if tiles <= tile as u64 {
         return EntryRead::Refused(Refusal::InvalidTileIndex);
     }
-    read_entry(map, start, entry_place(debug, start, tile))
+    entry_at(map, debug, start, tile as u32)
 }
 
 // The entry of a tile. Refused in this order: sub file (8), grid (14), tile (8), the map's end (19).

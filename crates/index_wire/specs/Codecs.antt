@@ -1,12 +1,11 @@
--- Encode, then decode, is the identity: how the other program reads the words, and that nothing is lost on the way.
-use Prim.Native.Nat.{ℕ, _-_, _%_, _<_}
+-- Encode, then decode, is the identity, whatever words were lent: how the other program reads the words, and that nothing is lost on the
+-- way. (Of a tag whose text is refused, the kind does not cross.)
+use Prim.Native.Nat.{ℕ, _%_, _<_}
 use native.Mathlib.Omega.{arith}
-use lib.IntN.{pos}
-use mathlib.Core.Bool.{false}
-use mathlib.Core.Path.{_≡_, refl, ap, _∙_}
+use mathlib.Core.Path.{_≡_, refl, ap}
 use mathlib.Core.List.{[], _∷_}
-use lib.Ieee.{Float}
 use lib.ListN.{getD}
+use Rattle.error.specs.declared.Refusal.{Refusal}
 use Rattle.byte_source.specs.declared.SpanRead.{SpanRead}
 use Rattle.byte_source.specs.declared.SpanRead.the-variants as span-read
 use Rattle.text.specs.declared.Written.{Written}
@@ -27,77 +26,100 @@ use Rattle.column.specs.declared.LongitudeRead.{LongitudeRead}
 use Rattle.column.specs.declared.LongitudeRead.the-variants as longitude
 use Rattle.way_measure.specs.declared.WayDataRead.{WayDataRead}
 use Rattle.way_measure.specs.declared.WayDataRead.the-variants as way-data
-use Rattle.on_map.specs.declared.IntervalAnswer.{IntervalAnswer}
-use Rattle.on_map.specs.declared.IntervalAnswer.the-variants as interval
-use Rattle.on_map.specs.declared.SubFileAnswer.{SubFileAnswer}
-use Rattle.on_map.specs.declared.SubFileAnswer.the-variants as sub-file
-use Rattle.wire.specs.Wire.{Wire, Codec, word, truth, there}
-use Rattle.wire.specs.Verdicts.{nowhere}
-use Rattle.index_wire.specs.Index.{Named, kindWord, countWire, indexWire, subFileWire, intervalWire, intervalRow, intervalIn, entryWire, tagWire, textWire, columnWire, longitudeWire, wayDataWire}
-use Rattle.wire.specs.Codecs.{settle, settled, truth-back}
+use Rattle.way_data.specs.declared.WayDataWritten.{WayDataWritten}
+use Rattle.way_data.specs.declared.WayDataWritten.the-variants as data-written
+use Rattle.zoom_intervals.specs.declared.IntervalAnswer.{IntervalAnswer}
+use Rattle.zoom_intervals.specs.declared.IntervalAnswer.the-variants as interval
+use Rattle.zoom_intervals.specs.declared.SubFileAnswer.{SubFileAnswer}
+use Rattle.zoom_intervals.specs.declared.SubFileAnswer.the-variants as sub-file
+use Rattle.wire.specs.Wire.{Wire, Lent, Decoder, Codec, listOf, word, signedAt, truth, there}
+use Rattle.wire.specs.Spread.{spreadWire, spread-out}
+use Rattle.index_wire.specs.Index.{Named, kindWord, countWire, indexWire, subFileWire, intervalWire, intervalRow, intervalIn, entryWire, tagWith, tagWire, textWire, columnWire, longitudeWire, wayDataWire, dataWrittenWire}
+use Rattle.wire.specs.Codecs.{settle, settled, settleLent, settled-lent, truth-back, degree}
 
 -- sub files, tiles, tags, texts and columns
 abbrev pub countIn : Wire → CountRead
 countIn w = settle count.Refused (there (word w 0 6) count.Missing (count.Count (word w 0 7))) w
 
-pub count-back : (a : CountRead) → countIn (countWire a) ≡ a
-count-back count.Missing = refl
-count-back (count.Count n) = refl
-count-back (count.Refused r) = settled count.Refused count.Missing r
+pub count-back : (w : Wire) → Lent (8 ∷ []) 0 0 w → (a : CountRead) → countIn (countWire w a) ≡ a
+count-back w h a = spread-out (8 ∷ []) 0 0 w h (λ v. countIn (countWire v a) ≡ a) (go a)
+  where
+    go : (a : CountRead) → countIn (countWire (spreadWire (8 ∷ []) 0 0 w) a) ≡ a
+    go count.Missing = refl
+    go (count.Count n) = refl
+    go (count.Refused r) = settled count.Refused _ _ _ r
 
-abbrev pub countCodec : Codec countWire
-countCodec = record { decode = countIn; back = count-back }
+abbrev pub countCodec : (w : Wire) → Lent (8 ∷ []) 0 0 w → Codec (countWire w)
+countCodec w h = record { decode = countIn; back = count-back w h }
 
 abbrev pub indexIn : Wire → IndexRead
 indexIn w = settle index.Refused (there (word w 0 6) index.Missing (index.At (word w 0 7))) w
 
-pub index-back : (a : IndexRead) → indexIn (indexWire a) ≡ a
-index-back index.Missing = refl
-index-back (index.At n) = refl
-index-back (index.Refused r) = settled index.Refused index.Missing r
+pub index-back : (w : Wire) → Lent (8 ∷ []) 0 0 w → (a : IndexRead) → indexIn (indexWire w a) ≡ a
+index-back w h a = spread-out (8 ∷ []) 0 0 w h (λ v. indexIn (indexWire v a) ≡ a) (go a)
+  where
+    go : (a : IndexRead) → indexIn (indexWire (spreadWire (8 ∷ []) 0 0 w) a) ≡ a
+    go index.Missing = refl
+    go (index.At n) = refl
+    go (index.Refused r) = settled index.Refused _ _ _ r
 
-abbrev pub indexCodec : Codec indexWire
-indexCodec = record { decode = indexIn; back = index-back }
+abbrev pub indexCodec : (w : Wire) → Lent (8 ∷ []) 0 0 w → Codec (indexWire w)
+indexCodec w h = record { decode = indexIn; back = index-back w h }
 
 abbrev pub subFileIn : Wire → SubFileAnswer
 subFileIn w = settle sub-file.Refused (there (word w 0 6) sub-file.None (sub-file.At (word w 0 7))) w
 
-pub subFile-back : (a : SubFileAnswer) → subFileIn (subFileWire a) ≡ a
-subFile-back sub-file.None = refl
-subFile-back (sub-file.At n) = refl
-subFile-back (sub-file.Refused r) = settled sub-file.Refused sub-file.None r
+pub subFile-back : (w : Wire) → Lent (8 ∷ []) 0 0 w → (a : SubFileAnswer) → subFileIn (subFileWire w a) ≡ a
+subFile-back w h a = spread-out (8 ∷ []) 0 0 w h (λ v. subFileIn (subFileWire v a) ≡ a) (go a)
+  where
+    go : (a : SubFileAnswer) → subFileIn (subFileWire (spreadWire (8 ∷ []) 0 0 w) a) ≡ a
+    go sub-file.None = refl
+    go (sub-file.At n) = refl
+    go (sub-file.Refused r) = settled sub-file.Refused _ _ _ r
 
-abbrev pub subFileCodec : Codec subFileWire
-subFileCodec = record { decode = subFileIn; back = subFile-back }
+abbrev pub subFileCodec : (w : Wire) → Lent (8 ∷ []) 0 0 w → Codec (subFileWire w)
+subFileCodec w h = record { decode = subFileIn; back = subFile-back w h }
 
 abbrev pub intervalAnswerIn : Wire → IntervalAnswer
 intervalAnswerIn w = settle interval.Refused (there (word w 1 0) interval.Missing (interval.At (record { «base_zoom_level» = word w 1 1; «min_zoom_level» = word w 1 2; «max_zoom_level» = word w 1 3; «sub_file_start» = word w 1 4; «sub_file_size» = word w 1 5 }))) w
 
-pub interval-back : (a : IntervalAnswer) → intervalAnswerIn (intervalWire a) ≡ a
-interval-back interval.Missing = refl
-interval-back (interval.At z) = refl
-interval-back (interval.Refused r) = settled interval.Refused interval.Missing r
+pub interval-back : (w : Wire) → Lent (6 ∷ 6 ∷ []) 0 0 w → (a : IntervalAnswer) → intervalAnswerIn (intervalWire w a) ≡ a
+interval-back w h a = spread-out (6 ∷ 6 ∷ []) 0 0 w h (λ v. intervalAnswerIn (intervalWire v a) ≡ a) (go a)
+  where
+    go : (a : IntervalAnswer) → intervalAnswerIn (intervalWire (spreadWire (6 ∷ 6 ∷ []) 0 0 w) a) ≡ a
+    go interval.Missing = refl
+    go (interval.At z) = refl
+    go (interval.Refused r) = settled interval.Refused _ _ _ r
 
--- and what was handed out of an interval is taken as the same one; its zooms are bytes
-pub interval-taken : (z : ZoomInterval) → z .«base_zoom_level» < 256 → z .«min_zoom_level» < 256 → z .«max_zoom_level» < 256 → intervalIn (intervalRow (interval.At z)) ≡ interval-read.At z
-interval-taken z a b c =
+abbrev pub intervalCodec : (w : Wire) → Lent (6 ∷ 6 ∷ []) 0 0 w → Codec (intervalWire w)
+intervalCodec w h = record { decode = intervalAnswerIn; back = interval-back w h }
+
+-- and other calls take the words as what was handed out: an interval as the same one, as its zooms are bytes, and a missing one as missing
+pub interval-row : (w : Wire) → Lent (6 ∷ 6 ∷ []) 0 0 w → (z : ZoomInterval) → listOf (intervalWire w (interval.At z)) 1 ≡ intervalRow z
+interval-row w h z = spread-out (6 ∷ 6 ∷ []) 0 0 w h (λ v. listOf (intervalWire v (interval.At z)) 1 ≡ intervalRow z) refl
+
+pub interval-taken : (w : Wire) → Lent (6 ∷ 6 ∷ []) 0 0 w → (z : ZoomInterval) → z .«base_zoom_level» < 256 → z .«min_zoom_level» < 256 → z .«max_zoom_level» < 256 → intervalIn (listOf (intervalWire w (interval.At z)) 1) ≡ interval-read.At z
+interval-taken w h z a b c =
     let x : z .«base_zoom_level» % 256 ≡ z .«base_zoom_level» = omega arith in
     let y : z .«min_zoom_level» % 256 ≡ z .«min_zoom_level» = omega arith in
-    let w : z .«max_zoom_level» % 256 ≡ z .«max_zoom_level» = omega arith in
-    rw (x, y, w) refl
+    let t : z .«max_zoom_level» % 256 ≡ z .«max_zoom_level» = omega arith in
+    rw (interval-row w h z, x, y, t) refl
 
-abbrev pub intervalCodec : Codec intervalWire
-intervalCodec = record { decode = intervalAnswerIn; back = interval-back }
+pub missing-taken : (w : Wire) → Lent (6 ∷ 6 ∷ []) 0 0 w → intervalIn (listOf (intervalWire w interval.Missing) 1) ≡ interval-read.Missing
+missing-taken w h = spread-out (6 ∷ 6 ∷ []) 0 0 w h (λ v. intervalIn (listOf (intervalWire v interval.Missing) 1) ≡ interval-read.Missing) refl
 
 abbrev pub entryIn : Wire → EntryRead
 entryIn w = settle entry.Refused (entry.Entry (record { «is_water» = truth (word w 0 6); offset = word w 0 7; «offset_abs» = word w 0 8 })) w
 
-pub entry-back : (a : EntryRead) → entryIn (entryWire a) ≡ a
-entry-back (entry.Entry e) = ap (λ b. entry.Entry (record { «is_water» = b; offset = e .offset; «offset_abs» = e .«offset_abs» })) (truth-back (e .«is_water»))
-entry-back (entry.Refused r) = settled entry.Refused (entry.Entry (record { «is_water» = false; offset = 0; «offset_abs» = 0 })) r
+pub entry-back : (w : Wire) → Lent (9 ∷ []) 0 0 w → (a : EntryRead) → entryIn (entryWire w a) ≡ a
+entry-back w h a = spread-out (9 ∷ []) 0 0 w h (λ v. entryIn (entryWire v a) ≡ a) (go a)
+  where
+    go : (a : EntryRead) → entryIn (entryWire (spreadWire (9 ∷ []) 0 0 w) a) ≡ a
+    go (entry.Entry e) = ap (λ b. entry.Entry (record { «is_water» = b; offset = e .offset; «offset_abs» = e .«offset_abs» })) (truth-back (e .«is_water»))
+    go (entry.Refused r) = settled entry.Refused _ _ _ r
 
-abbrev pub entryCodec : Codec entryWire
-entryCodec = record { decode = entryIn; back = entry-back }
+abbrev pub entryCodec : (w : Wire) → Lent (9 ∷ []) 0 0 w → Codec (entryWire w)
+entryCodec w h = record { decode = entryIn; back = entry-back w h }
 
 abbrev pub kindIn : ℕ → Kind
 kindIn n = getD (kind.Nothing ∷ kind.Byte ∷ kind.Short ∷ kind.Int ∷ kind.Float ∷ kind.Text ∷ []) n kind.Nothing
@@ -110,58 +132,88 @@ kind-back kind.Int = refl
 kind-back kind.Float = refl
 kind-back kind.Text = refl
 
+-- without a text there is no kind to tell
+abbrev pub unnamed : Refusal → Named
+unnamed r = record { text = span-read.Refused r; kind = kind.Nothing }
+
+abbrev pub named : SpanRead → Kind → Named
+named (span-read.Value s e) k = record { text = span-read.Value s e; kind = k }
+named (span-read.Refused r) k = unnamed r
+
 abbrev pub tagIn : Wire → Named
-tagIn w = record {
-  text = settle span-read.Refused (span-read.Value (record { start = word w 0 6; size = word w 0 7 }) (word w 0 8)) w;
-  kind = kindIn (word w 0 9);
-}
+tagIn w = settle unnamed (named (span-read.Value (record { start = word w 0 6; size = word w 0 7 }) (word w 0 8)) (kindIn (word w 0 9))) w
 
-tag-text-back : (g : SpanRead) (k : Kind) → tagIn (tagWire (record { text = g; kind = k })) ≡ record { text = g; kind = kindIn (kindWord k) }
-tag-text-back (span-read.Value s e) k = refl
-tag-text-back (span-read.Refused r) k = ap (λ (g : SpanRead). record { text = g; kind = kindIn (kindWord k) }) (settled span-read.Refused (span-read.Value (record { start = 0; size = 0 }) 0) r)
+pub tag-back : (w : Wire) → Lent (10 ∷ []) 0 0 w → (a : Named) → tagIn (tagWire w a) ≡ named (a .text) (a .kind)
+tag-back w h a = spread-out (10 ∷ []) 0 0 w h (λ v. tagIn (tagWire v a) ≡ named (a .text) (a .kind)) (go (a .text) (a .kind))
+  where
+    go : (g : SpanRead) (k : Kind) → tagIn (tagWith g k (spreadWire (10 ∷ []) 0 0 w)) ≡ named g k
+    go (span-read.Value s e) k = ap (named (span-read.Value s e)) (kind-back k)
+    go (span-read.Refused r) k = settled unnamed _ _ _ r
 
-pub tag-back : (a : Named) → tagIn (tagWire a) ≡ a
-tag-back a = tag-text-back (a .text) (a .kind) ∙ ap (λ (k : Kind). record { text = a .text; kind = k }) (kind-back (a .kind))
-
-abbrev pub tagCodec : Codec tagWire
-tagCodec = record { decode = tagIn; back = tag-back }
+abbrev pub tagDecoder : (w : Wire) → Lent (10 ∷ []) 0 0 w → Decoder (tagWire w) (λ a. named (a .text) (a .kind))
+tagDecoder w h = record { decode = tagIn; back = tag-back w h }
 
 abbrev pub textIn : Wire → Written
-textIn w = settle written.Refused (written.Upto (word w 0 6)) w
+textIn w = settleLent written.Refused (written.Upto (word w 0 6)) w
 
-pub text-back : (a : Written) → textIn (textWire a) ≡ a
-text-back (written.Upto n) = refl
-text-back (written.Refused r) = settled written.Refused (written.Upto 0) r
+pub text-back : (w : Wire) → Lent (7 ∷ []) 0 0 w → (a : Written) → textIn (textWire w a) ≡ a
+text-back w h a = spread-out (7 ∷ []) 0 0 w h (λ v. textIn (textWire v a) ≡ a) (go a)
+  where
+    go : (a : Written) → textIn (textWire (spreadWire (7 ∷ []) 0 0 w) a) ≡ a
+    go (written.Upto n) = refl
+    go (written.Refused r) = settled-lent written.Refused _ _ _ _ _ _ _ _ r
 
-abbrev pub textCodec : Codec textWire
-textCodec = record { decode = textIn; back = text-back }
+abbrev pub textCodec : (w : Wire) → Lent (7 ∷ []) 0 0 w → Codec (textWire w)
+textCodec w h = record { decode = textIn; back = text-back w h }
 
 abbrev pub columnIn : Wire → ColumnRead
-columnIn w = settle column.Refused (column.Value (getD (w .signed) 0 (pos 0))) w
+columnIn w = settle column.Refused (column.Value (signedAt w 0)) w
 
-pub column-back : (a : ColumnRead) → columnIn (columnWire a) ≡ a
-column-back (column.Value x) = refl
-column-back (column.Refused r) = settled column.Refused (column.Value (pos 0)) r
+pub column-back : (w : Wire) → Lent (6 ∷ []) 1 0 w → (a : ColumnRead) → columnIn (columnWire w a) ≡ a
+column-back w h a = spread-out (6 ∷ []) 1 0 w h (λ v. columnIn (columnWire v a) ≡ a) (go a)
+  where
+    go : (a : ColumnRead) → columnIn (columnWire (spreadWire (6 ∷ []) 1 0 w) a) ≡ a
+    go (column.Value x) = refl
+    go (column.Refused r) = settled column.Refused _ _ _ r
 
-abbrev pub columnCodec : Codec columnWire
-columnCodec = record { decode = columnIn; back = column-back }
+abbrev pub columnCodec : (w : Wire) → Lent (6 ∷ []) 1 0 w → Codec (columnWire w)
+columnCodec w h = record { decode = columnIn; back = column-back w h }
 
 abbrev pub longitudeIn : Wire → LongitudeRead
-longitudeIn w = settle longitude.Refused (longitude.Value (record { 0 = getD (w .degrees) 0 nowhere })) w
+longitudeIn w = settle longitude.Refused (longitude.Value (record { 0 = degree w 0 })) w
 
-pub longitude-back : (a : LongitudeRead) → longitudeIn (longitudeWire a) ≡ a
-longitude-back (longitude.Value d) = refl
-longitude-back (longitude.Refused r) = settled longitude.Refused (longitude.Value (record { 0 = nowhere })) r
+pub longitude-back : (w : Wire) → Lent (6 ∷ []) 0 1 w → (a : LongitudeRead) → longitudeIn (longitudeWire w a) ≡ a
+longitude-back w h a = spread-out (6 ∷ []) 0 1 w h (λ v. longitudeIn (longitudeWire v a) ≡ a) (go a)
+  where
+    go : (a : LongitudeRead) → longitudeIn (longitudeWire (spreadWire (6 ∷ []) 0 1 w) a) ≡ a
+    go (longitude.Value d) = refl
+    go (longitude.Refused r) = settled longitude.Refused _ _ _ r
 
-abbrev pub longitudeCodec : Codec longitudeWire
-longitudeCodec = record { decode = longitudeIn; back = longitude-back }
+abbrev pub longitudeCodec : (w : Wire) → Lent (6 ∷ []) 0 1 w → Codec (longitudeWire w)
+longitudeCodec w h = record { decode = longitudeIn; back = longitude-back w h }
 
 abbrev pub wayDataIn : Wire → WayDataRead
 wayDataIn w = settle way-data.Refused (way-data.Value (record { blocks = word w 0 6; nodes = word w 0 7 }) (word w 0 8)) w
 
-pub wayData-back : (a : WayDataRead) → wayDataIn (wayDataWire a) ≡ a
-wayData-back (way-data.Value s e) = refl
-wayData-back (way-data.Refused r) = settled way-data.Refused (way-data.Value (record { blocks = 0; nodes = 0 }) 0) r
+pub wayData-back : (w : Wire) → Lent (9 ∷ []) 0 0 w → (a : WayDataRead) → wayDataIn (wayDataWire w a) ≡ a
+wayData-back w h a = spread-out (9 ∷ []) 0 0 w h (λ v. wayDataIn (wayDataWire v a) ≡ a) (go a)
+  where
+    go : (a : WayDataRead) → wayDataIn (wayDataWire (spreadWire (9 ∷ []) 0 0 w) a) ≡ a
+    go (way-data.Value s e) = refl
+    go (way-data.Refused r) = settled way-data.Refused _ _ _ r
 
-abbrev pub wayDataCodec : Codec wayDataWire
-wayDataCodec = record { decode = wayDataIn; back = wayData-back }
+abbrev pub wayDataCodec : (w : Wire) → Lent (9 ∷ []) 0 0 w → Codec (wayDataWire w)
+wayDataCodec w h = record { decode = wayDataIn; back = wayData-back w h }
+
+abbrev pub dataWrittenIn : Wire → WayDataWritten
+dataWrittenIn w = settleLent data-written.Refused (data-written.Value (record { blocks = word w 0 6; nodes = word w 0 7 }) (word w 0 8)) w
+
+pub dataWritten-back : (w : Wire) → Lent (9 ∷ []) 0 0 w → (a : WayDataWritten) → dataWrittenIn (dataWrittenWire w a) ≡ a
+dataWritten-back w h a = spread-out (9 ∷ []) 0 0 w h (λ v. dataWrittenIn (dataWrittenWire v a) ≡ a) (go a)
+  where
+    go : (a : WayDataWritten) → dataWrittenIn (dataWrittenWire (spreadWire (9 ∷ []) 0 0 w) a) ≡ a
+    go (data-written.Value s e) = refl
+    go (data-written.Refused r) = settled-lent data-written.Refused _ _ _ _ _ _ _ _ r
+
+abbrev pub dataWrittenCodec : (w : Wire) → Lent (9 ∷ []) 0 0 w → Codec (dataWrittenWire w)
+dataWrittenCodec w h = record { decode = dataWrittenIn; back = dataWritten-back w h }

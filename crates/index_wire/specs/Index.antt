@@ -1,18 +1,15 @@
--- The answers about sub files, tiles, tags, texts, columns and a way's data as words.
+-- The answers about sub files, tiles, tags, texts, columns and a way's data as words: which ones each writes. The others keep their values.
 use Prim.Native.Nat.{ℕ, _%_}
-use lib.IntN.{ℤ, pos}
 use mathlib.Core.Bool.{cond}
 use mathlib.Core.List.{List, [], _∷_}
-use lib.Ieee.{Float}
 use lib.ListN.{getD}
-use Rattle.error.specs.Refusals.{numberOf}
-use Rattle.error.specs.declared.Lengths.{Lengths}
 use Rattle.byte_source.specs.declared.SpanRead.{SpanRead}
 use Rattle.byte_source.specs.declared.SpanRead.the-variants as span-read
 use Rattle.text.specs.declared.Written.{Written}
 use Rattle.text.specs.declared.Written.the-variants as written
 use Rattle.tag.specs.declared.Kind.{Kind}
 use Rattle.tag.specs.declared.Kind.the-variants as kind
+use Rattle.types.specs.declared.ZoomInterval.{ZoomInterval}
 use Rattle.index.specs.declared.IntervalRead.{IntervalRead}
 use Rattle.index.specs.declared.IntervalRead.the-variants as interval-read
 use Rattle.index.specs.declared.CountRead.{CountRead}
@@ -25,64 +22,47 @@ use Rattle.column.specs.declared.ColumnRead.{ColumnRead}
 use Rattle.column.specs.declared.ColumnRead.the-variants as column
 use Rattle.column.specs.declared.LongitudeRead.{LongitudeRead}
 use Rattle.column.specs.declared.LongitudeRead.the-variants as longitude
-use Rattle.on_map.specs.declared.IntervalAnswer.{IntervalAnswer}
-use Rattle.on_map.specs.declared.IntervalAnswer.the-variants as interval
-use Rattle.on_map.specs.declared.SubFileAnswer.{SubFileAnswer}
-use Rattle.on_map.specs.declared.SubFileAnswer.the-variants as sub-file
+use Rattle.zoom_intervals.specs.declared.IntervalAnswer.{IntervalAnswer}
+use Rattle.zoom_intervals.specs.declared.IntervalAnswer.the-variants as interval
+use Rattle.zoom_intervals.specs.declared.SubFileAnswer.{SubFileAnswer}
+use Rattle.zoom_intervals.specs.declared.SubFileAnswer.the-variants as sub-file
+use Rattle.way_measure.specs.declared.Sizes.{Sizes}
 use Rattle.way_measure.specs.declared.WayDataRead.{WayDataRead}
 use Rattle.way_measure.specs.declared.WayDataRead.the-variants as way-data
-use Rattle.wire.specs.Wire.{Wire, wire, there}
-use Rattle.wire.specs.Verdicts.{valuesIn, noValues, behind, nowhere}
+use Rattle.way_data.specs.declared.WayDataWritten.{WayDataWritten}
+use Rattle.way_data.specs.declared.WayDataWritten.the-variants as data-written
+use Rattle.wire.specs.Wire.{Wire, put, putSigned, putDegrees, numbered, putRefusal, putLentRefusal, there}
 
--- a number that may be absent
-abbrev pub found : Lengths → (present value : ℕ) → List ℕ
-found v p n = behind v (p ∷ n ∷ [])
+-- a number that may be absent: 1 and the number, or 0
+abbrev pub putFound : ℕ → Wire → Wire
+putFound n w = numbered 0 (put 0 6 (1 ∷ n ∷ []) w)
 
-abbrev pub countNumber : CountRead → ℕ
-countNumber count.Missing = 0
-countNumber (count.Count n) = 0
-countNumber (count.Refused r) = numberOf r
+abbrev pub putAbsent : Wire → Wire
+putAbsent w = numbered 0 (put 0 6 (0 ∷ []) w)
 
-abbrev pub countWords : CountRead → List ℕ
-countWords count.Missing = found noValues 0 0
-countWords (count.Count n) = found noValues 1 n
-countWords (count.Refused r) = found (valuesIn r) 0 0
+abbrev pub countWire : (before : Wire) → CountRead → Wire
+countWire w count.Missing = putAbsent w
+countWire w (count.Count n) = putFound n w
+countWire w (count.Refused r) = putRefusal r w
 
-abbrev pub indexNumber : IndexRead → ℕ
-indexNumber index.Missing = 0
-indexNumber (index.At n) = 0
-indexNumber (index.Refused r) = numberOf r
+abbrev pub indexWire : (before : Wire) → IndexRead → Wire
+indexWire w index.Missing = putAbsent w
+indexWire w (index.At n) = putFound n w
+indexWire w (index.Refused r) = putRefusal r w
 
-abbrev pub indexWords : IndexRead → List ℕ
-indexWords index.Missing = found noValues 0 0
-indexWords (index.At n) = found noValues 1 n
-indexWords (index.Refused r) = found (valuesIn r) 0 0
+abbrev pub subFileWire : (before : Wire) → SubFileAnswer → Wire
+subFileWire w sub-file.None = putAbsent w
+subFileWire w (sub-file.At n) = putFound n w
+subFileWire w (sub-file.Refused r) = putRefusal r w
 
-abbrev pub subFileNumber : SubFileAnswer → ℕ
-subFileNumber sub-file.None = 0
-subFileNumber (sub-file.At n) = 0
-subFileNumber (sub-file.Refused r) = numberOf r
+-- a sub file's interval as other calls take it: 1, base, lowest and highest zoom, start, size; of a missing one only 0
+abbrev pub intervalRow : ZoomInterval → List ℕ
+intervalRow z = 1 ∷ z .«base_zoom_level» ∷ z .«min_zoom_level» ∷ z .«max_zoom_level» ∷ z .«sub_file_start» ∷ z .«sub_file_size» ∷ []
 
-abbrev pub subFileWords : SubFileAnswer → List ℕ
-subFileWords sub-file.None = found noValues 0 0
-subFileWords (sub-file.At n) = found noValues 1 n
-subFileWords (sub-file.Refused r) = found (valuesIn r) 0 0
-
-abbrev pub intervalNumber : IntervalAnswer → ℕ
-intervalNumber interval.Missing = 0
-intervalNumber (interval.At z) = 0
-intervalNumber (interval.Refused r) = numberOf r
-
-abbrev pub intervalWords : IntervalAnswer → List ℕ
-intervalWords interval.Missing = behind noValues []
-intervalWords (interval.At z) = behind noValues []
-intervalWords (interval.Refused r) = behind (valuesIn r) []
-
--- a sub file's interval as other calls take it: 1, base, lowest and highest zoom, start, size; all 0 if there is none
-abbrev pub intervalRow : IntervalAnswer → List ℕ
-intervalRow interval.Missing = 0 ∷ 0 ∷ 0 ∷ 0 ∷ 0 ∷ 0 ∷ []
-intervalRow (interval.At z) = 1 ∷ z .«base_zoom_level» ∷ z .«min_zoom_level» ∷ z .«max_zoom_level» ∷ z .«sub_file_start» ∷ z .«sub_file_size» ∷ []
-intervalRow (interval.Refused r) = 0 ∷ 0 ∷ 0 ∷ 0 ∷ 0 ∷ 0 ∷ []
+abbrev pub intervalWire : (before : Wire) → IntervalAnswer → Wire
+intervalWire w interval.Missing = numbered 0 (put 1 0 (0 ∷ []) w)
+intervalWire w (interval.At z) = numbered 0 (put 1 0 (intervalRow z) w)
+intervalWire w (interval.Refused r) = putRefusal r w
 
 -- as it is taken: a zoom is one byte
 abbrev pub intervalIn : List ℕ → IntervalRead
@@ -96,13 +76,9 @@ intervalIn l =
       «sub_file_size» = getD l 5 0;
     }))
 
-abbrev pub entryNumber : EntryRead → ℕ
-entryNumber (entry.Entry e) = 0
-entryNumber (entry.Refused r) = numberOf r
-
-abbrev pub entryWords : EntryRead → List ℕ
-entryWords (entry.Entry e) = behind noValues (cond (e .«is_water») 1 0 ∷ e .offset ∷ e .«offset_abs» ∷ [])
-entryWords (entry.Refused r) = behind (valuesIn r) (0 ∷ 0 ∷ 0 ∷ [])
+abbrev pub entryWire : (before : Wire) → EntryRead → Wire
+entryWire w (entry.Entry e) = numbered 0 (put 0 6 (cond (e .«is_water») 1 0 ∷ e .offset ∷ e .«offset_abs» ∷ []) w)
+entryWire w (entry.Refused r) = putRefusal r w
 
 -- a tag's text, and the kind of its inline value
 pub record Named : Type 0 where
@@ -117,85 +93,34 @@ kindWord kind.Int = 3
 kindWord kind.Float = 4
 kindWord kind.Text = 5
 
-abbrev pub tagNumber : SpanRead → ℕ
-tagNumber (span-read.Value s e) = 0
-tagNumber (span-read.Refused r) = numberOf r
+abbrev pub tagWith : SpanRead → Kind → Wire → Wire
+tagWith (span-read.Value s e) k w = numbered 0 (put 0 6 (s .start ∷ s .size ∷ e ∷ kindWord k ∷ []) w)
+tagWith (span-read.Refused r) k w = putRefusal r w
 
-abbrev pub tagWords : SpanRead → Kind → List ℕ
-tagWords (span-read.Value s e) k = behind noValues (s .start ∷ s .size ∷ e ∷ kindWord k ∷ [])
-tagWords (span-read.Refused r) k = behind (valuesIn r) (0 ∷ 0 ∷ 0 ∷ kindWord k ∷ [])
+abbrev pub tagWire : (before : Wire) → Named → Wire
+tagWire w a = tagWith (a .text) (a .kind) w
 
-abbrev pub textNumber : Written → ℕ
-textNumber (written.Upto n) = 0
-textNumber (written.Refused r) = numberOf r
+abbrev pub textWire : (before : Wire) → Written → Wire
+textWire w (written.Upto n) = numbered 0 (put 0 6 (n ∷ []) w)
+textWire w (written.Refused r) = putLentRefusal r w
 
-abbrev pub textWords : Written → List ℕ
-textWords (written.Upto n) = behind noValues (n ∷ [])
-textWords (written.Refused r) = behind (valuesIn r) (0 ∷ [])
+abbrev pub columnWire : (before : Wire) → ColumnRead → Wire
+columnWire w (column.Value x) = numbered 0 (putSigned 0 (x ∷ []) w)
+columnWire w (column.Refused r) = putRefusal r w
 
-abbrev pub columnNumber : ColumnRead → ℕ
-columnNumber (column.Value x) = 0
-columnNumber (column.Refused r) = numberOf r
-
-abbrev pub columnWords : ColumnRead → List ℕ
-columnWords (column.Value x) = behind noValues []
-columnWords (column.Refused r) = behind (valuesIn r) []
-
-abbrev pub columnSigned : ColumnRead → List ℤ
-columnSigned (column.Value x) = x ∷ []
-columnSigned (column.Refused r) = pos 0 ∷ []
-
-abbrev pub longitudeNumber : LongitudeRead → ℕ
-longitudeNumber (longitude.Value d) = 0
-longitudeNumber (longitude.Refused r) = numberOf r
-
-abbrev pub longitudeWords : LongitudeRead → List ℕ
-longitudeWords (longitude.Value d) = behind noValues []
-longitudeWords (longitude.Refused r) = behind (valuesIn r) []
-
-abbrev pub longitudeDegrees : LongitudeRead → List Float
-longitudeDegrees (longitude.Value d) = d .0 ∷ []
-longitudeDegrees (longitude.Refused r) = nowhere ∷ []
+abbrev pub longitudeWire : (before : Wire) → LongitudeRead → Wire
+longitudeWire w (longitude.Value d) = numbered 0 (putDegrees 0 (d .0 ∷ []) w)
+longitudeWire w (longitude.Refused r) = putRefusal r w
 
 -- the numbers of blocks and nodes of a way's data, and the place behind them
-abbrev pub wayDataNumber : WayDataRead → ℕ
-wayDataNumber (way-data.Value s e) = 0
-wayDataNumber (way-data.Refused r) = numberOf r
+abbrev pub putSizes : Sizes → (end : ℕ) → Wire → Wire
+putSizes s e w = numbered 0 (put 0 6 (s .blocks ∷ s .nodes ∷ e ∷ []) w)
 
-abbrev pub wayDataWords : WayDataRead → List ℕ
-wayDataWords (way-data.Value s e) = behind noValues (s .blocks ∷ s .nodes ∷ e ∷ [])
-wayDataWords (way-data.Refused r) = behind (valuesIn r) (0 ∷ 0 ∷ 0 ∷ [])
+abbrev pub wayDataWire : (before : Wire) → WayDataRead → Wire
+wayDataWire w (way-data.Value s e) = putSizes s e w
+wayDataWire w (way-data.Refused r) = putRefusal r w
 
--- what crosses
-abbrev pub plain : (number : ℕ) → (words : List ℕ) → Wire
-plain n l = record { number = n; lists = l ∷ []; signed = []; degrees = [] }
-
-abbrev pub countWire : CountRead → Wire
-countWire a = plain (countNumber a) (countWords a)
-
-abbrev pub indexWire : IndexRead → Wire
-indexWire a = plain (indexNumber a) (indexWords a)
-
-abbrev pub subFileWire : SubFileAnswer → Wire
-subFileWire a = plain (subFileNumber a) (subFileWords a)
-
-abbrev pub intervalWire : IntervalAnswer → Wire
-intervalWire a = wire (intervalNumber a) (intervalWords a ∷ intervalRow a ∷ []) [] []
-
-abbrev pub entryWire : EntryRead → Wire
-entryWire a = plain (entryNumber a) (entryWords a)
-
-abbrev pub tagWire : Named → Wire
-tagWire a = plain (tagNumber (a .text)) (tagWords (a .text) (a .kind))
-
-abbrev pub textWire : Written → Wire
-textWire a = plain (textNumber a) (textWords a)
-
-abbrev pub columnWire : ColumnRead → Wire
-columnWire a = record { number = columnNumber a; lists = columnWords a ∷ []; signed = columnSigned a; degrees = [] }
-
-abbrev pub longitudeWire : LongitudeRead → Wire
-longitudeWire a = record { number = longitudeNumber a; lists = longitudeWords a ∷ []; signed = []; degrees = longitudeDegrees a }
-
-abbrev pub wayDataWire : WayDataRead → Wire
-wayDataWire a = plain (wayDataNumber a) (wayDataWords a)
+-- the same of data that was written
+abbrev pub dataWrittenWire : (before : Wire) → WayDataWritten → Wire
+dataWrittenWire w (data-written.Value s e) = putSizes s e w
+dataWrittenWire w (data-written.Refused r) = putLentRefusal r w

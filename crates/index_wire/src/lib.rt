@@ -1,135 +1,91 @@
-// What is asked of sub files, tiles, tags, texts, columns and a way's data, as words.
+// What is asked of sub files, tiles, tags, texts, columns and a way's data, as words for programs in other languages. An answer writes its
+// own words; the others keep their values.
 use byte_source::SpanRead;
 use column::ColumnRead;
 use column::LongitudeRead;
-use error::Lengths;
 use index::CountRead;
 use index::EntryRead;
 use index::IndexRead;
 use index::IntervalRead;
-use on_map::IntervalAnswer;
-use on_map::SubFileAnswer;
 use tag::Kind;
 use text::Written;
 use types::ZoomInterval;
+use way_data::WayDataWritten;
+use way_measure::Sizes;
 use way_measure::WayDataRead;
+use zoom_intervals::IntervalAnswer;
+use zoom_intervals::SubFileAnswer;
 ghost use mathlib.Core.Path.{_≡_};
-ghost use Rattle.index_wire.specs.Index.{found, countNumber, countWords, indexNumber, indexWords, subFileNumber, subFileWords, intervalNumber, intervalWords, intervalRow, intervalIn, entryNumber, entryWords, kindWord, tagNumber, tagWords, textNumber, textWords, columnNumber, columnWords, columnSigned, longitudeNumber, longitudeWords, longitudeDegrees, wayDataNumber, wayDataWords};
+ghost use mathlib.Core.List.{[], _∷_};
+ghost use Rattle.wire.specs.Wire.{wire, lending};
+ghost use Rattle.index_wire.specs.Index.{putFound, putAbsent, countWire, indexWire, subFileWire, intervalWire, intervalIn, entryWire, kindWord, tagWire, textWire, columnWire, longitudeWire, putSizes, wayDataWire, dataWrittenWire};
 
-// A number that may be absent, behind a refusal's values.
-fn found_words(v: Lengths, present: u64, value: u64) -> [u64; 8]
-    ensures { λ r. ⌜ r ≡ found v present value ⌝ }
+// A number that may be absent: 1 and the number,
+fn put_found(number: u64, words: &mut [u64; 8]) -> u64
+    ensures { λ r. ⌜ wire r (now (words .exit) ∷ []) [] [] ≡ putFound number (lending (now (words .entry) ∷ []) [] []) ⌝ }
 {
-    [
-        v.list1,
-        v.list2,
-        v.list3,
-        v.list4,
-        v.list5,
-        v.buffer,
-        present,
-        value,
-    ]
+    words[6] = 1;
+    words[7] = number;
+    0
 }
 
-pub fn count_number(got: CountRead) -> u64
-    ensures { λ r. ⌜ r ≡ countNumber got ⌝ }
+// or 0.
+fn put_absent(words: &mut [u64; 8]) -> u64
+    ensures { λ r. ⌜ wire r (now (words .exit) ∷ []) [] [] ≡ putAbsent (lending (now (words .entry) ∷ []) [] []) ⌝ }
+{
+    words[6] = 0;
+    0
+}
+
+pub fn put_count(got: CountRead, words: &mut [u64; 8]) -> u64
+    ensures { λ r. ⌜ wire r (now (words .exit) ∷ []) [] [] ≡ countWire (lending (now (words .entry) ∷ []) [] []) got ⌝ }
 {
     match got {
-        CountRead::Missing => 0,
-        CountRead::Count(_) => 0,
-        CountRead::Refused(r) => error::number_of(r) as u64,
+        CountRead::Missing => put_absent(words),
+        CountRead::Count(n) => put_found(n as u64, words),
+        CountRead::Refused(r) => wire::put_refusal(r, words),
     }
 }
 
-pub fn count_words(got: CountRead) -> [u64; 8]
-    ensures { λ r. ⌜ r ≡ countWords got ⌝ }
+pub fn put_index(got: IndexRead, words: &mut [u64; 8]) -> u64
+    ensures { λ r. ⌜ wire r (now (words .exit) ∷ []) [] [] ≡ indexWire (lending (now (words .entry) ∷ []) [] []) got ⌝ }
 {
     match got {
-        CountRead::Missing => found_words(wire::no_values(), 0, 0),
-        CountRead::Count(n) => found_words(wire::no_values(), 1, n as u64),
-        CountRead::Refused(r) => found_words(wire::values_of(r), 0, 0),
+        IndexRead::Missing => put_absent(words),
+        IndexRead::At(n) => put_found(n as u64, words),
+        IndexRead::Refused(r) => wire::put_refusal(r, words),
     }
 }
 
-pub fn index_number(got: IndexRead) -> u64
-    ensures { λ r. ⌜ r ≡ indexNumber got ⌝ }
+pub fn put_sub_file(got: SubFileAnswer, words: &mut [u64; 8]) -> u64
+    ensures { λ r. ⌜ wire r (now (words .exit) ∷ []) [] [] ≡ subFileWire (lending (now (words .entry) ∷ []) [] []) got ⌝ }
 {
     match got {
-        IndexRead::Missing => 0,
-        IndexRead::At(_) => 0,
-        IndexRead::Refused(r) => error::number_of(r) as u64,
+        SubFileAnswer::None => put_absent(words),
+        SubFileAnswer::At(n) => put_found(n as u64, words),
+        SubFileAnswer::Refused(r) => wire::put_refusal(r, words),
     }
 }
 
-pub fn index_words(got: IndexRead) -> [u64; 8]
-    ensures { λ r. ⌜ r ≡ indexWords got ⌝ }
+// A sub file's interval, as other calls take it; of a missing one only the mark that there is none.
+pub fn put_interval(got: IntervalAnswer, words: &mut [u64; 6], interval: &mut [u64; 6]) -> u64
+    ensures { λ r. ⌜ wire r (now (words .exit) ∷ now (interval .exit) ∷ []) [] [] ≡ intervalWire (lending (now (words .entry) ∷ now (interval .entry) ∷ []) [] []) got ⌝ }
 {
     match got {
-        IndexRead::Missing => found_words(wire::no_values(), 0, 0),
-        IndexRead::At(n) => found_words(wire::no_values(), 1, n as u64),
-        IndexRead::Refused(r) => found_words(wire::values_of(r), 0, 0),
-    }
-}
-
-pub fn sub_file_number(got: SubFileAnswer) -> u64
-    ensures { λ r. ⌜ r ≡ subFileNumber got ⌝ }
-{
-    match got {
-        SubFileAnswer::None => 0,
-        SubFileAnswer::At(_) => 0,
-        SubFileAnswer::Refused(r) => error::number_of(r) as u64,
-    }
-}
-
-pub fn sub_file_words(got: SubFileAnswer) -> [u64; 8]
-    ensures { λ r. ⌜ r ≡ subFileWords got ⌝ }
-{
-    match got {
-        SubFileAnswer::None => found_words(wire::no_values(), 0, 0),
-        SubFileAnswer::At(n) => found_words(wire::no_values(), 1, n as u64),
-        SubFileAnswer::Refused(r) => found_words(wire::values_of(r), 0, 0),
-    }
-}
-
-pub fn interval_number(got: IntervalAnswer) -> u64
-    ensures { λ r. ⌜ r ≡ intervalNumber got ⌝ }
-{
-    match got {
-        IntervalAnswer::Missing => 0,
-        IntervalAnswer::At(_) => 0,
-        IntervalAnswer::Refused(r) => error::number_of(r) as u64,
-    }
-}
-
-pub fn interval_words(got: IntervalAnswer) -> [u64; 6]
-    ensures { λ r. ⌜ r ≡ intervalWords got ⌝ }
-{
-    match got {
-        IntervalAnswer::Missing => [0; 6],
-        IntervalAnswer::At(_) => [0; 6],
-        IntervalAnswer::Refused(r) => {
-            let v = wire::values_of(r);
-            [v.list1, v.list2, v.list3, v.list4, v.list5, v.buffer]
+        IntervalAnswer::Missing => {
+            interval[0] = 0;
+            0
         }
-    }
-}
-
-// A sub file's interval, as other calls take it.
-pub fn interval_row(got: IntervalAnswer) -> [u64; 6]
-    ensures { λ r. ⌜ r ≡ intervalRow got ⌝ }
-{
-    match got {
-        IntervalAnswer::Missing => [0; 6],
-        IntervalAnswer::At(z) => [
-            1,
-            z.base_zoom_level as u64,
-            z.min_zoom_level as u64,
-            z.max_zoom_level as u64,
-            z.sub_file_start,
-            z.sub_file_size,
-        ],
-        IntervalAnswer::Refused(_) => [0; 6],
+        IntervalAnswer::At(z) => {
+            interval[0] = 1;
+            interval[1] = z.base_zoom_level as u64;
+            interval[2] = z.min_zoom_level as u64;
+            interval[3] = z.max_zoom_level as u64;
+            interval[4] = z.sub_file_start;
+            interval[5] = z.sub_file_size;
+            0
+        }
+        IntervalAnswer::Refused(r) => wire::put_refusal(r, words),
     }
 }
 
@@ -148,44 +104,19 @@ pub fn interval_in(words: [u64; 6]) -> IntervalRead
     IntervalRead::Missing
 }
 
-pub fn entry_number(got: EntryRead) -> u64
-    ensures { λ r. ⌜ r ≡ entryNumber got ⌝ }
+// Whether a tile is water, and where it stands, from the sub file's start and from the map's.
+pub fn put_entry(got: EntryRead, words: &mut [u64; 9]) -> u64
+    ensures { λ r. ⌜ wire r (now (words .exit) ∷ []) [] [] ≡ entryWire (lending (now (words .entry) ∷ []) [] []) got ⌝ }
 {
     match got {
-        EntryRead::Entry(_) => 0,
-        EntryRead::Refused(r) => error::number_of(r) as u64,
-    }
-}
-
-pub fn entry_words(got: EntryRead) -> [u64; 9]
-    ensures { λ r. ⌜ r ≡ entryWords got ⌝ }
-{
-    match got {
-        EntryRead::Entry(e) => [
-            0,
-            0,
-            0,
-            0,
-            0,
-            0,
-            wire::bit(e.is_water),
-            e.offset,
-            e.offset_abs,
-        ],
-        EntryRead::Refused(r) => {
-            let v = wire::values_of(r);
-            [
-                v.list1,
-                v.list2,
-                v.list3,
-                v.list4,
-                v.list5,
-                v.buffer,
-                0,
-                0,
-                0,
-            ]
+        EntryRead::Entry(e) => {
+            let water = wire::bit(e.is_water);
+            words[6] = water;
+            words[7] = e.offset;
+            words[8] = e.offset_abs;
+            0
         }
+        EntryRead::Refused(r) => wire::put_refusal(r, words),
     }
 }
 
@@ -203,159 +134,86 @@ fn kind_word(kind: Kind) -> u64
     }
 }
 
-pub fn tag_number(got: SpanRead) -> u64
-    ensures { λ r. ⌜ r ≡ tagNumber got ⌝ }
+// Where a tag's text stands, the place behind it, and the kind of its inline value; without a text there is no kind to tell.
+pub fn put_tag(got: SpanRead, kind: Kind, words: &mut [u64; 10]) -> u64
+    ensures { λ r. ⌜ wire r (now (words .exit) ∷ []) [] [] ≡ tagWire (lending (now (words .entry) ∷ []) [] []) (record { text = got; kind = kind }) ⌝ }
 {
     match got {
-        SpanRead::Value(_, _) => 0,
-        SpanRead::Refused(r) => error::number_of(r) as u64,
-    }
-}
-
-pub fn tag_words(got: SpanRead, kind: Kind) -> [u64; 10]
-    ensures { λ r. ⌜ r ≡ tagWords got kind ⌝ }
-{
-    let k = kind_word(kind);
-    match got {
-        SpanRead::Value(span, end) => [
-            0,
-            0,
-            0,
-            0,
-            0,
-            0,
-            span.start as u64,
-            span.size as u64,
-            end as u64,
-            k,
-        ],
-        SpanRead::Refused(r) => {
-            let v = wire::values_of(r);
-            [
-                v.list1,
-                v.list2,
-                v.list3,
-                v.list4,
-                v.list5,
-                v.buffer,
-                0,
-                0,
-                0,
-                k,
-            ]
+        SpanRead::Value(span, end) => {
+            let letter = kind_word(kind);
+            words[6] = span.start as u64;
+            words[7] = span.size as u64;
+            words[8] = end as u64;
+            words[9] = letter;
+            0
         }
+        SpanRead::Refused(r) => wire::put_refusal(r, words),
     }
 }
 
-pub fn text_number(got: Written) -> u64
-    ensures { λ r. ⌜ r ≡ textNumber got ⌝ }
+// How many bytes of a text were written.
+pub fn put_text(got: Written, words: &mut [u64; 7]) -> u64
+    ensures { λ r. ⌜ wire r (now (words .exit) ∷ []) [] [] ≡ textWire (lending (now (words .entry) ∷ []) [] []) got ⌝ }
 {
     match got {
-        Written::Upto(_) => 0,
-        Written::Refused(r) => error::number_of(r) as u64,
-    }
-}
-
-pub fn text_words(got: Written) -> [u64; 7]
-    ensures { λ r. ⌜ r ≡ textWords got ⌝ }
-{
-    match got {
-        Written::Upto(n) => [0, 0, 0, 0, 0, 0, n as u64],
-        Written::Refused(r) => {
-            let v = wire::values_of(r);
-            [v.list1, v.list2, v.list3, v.list4, v.list5, v.buffer, 0]
+        Written::Upto(n) => {
+            words[6] = n as u64;
+            0
         }
+        Written::Refused(r) => wire::put_lent_refusal(r, words),
     }
 }
 
-pub fn column_number(got: ColumnRead) -> u64
-    ensures { λ r. ⌜ r ≡ columnNumber got ⌝ }
+pub fn put_column(got: ColumnRead, words: &mut [u64; 6], column: &mut [i64; 1]) -> u64
+    ensures { λ r. ⌜ wire r (now (words .exit) ∷ []) (now (column .exit)) [] ≡ columnWire (lending (now (words .entry) ∷ []) (now (column .entry)) []) got ⌝ }
 {
     match got {
-        ColumnRead::Value(_) => 0,
-        ColumnRead::Refused(r) => error::number_of(r) as u64,
-    }
-}
-
-pub fn column_words(got: ColumnRead) -> [u64; 6]
-    ensures { λ r. ⌜ r ≡ columnWords got ⌝ }
-{
-    match got {
-        ColumnRead::Value(_) => [0; 6],
-        ColumnRead::Refused(r) => {
-            let v = wire::values_of(r);
-            [v.list1, v.list2, v.list3, v.list4, v.list5, v.buffer]
+        ColumnRead::Value(x) => {
+            let found = wire::wide_i32(x);
+            column[0] = found;
+            0
         }
+        ColumnRead::Refused(r) => wire::put_refusal(r, words),
     }
 }
 
-pub fn column_signed(got: ColumnRead) -> [i64; 1]
-    ensures { λ r. ⌜ r ≡ columnSigned got ⌝ }
+pub fn put_longitude(got: LongitudeRead, words: &mut [u64; 6], longitude: &mut [f64; 1]) -> u64
+    ensures { λ r. ⌜ wire r (now (words .exit) ∷ []) [] (now (longitude .exit)) ≡ longitudeWire (lending (now (words .entry) ∷ []) [] (now (longitude .entry))) got ⌝ }
 {
     match got {
-        ColumnRead::Value(x) => [wire::wide_i32(x)],
-        ColumnRead::Refused(_) => [0],
-    }
-}
-
-pub fn longitude_number(got: LongitudeRead) -> u64
-    ensures { λ r. ⌜ r ≡ longitudeNumber got ⌝ }
-{
-    match got {
-        LongitudeRead::Value(_) => 0,
-        LongitudeRead::Refused(r) => error::number_of(r) as u64,
-    }
-}
-
-pub fn longitude_words(got: LongitudeRead) -> [u64; 6]
-    ensures { λ r. ⌜ r ≡ longitudeWords got ⌝ }
-{
-    match got {
-        LongitudeRead::Value(_) => [0; 6],
-        LongitudeRead::Refused(r) => {
-            let v = wire::values_of(r);
-            [v.list1, v.list2, v.list3, v.list4, v.list5, v.buffer]
+        LongitudeRead::Value(d) => {
+            longitude[0] = d.0;
+            0
         }
+        LongitudeRead::Refused(r) => wire::put_refusal(r, words),
     }
 }
 
-pub fn longitude_degrees(got: LongitudeRead) -> [f64; 1]
-    ensures { λ r. ⌜ r ≡ longitudeDegrees got ⌝ }
+// The numbers of blocks and nodes of a way's data, and the place behind them.
+fn put_sizes(sizes: Sizes, end: usize, words: &mut [u64; 9]) -> u64
+    ensures { λ r. ⌜ wire r (now (words .exit) ∷ []) [] [] ≡ putSizes sizes end (lending (now (words .entry) ∷ []) [] []) ⌝ }
+{
+    words[6] = sizes.blocks;
+    words[7] = sizes.nodes;
+    words[8] = end as u64;
+    0
+}
+
+pub fn put_way_data(got: WayDataRead, words: &mut [u64; 9]) -> u64
+    ensures { λ r. ⌜ wire r (now (words .exit) ∷ []) [] [] ≡ wayDataWire (lending (now (words .entry) ∷ []) [] []) got ⌝ }
 {
     match got {
-        LongitudeRead::Value(d) => [d.0],
-        LongitudeRead::Refused(_) => [0.0],
+        WayDataRead::Value(s, end) => put_sizes(s, end, words),
+        WayDataRead::Refused(r) => wire::put_refusal(r, words),
     }
 }
 
-pub fn way_data_number(got: WayDataRead) -> u64
-    ensures { λ r. ⌜ r ≡ wayDataNumber got ⌝ }
+// The same of data that was written.
+pub fn put_data_written(got: WayDataWritten, words: &mut [u64; 9]) -> u64
+    ensures { λ r. ⌜ wire r (now (words .exit) ∷ []) [] [] ≡ dataWrittenWire (lending (now (words .entry) ∷ []) [] []) got ⌝ }
 {
     match got {
-        WayDataRead::Value(_, _) => 0,
-        WayDataRead::Refused(r) => error::number_of(r) as u64,
-    }
-}
-
-// The numbers of blocks and nodes, and the place behind them.
-pub fn way_data_words(got: WayDataRead) -> [u64; 9]
-    ensures { λ r. ⌜ r ≡ wayDataWords got ⌝ }
-{
-    match got {
-        WayDataRead::Value(s, end) => [0, 0, 0, 0, 0, 0, s.blocks, s.nodes, end as u64],
-        WayDataRead::Refused(r) => {
-            let v = wire::values_of(r);
-            [
-                v.list1,
-                v.list2,
-                v.list3,
-                v.list4,
-                v.list5,
-                v.buffer,
-                0,
-                0,
-                0,
-            ]
-        }
+        WayDataWritten::Value(s, end) => put_sizes(s, end, words),
+        WayDataWritten::Refused(r) => wire::put_lent_refusal(r, words),
     }
 }

@@ -1,6 +1,7 @@
 // A block at its limit, which is too long for the other programs' input: 2^20 nodes pass, one more is 10. `bench/run` holds the same
 // blocks to the Rust, all their nodes included; here the lists are too short on purpose.
 use report::Words;
+use way_data::WayDataWritten;
 use way_measure::WayDataRead;
 
 fn room() -> [u8; 2200000] {
@@ -11,6 +12,13 @@ fn words_of(got: WayDataRead) -> Words {
     match got {
         WayDataRead::Value(s, end) => questions::three(s.blocks, s.nodes, end as u64),
         WayDataRead::Refused(r) => questions::refusal_words(r),
+    }
+}
+
+fn written_words(got: WayDataWritten) -> Words {
+    match got {
+        WayDataWritten::Value(s, end) => questions::three(s.blocks, s.nodes, end as u64),
+        WayDataWritten::Refused(r) => questions::lent_refusal_words(r),
     }
 }
 
@@ -25,7 +33,7 @@ fn read(map: &[u8]) -> Words {
     let mut counts = [0u64; 4];
     let mut latitudes = [0.0; 1000];
     let mut longitudes = [0.0; 1000];
-    words_of(way_data::read_way_data(
+    written_words(way_data::read_way_data(
         map,
         0,
         1,

@@ -5,7 +5,7 @@ use mathlib.Core.Bool.{Bool, true, false, cond}
 use mathlib.Core.List.{List, [], _∷_, _++_, map}
 use lib.Dec.{ltb}
 use lib.ListN.{length, length-map}
-use Rattle.parsing.specs.Parse.{Res, ok, no, Part, Maybe, none, some, nth}
+use Rattle.parsing.specs.Parse.{Res, Part, Maybe, none, some, nth}
 use Rattle.text.specs.Utf8.{replaced}
 use Rattle.format.specs.Header.{Tags}
 use Rattle.format.specs.Index.{answer}
@@ -92,25 +92,25 @@ module _ (f g : ℕ → List ℕ) (q : (i : ℕ) → f i ≡ g i) where
   way-same h b = ap (λ l. wayOf h b l (idTexts f (h .tagged .ids))) (strings-same (h .tagged .ids)) ∙ ap (wayOf h b (map (λ i. tagString (g i)) (h .tagged .ids))) (ids-same (h .tagged .ids))
 
 -- feature k of the tile that the book is fed
-module _ (debug : Bool) (rows : ℕ) (p w : List Kind) (poiNames wayNames : List Part) (poiName wayName : ℕ → List ℕ)
+module _ (debug : Bool) (p w : List Kind) (poiNames wayNames : List Part) (poiName wayName : ℕ → List ℕ)
     (a : (i : ℕ) → poiName i ≡ listedName poiNames i) (b : (i : ℕ) → wayName i ≡ listedName wayNames i) where
-  abbrev S : View (tileFormat debug rows p w)
-  S = tileView debug rows p w poiNames wayNames
+  abbrev S : View (tileFormat debug p w)
+  S = tileView debug p w poiNames wayNames
 
-  abbrev gives : collected.Feature (storedCollection (tileFormat debug rows p w)) → Res (Fetched Feature)
-  gives x = givenBy debug rows p w poiName wayName x
+  abbrev gives : collected.Feature (storedCollection (tileFormat debug p w)) → Res (Fetched Feature)
+  gives x = givenBy debug p w poiName wayName x
 
   a-point : (l : List Point) (k : ℕ) → gives (collected.pointOr (nth l k)) ≡ fetchGives (collected.pointOr (nth (map (S .collectedPoint) l) k))
   a-point [] k = refl
   a-point (x ∷ l) zero = ap (λ y. answer (fetchedAs aPoi y)) (point-same poiName (listedName poiNames) a x)
   a-point (x ∷ l) (suc k) = a-point l k
 
-  a-way : (l : List (Way (tileFormat debug rows p w))) (k : ℕ) → gives (collected.wayOr (nth l k)) ≡ fetchGives (collected.wayOr (nth (map (S .collectedWay) l) k))
+  a-way : (l : List (Way (tileFormat debug p w))) (k : ℕ) → gives (collected.wayOr (nth l k)) ≡ fetchGives (collected.wayOr (nth (map (S .collectedWay) l) k))
   a-way [] k = refl
   a-way (x ∷ l) zero = ap (λ y. answer (fetchedAs aWay y)) (way-same wayName (listedName wayNames) b (x .head) (x .body))
   a-way (x ∷ l) (suc k) = a-way l k
 
-  pub fetch-gives : (t : StoredTile (tileFormat debug rows p w)) (z : TileEnd) (k : ℕ) → gives (fetch (storedTile t z) k) ≡ fetchGives (fetch (collectedTile S t z) k)
+  pub fetch-gives : (t : StoredTile (tileFormat debug p w)) (z : TileEnd) (k : ℕ) → gives (fetch (storedTile t z) k) ≡ fetchGives (fetch (collectedTile S t z) k)
   fetch-gives t z k = go (ltb k (length (t .points))) ∙ ap tested (sym (length-map (t .points) (S .collectedPoint)))
     where
       ways : List (S .collection .Way)

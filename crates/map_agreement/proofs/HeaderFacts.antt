@@ -1,12 +1,12 @@
 -- What a map that was opened with header h reads by its tables, and what the header's value says.
 use Prim.Native.Nat.{ℕ}
-use mathlib.Core.Path.{_≡_, refl, sym, ap, _∙_, subst}
+use mathlib.Core.Path.{_≡_, refl, ap, _∙_, subst}
 use mathlib.Core.Bool.{Bool, true, false, cond}
 use mathlib.Core.List.{List, [], _∷_, map}
 use lib.Dec.{eqb}
 use Rattle.parsing.specs.Parse.{Res, ok, no, andThen}
-use Rattle.parsing.specs.Good.{split, ok-val, ok-at, no-ok}
-use Rattle.format.specs.Header.{Front, Options, Tags, Interval, Header, front, options, tags, intervals, tables, header, closed, signature, signatures, opened, debug}
+use Rattle.parsing.specs.Good.{split, ok-val, no-ok}
+use Rattle.format.specs.Header.{Front, Options, Tags, Interval, Header, front, options, tags, intervals, tables, header, signature, signatures, opened, debug}
 use Rattle.format.specs.Kinds.{kindOfText, tagKinds}
 use Rattle.format.specs.TagTable.{tableOf}
 use Rattle.tag_kinds.proofs.KindLaws.{tagKinds-read}

@@ -2,28 +2,29 @@
 -- and what a program sees of such a map, where the machine's replies are the book's.
 use Prim.Native.Nat.{ℕ}
 use mathlib.Core.Path.{_≡_, refl, sym, ap, _∙_, subst}
-use mathlib.Core.Bool.{Bool, true, false, cond}
+use mathlib.Core.Bool.{Bool}
 use mathlib.Core.List.{List, [], _∷_, map}
-use lib.Dec.{leb, ltb}
 use Rattle.parsing.specs.Parse.{Res, ok, no, andThen, mapRes, Part, Maybe, none, some, nth}
-use Rattle.parsing.specs.Good.{ok-val, ok-at, no-ok}
+use Rattle.parsing.specs.Good.{split, ok-val, ok-at, no-ok}
 use Rattle.format.specs.Header.{Interval, Header, header, opened, debug}
-use Rattle.format.specs.Index.{answer, answered, Grid, Entry, Located, locate, locateIn, inSubFile}
+use Rattle.format.specs.Index.{answer, answered, Grid, Located, located, locate, locateIn, inSubFile}
 use Rattle.format.specs.Index as index
 use Rattle.format.specs.Kinds.{kindOfText, tagKinds}
 use Rattle.format.specs.TagTable.{tableOf}
 use Rattle.format.specs.Lent.{Reply}
-use Rattle.format.specs.Rows.{rowsOfInterval, rowsUpto}
-use Rattle.format.specs.Tile.{Point, Head, Body}
+use Rattle.format.specs.Rows.{rowsUpto}
+use Rattle.format.specs.Tile.{tileHead, Point, Head, Body}
 use Rattle.tag.specs.declared.Kind.{Kind}
 use Rattle.types.specs.Types.{endRes, intervalsOf}
 use Rattle.types.specs.declared.End.the-variants as end
 use Rattle.header.specs.HeaderView.{mapHeader, HeaderIs}
 use Rattle.header.specs.declared.HeaderRead.{HeaderRead}
 use Rattle.header.proofs.HeaderLaws.{intervals-back}
-use Rattle.tile_layout.specs.TileLayout.{layoutOf, formatOf}
+use Rattle.tile_layout.specs.TileLayout.{layoutOf}
 use Rattle.tile_layout.specs.declared.TileLayout.{TileLayout}
 use Rattle.agreement.specs.Calls.{Answer, Call, run}
+use Rattle.tile_place.proofs.PlaceLaws.{located-found}
+use Rattle.tile_layout.specs.TileLayout.{formatOf}
 use Rattle.agreement.specs.Collected.{StoredTile, collect}
 use Rattle.agreement.specs.MapLayout.{MapLayout, rowsAt}
 use Rattle.agreement.specs.MapLayout as layout
@@ -35,16 +36,16 @@ use Rattle.visit.specs.Visit.{stateOf, openTile, openRes, ShownAnswer, shown}
 use Rattle.visit.specs.declared.Stream.{Stream}
 use Rattle.visit.specs.declared.OpenRead.{OpenRead}
 use Rattle.visit.specs.declared.OpenRead.the-variants as open-read
-use Rattle.tile.specs.Tile.{shownTile, collectAt, collectTile}
+use Rattle.tile.specs.Tile.{shownTile, collectTile}
 use Rattle.tile.specs.declared.Tile.{Tile}
 use Rattle.agreement.specs.Collected as collected
 use Rattle.fetched.specs.Fetched.{walkedName, Fetched}
 use Rattle.fetch.specs.Fetch as fetch
 use Rattle.map_agreement.specs.TileView.{tileView}
-use Rattle.map_agreement.specs.MapsforgeMap.{entryIn, valueOf, interval, lowest, highest, mapsforge}
+use Rattle.map_agreement.specs.MapsforgeMap.{valueOf, interval, lowest, highest, mapsforge}
 use Rattle.map_agreement.specs.BookSays.{Opens, opens, bookAt, SeesBook}
 use Rattle.map_agreement.proofs.Chain.{shownReplies, called-run}
-use Rattle.map_agreement.proofs.MapLaws.{located}
+use Rattle.map_agreement.proofs.MapLaws.{located-at}
 use Rattle.map_agreement.proofs.HeaderFacts.{HeaderKinds, header-kinds, header-of}
 use Rattle.types.specs.declared.MapHeader.{MapHeader}
 use Rattle.types.specs.declared.End.{End}
@@ -56,44 +57,24 @@ use Rattle.map_agreement.specs.Texts.{textsFound, textsStored}
 use Rattle.map_agreement.proofs.TextLaws.{texts-found}
 
 -- the tile's interval is that of its entry
-entry-interval : (g : Grid) (number : ℕ) (r : Maybe Interval) (m : List ℕ) (i : ℕ) (l : Located) (e : ℕ) → entryIn g number r m i ≡ ok l e → r ≡ some (l .interval)
+entry-interval : (g : Grid) (number : ℕ) (r : Maybe Interval) (m : List ℕ) (i : ℕ) (l : Located) (e : ℕ) → inSubFile r (no 8 []) (λ z. located g number z m i) ≡ ok l e → r ≡ some (l .interval)
 entry-interval g number none m i l e q = no-ok q
-entry-interval g number (some z) m i l e q = grid-tested (index.goodGrid g) q
-  where
-    last : (x : Entry) (j : ℕ) (c : Bool) → cond c (ok (record { interval = z; entry = x }) j) (no 13 []) ≡ ok l e → some z ≡ some (l .interval)
-    last x j true d = ap (λ (y : Located). some (y .interval)) (ok-val d)
-    last x j false d = no-ok d
-
-    read : (r : Res Entry) → andThen {B = Located} r (λ x j. cond (leb (z .min) (z .max)) (ok (record { interval = z; entry = x }) j) (no 13 [])) ≡ ok l e → some z ≡ some (l .interval)
-    read (ok x j) d = last x j (leb (z .min) (z .max)) d
-    read (no k v) d = no-ok d
-
-    tile-tested : (c : Bool) → cond c (andThen {B = Located} (index.entry (z .start) m i) (λ x j. cond (leb (z .min) (z .max)) (ok (record { interval = z; entry = x }) j) (no 13 []))) (no 8 []) ≡ ok l e → some z ≡ some (l .interval)
-    tile-tested true d = read (index.entry (z .start) m i) d
-    tile-tested false d = no-ok d
-
-    grid-tested : (c : Bool) → cond c (cond (ltb number (index.tilesOf g)) (andThen {B = Located} (index.entry (z .start) m i) (λ x j. cond (leb (z .min) (z .max)) (ok (record { interval = z; entry = x }) j) (no 13 []))) (no 8 [])) (no 14 []) ≡ ok l e → some z ≡ some (l .interval)
-    grid-tested true d = tile-tested (ltb number (index.tilesOf g)) d
-    grid-tested false d = no-ok d
+entry-interval g number (some z) m i l e q = ap some (located-found g number z m i l e q .interval)
 
 -- the machine's replies, shown
-shown-same : (debug : Bool) (rows : ℕ) (p w : List Kind) (a b : List Part) (rs : List (Reply (Answer Point Head Body TileEnd))) → shownReplies rs ≡ streamedReplies (tileView debug rows p w a b) rs
-shown-same debug rows p w a b [] = refl
-shown-same debug rows p w a b (r ∷ rs) = ap (λ l. record { answer = shown (r .answer); lists = r .lists } ∷ l) (shown-same debug rows p w a b rs)
+shown-same : (debug : Bool) (p w : List Kind) (a b : List Part) (rs : List (Reply (Answer Point Head Body TileEnd))) → shownReplies rs ≡ streamedReplies (tileView debug p w a b) rs
+shown-same debug p w a b [] = refl
+shown-same debug p w a b (r ∷ rs) = ap (λ l. record { answer = shown (r .answer); lists = r .lists } ∷ l) (shown-same debug p w a b rs)
 
 -- `tile_index_entry` answers the entry by which the tile is located
 entry-held : (d : Bool) (i : Maybe Interval) (g : Grid) (number : ℕ) (m : List ℕ) (l : Located) → locate d i g number m ≡ answer l → heldRes (index.tileIndexEntry d i g number m) ≡ answer (heldEntry (l .entry))
-unfolding locate locateIn index.tileIndexEntry
+unfolding locate locateIn index.tileIndexEntry index.entryIn
 entry-held d none g number m l q = no-ok q
-entry-held d (some z) g number m l q = read (index.entryIn d (z .start) g number m) q
-  where
-    tested : (n : Entry) (c : Bool) → cond c (answer (record { interval = z; entry = n })) (no 13 []) ≡ answer l → answer (heldEntry n) ≡ answer (heldEntry (l .entry))
-    tested n true e = ap (λ (y : Located). answer (heldEntry (y .entry))) (ok-val e)
-    tested n false e = no-ok e
-
-    read : (r : Res Entry) → andThen {B = Located} r (λ n _. cond (leb (z .min) (z .max)) (answer (record { interval = z; entry = n })) (no 13 [])) ≡ answer l → heldRes r ≡ answer (heldEntry (l .entry))
-    read (ok n x) e = tested n (leb (z .min) (z .max)) e
-    read (no k v) e = no-ok e
+entry-held d (some z) g number m l q =
+    let a = split (located g number z m (index.entryAt d (z .start) number)) (λ x _. answer x) l 0 q in
+    let f = located-found g number z m (index.entryAt d (z .start) number) (a .val) (a .mid) (a .first) in
+    let e : a .val .entry ≡ l .entry = ap (λ (y : Located). y .entry) (ok-val (a .second)) in
+    rw (f .counted, f .inside, f .own, e)
 
 entry-answer : (r : EntryRead) {a : TileIndexEntry} → entryRes r ≡ answer a → r ≡ entry-read.Entry a
 entry-answer (entry-read.Entry b) q = ap entry-read.Entry (ok-val q)
@@ -124,9 +105,6 @@ module _ (s : ℕ) (grid : Grid) (number : ℕ) (h : Header) where
   abbrev wayKinds : List Kind
   wayKinds = map kindOfText (h .wayTags .texts)
 
-  abbrev rows : ℕ
-  rows = rowsOfInterval (lowest s grid number h) (highest s grid number h)
-
   -- what `layout_of` and `interval_of` give of the header
   abbrev lay : TileLayout
   lay = layoutOf (mapHeader h)
@@ -140,7 +118,7 @@ module _ (s : ℕ) (grid : Grid) (number : ℕ) (h : Header) where
 
     pub located-as : locate (lay .debug) found grid number m ≡ answered (C .entry h m (C .entryAt h))
     unfolding locate
-    located-as = ap (λ zs. inSubFile (nth zs s) (no 8 []) (λ z. locateIn (debug h) z grid number m)) (intervals-back h) ∙ located grid number (debug h) m (nth (h .intervals) s)
+    located-as = ap (λ zs. inSubFile (nth zs s) (no 8 []) (λ z. locateIn (debug h) z grid number m)) (intervals-back h) ∙ located-at grid number (debug h) m (nth (h .intervals) s)
 
     module _ (l : Located) (x : ℕ) (en : C .entry h m (C .entryAt h) ≡ ok l x) where
       low-is : l .interval .min ≡ lowest s grid number h
@@ -149,47 +127,41 @@ module _ (s : ℕ) (grid : Grid) (number : ℕ) (h : Header) where
       high-is : l .interval .max ≡ highest s grid number h
       high-is = ap (valueOf 0 (λ z. z .max)) (sym (entry-interval grid number (nth (h .intervals) s) m (C .entryAt h) l x en))
 
-      abbrev pub collects : (low high : ℕ) (p w : List Kind) → Res Tile
-      collects low high p w = answered (mapRes (shownTile (debug h) (rowsOfInterval low high) p w) (collect (tileFormat (debug h) (rowsOfInterval low high) p w) m (l .entry .absolute)))
+      abbrev pub collects : (p w : List Kind) → Res Tile
+      collects p w = answered (mapRes shownTile (collect (C .tileHead h l) (tileFormat (debug h) p w) m (C .tileAt h l)))
 
       -- collecting, by the header's value
-      pub collected-as : collectTile lay found grid number m ≡ collects (lowest s grid number h) (highest s grid number h) poiKinds wayKinds
+      pub collected-as : collectTile lay found grid number m ≡ collects poiKinds wayKinds
       unfolding collectTile
       collected-as =
-          ap (λ r. andThen {B = Tile} r (λ l _. collectAt lay (l .interval .min) (l .interval .max) (l .entry .absolute) m)) (located-as ∙ ap answered en)
-          ∙ ap (λ p. collects (l .interval .min) (l .interval .max) p (tagKinds (tableOf (h .wayTags)) m)) (kinds .poi)
-          ∙ ap (λ w. collects (l .interval .min) (l .interval .max) poiKinds w) (kinds .way)
-          ∙ ap (λ a. collects a (l .interval .max) poiKinds wayKinds) low-is
-          ∙ ap (λ a. collects (lowest s grid number h) a poiKinds wayKinds) high-is
+          ap (λ r. andThen {B = Tile} r (λ l _. answered (mapRes shownTile (collect (C .tileHead h l) (formatOf lay m) m (C .tileAt h l))))) (located-as ∙ ap answered en)
+          ∙ ap (λ p. collects p (tagKinds (tableOf (h .wayTags)) m)) (kinds .poi)
+          ∙ ap (λ w. collects poiKinds w) (kinds .way)
 
       -- fetching, by the header's value
-      abbrev pub fetchesAt : (k low high : ℕ) (p w : List Kind) → Res (Fetched fetch.Feature)
-      fetchesAt k low high p w =
-          andThen (collect (tileFormat (debug h) (rowsOfInterval low high) p w) m (l .entry .absolute)) (λ t _.
-          fetch.givenBy (debug h) (rowsOfInterval low high) p w (walkedName (tableOf (h .poiTags)) m) (walkedName (tableOf (h .wayTags)) m) (collected.fetch (collected.storedTile t (record { subFile = s; water = l .entry .water })) k))
+      abbrev pub fetchesAt : (k : ℕ) (p w : List Kind) → Res (Fetched fetch.Feature)
+      fetchesAt k p w =
+          andThen (collect (C .tileHead h l) (tileFormat (debug h) p w) m (C .tileAt h l)) (λ t _.
+          fetch.givenBy (debug h) p w (walkedName (tableOf (h .poiTags)) m) (walkedName (tableOf (h .wayTags)) m) (collected.fetch (collected.storedTile t (record { subFile = s; water = l .entry .water })) k))
 
-      pub fetched-as : (k : ℕ) → fetch.fetchTile lay found grid number k m ≡ fetchesAt k (lowest s grid number h) (highest s grid number h) poiKinds wayKinds
+      pub fetched-as : (k : ℕ) → fetch.fetchTile lay found grid number k m ≡ fetchesAt k poiKinds wayKinds
       unfolding fetch.fetchTile
       fetched-as k =
           ap (λ r. andThen {B = Fetched fetch.Feature} r (λ l _. fetch.fetchAt lay k l m)) (located-as ∙ ap answered en)
-          ∙ ap (λ p. fetchesAt k (l .interval .min) (l .interval .max) p (tagKinds (tableOf (h .wayTags)) m)) (kinds .poi)
-          ∙ ap (λ w. fetchesAt k (l .interval .min) (l .interval .max) poiKinds w) (kinds .way)
-          ∙ ap (λ a. fetchesAt k a (l .interval .max) poiKinds wayKinds) low-is
-          ∙ ap (λ a. fetchesAt k (lowest s grid number h) a poiKinds wayKinds) high-is
+          ∙ ap (λ p. fetchesAt k p (tagKinds (tableOf (h .wayTags)) m)) (kinds .poi)
+          ∙ ap (λ w. fetchesAt k poiKinds w) (kinds .way)
 
-      abbrev opensAt : (low high zoom : ℕ) (p w : List Kind) → Res (State TileEnd)
-      opensAt low high zoom p w = answered (openStream (tileFormat (debug h) (rowsOfInterval low high) p w) (rowsUpto low high zoom) (record { subFile = s; water = l .entry .water }) m (l .entry .absolute))
+      abbrev opensAt : (low high zoom : ℕ) → Res (State TileEnd)
+      opensAt low high zoom = answered (openStream (C .tileHead h l) (rowsUpto low high zoom) (C .end h l) m (C .tileAt h l))
 
       -- opening a stream, by the header's value
       pub opened-as : (zoom : ℕ) → openTile lay found s grid number zoom m ≡ answered (layout.openTile C h zoom m)
       unfolding openTile
       opened-as zoom =
-          ap (λ r. andThen {B = State TileEnd} r (λ l _. answered (openStream (formatOf lay (rowsOfInterval (l .interval .min) (l .interval .max)) m) (rowsUpto (l .interval .min) (l .interval .max) zoom) (record { subFile = s; water = l .entry .water }) m (l .entry .absolute)))) (located-as ∙ ap answered en)
-          ∙ ap (λ p. opensAt (l .interval .min) (l .interval .max) zoom p (tagKinds (tableOf (h .wayTags)) m)) (kinds .poi)
-          ∙ ap (λ w. opensAt (l .interval .min) (l .interval .max) zoom poiKinds w) (kinds .way)
-          ∙ ap (λ a. opensAt a (l .interval .max) zoom poiKinds wayKinds) low-is
-          ∙ ap (λ a. opensAt (lowest s grid number h) a zoom poiKinds wayKinds) high-is
-          ∙ ap (λ r. answered (andThen {B = State TileEnd} r (λ n _. openStream (C .format h) (rowsAt C h zoom) (C .end h n) m (C .tileAt h n)))) (sym en)
+          ap (λ r. andThen {B = State TileEnd} r (λ l _. answered (openStream (C .tileHead h l) (rowsUpto (l .interval .min) (l .interval .max) zoom) (C .end h l) m (C .tileAt h l)))) (located-as ∙ ap answered en)
+          ∙ ap (λ a. opensAt a (l .interval .max) zoom) low-is
+          ∙ ap (λ a. opensAt (lowest s grid number h) a zoom) high-is
+          ∙ ap (λ r. answered (andThen {B = State TileEnd} r (λ n _. openStream (C .tileHead h n) (rowsAt C h zoom) (C .end h n) m (C .tileAt h n)))) (sym en)
 
       -- the entry's water mark, as `tile_index_entry` answers it
       pub entry-is : (r : EntryRead) → entryRes r ≡ heldRes (index.tileIndexEntry (lay .debug) found grid number m) → r ≡ entry-read.Entry (heldEntry (l .entry))
@@ -201,10 +173,10 @@ module _ (s : ℕ) (grid : Grid) (number : ℕ) (h : Header) where
       fresh-opens = opened-as n (a .map .entryEnd) (a .map .entry) zoom ∙ ap answered (a .opens)
 
       abbrev machine : (p w : List Kind) → State TileEnd → List (Reply ShownAnswer)
-      machine p w x = shownReplies (run (stream (tileFormat (debug h) rows p w) m) x cs)
+      machine p w x = shownReplies (run (stream (tileFormat (debug h) p w) m) x cs)
 
       says-book : machine poiKinds wayKinds (freshTile C h n t zoom) ≡ bookAt s grid number h n t zoom cs
-      says-book = shown-same (debug h) rows poiKinds wayKinds (h .poiTags .texts) (h .wayTags .texts) (run (stream (C .format h) m) (freshTile C h n t zoom) cs) ∙ a .shown
+      says-book = shown-same (debug h) poiKinds wayKinds (h .poiTags .texts) (h .wayTags .texts) (run (stream (C .format h) m) (freshTile C h n t zoom) cs) ∙ a .shown
 
       pub sees-book : (b : HeaderRead) → HeaderIs (ok h e) b → SeesBook s grid number h n t m b lay found zoom cs
       sees-book b d = record {
@@ -214,13 +186,13 @@ module _ (s : ℕ) (grid : Grid) (number : ℕ) (h : Header) where
             (p, k .layout ∙ ap layoutOf q, k .interval ∙ ap (λ x. nth (intervalsOf x) s) q);
         streams = λ q r. never-refused q (r ∙ fresh-opens);
         replies = λ st r rs k.
-            called-run m lay rows st cs rs k
+            called-run m lay st cs rs k
             ∙ ap (λ p. machine p (tagKinds (tableOf (h .wayTags)) m) (stateOf st)) (kinds .poi)
             ∙ ap (λ w. machine poiKinds w (stateOf st)) (kinds .way)
             ∙ ap (machine poiKinds wayKinds) (ok-val (r ∙ fresh-opens))
             ∙ says-book;
         texts =
             ap (textsFound m) (sym says-book)
-            ∙ texts-found (debug h) rows poiKinds wayKinds m cs (freshTile C h n t zoom)
+            ∙ texts-found (debug h) poiKinds wayKinds m cs (freshTile C h n t zoom)
             ∙ ap textsStored (a .replies);
       }

@@ -10,7 +10,6 @@ use Rattle.format.specs.Header.{Interval, Header, opened, debug}
 use Rattle.format.specs.Index.{answer, answered, Grid, Located}
 use Rattle.format.specs.Kinds.{kindOfText}
 use Rattle.format.specs.TagTable.{tableOf}
-use Rattle.format.specs.Rows.{rowsOfInterval}
 use Rattle.tag.specs.declared.Kind.{Kind}
 use Rattle.types.specs.Types.{endRes, intervalsOf}
 use Rattle.types.specs.Beside.{viewOr}
@@ -19,13 +18,13 @@ use Rattle.header.specs.HeaderView.{mapHeader, HeaderIs}
 use Rattle.header.specs.declared.HeaderRead.{HeaderRead}
 use Rattle.index.specs.Answers.{intervalFound}
 use Rattle.index.specs.declared.IntervalRead.{IntervalRead}
-use Rattle.tile_layout.specs.TileLayout.{layoutOf}
+use Rattle.tile_layout.specs.TileLayout.{layoutOf, formatOf}
 use Rattle.tile_layout.specs.declared.TileLayout.{TileLayout}
 use Rattle.agreement.specs.Collected.{StoredTile, allExact, collect}
 use Rattle.agreement.specs.MapLayout.{MapLayout, openedBytes}
 use Rattle.agreement.specs.Demand3.{Demand3, MapCollects, mapReplies, MapAlterable}
 use Rattle.agreement.proofs.Agreement.{demand-3, open-near}
-use Rattle.tile.specs.Tile.{collectAt, collectTile, tileRes, emptyTile}
+use Rattle.tile.specs.Tile.{shownTile, collectTile, tileRes, emptyTile}
 use Rattle.tile.specs.declared.Tile.{Tile}
 use Rattle.tile.specs.declared.TileRead.{TileRead}
 use Rattle.agreement.specs.Collected as collected
@@ -34,7 +33,7 @@ use Rattle.fetched.specs.Fetched.{walkedName, Fetched}
 use Rattle.fetch.specs.Fetch as fetch
 use Rattle.map_agreement.specs.TileView.{fetchGives}
 use Rattle.map_agreement.proofs.FetchGives.{name-is, fetch-gives}
-use Rattle.map_agreement.specs.MapsforgeMap.{lowest, highest, mapsforge, shownIn}
+use Rattle.map_agreement.specs.MapsforgeMap.{mapsforge}
 use Rattle.map_agreement.specs.BookSays.{Collected, BookSays, fedTile, bookAt}
 use Rattle.map_agreement.proofs.MapLaws.{mapsforge-laws}
 use Rattle.map_agreement.proofs.HeaderFacts.{opened-is, header-of}
@@ -68,9 +67,6 @@ module _ (m : List ℕ) (small : length m < 2 ^ 64) (s : ℕ) (grid : Grid) (num
   abbrev wayKinds : List Kind
   wayKinds = map kindOfText (h .wayTags .texts)
 
-  abbrev rows : ℕ
-  rows = rowsOfInterval (lowest s grid number h) (highest s grid number h)
-
   -- what `layout_of` and `interval_of` give of the header
   abbrev lay : TileLayout
   lay = layoutOf (mapHeader h)
@@ -88,12 +84,12 @@ module _ (m : List ℕ) (small : length m < 2 ^ 64) (s : ℕ) (grid : Grid) (num
       ∙ open-near m m′ long C (mapsforge-laws s grid number) h e k (sym (opened-is s grid number m) ∙ o)
 
   module _ (l : Located) (x : ℕ) (en : C .entry h m (C .entryAt h) ≡ ok l x) where
-    module _ (t : StoredTile (C .format h)) (past : ℕ) (c : collect (C .format h) m (l .entry .absolute) ≡ ok t past) (sizes : allExact (t .ways) ≡ true) where
+    module _ (t : StoredTile (C .format h)) (past : ℕ) (c : collect (C .tileHead h l) (C .format h) m (C .tileAt h l) ≡ ok t past) (sizes : allExact (t .ways) ≡ true) where
       whole : MapCollects C m h l t
       whole = record {
         map = record { headerEnd = e; header = sym (opened-is s grid number m) ∙ o; entryEnd = x; entry = en };
         past = past;
-        collects = ap (λ r. andThen {B = StoredTile (C .format h)} r (λ n _. collect (C .format h) m (C .tileAt h n))) en ∙ c;
+        collects = ap (λ r. andThen {B = StoredTile (C .format h)} r (λ n _. collect (C .tileHead h n) (C .format h) m (C .tileAt h n))) en ∙ c;
         sizes = sizes;
         small = small;
       }
@@ -102,8 +98,8 @@ module _ (m : List ℕ) (small : length m < 2 ^ 64) (s : ℕ) (grid : Grid) (num
       D = demand-3 C (mapsforge-laws s grid number) m h l t whole
 
       -- collecting answers that tile
-      shown-is : collectTile lay found grid number m ≡ answer (shownIn s grid number h t)
-      shown-is = collected-as s grid number h m e o l x en ∙ ap (λ r. answered (mapRes (shownIn s grid number h) r)) c
+      shown-is : collectTile lay found grid number m ≡ answer (shownTile t)
+      shown-is = collected-as s grid number h m e o l x en ∙ ap (λ r. answered (mapRes shownTile r)) c
 
       names : TagNames m h
       names = header-tags m 0 h e (header-of m h e o)
@@ -112,8 +108,8 @@ module _ (m : List ℕ) (small : length m < 2 ^ 64) (s : ℕ) (grid : Grid) (num
       fetched-is : (k : ℕ) → fetch.fetchTile lay found grid number k m ≡ fetchGives (collected.fetch (fedTile s grid number h l t) k)
       fetched-is k =
           fetched-as s grid number h m e o l x en k
-          ∙ ap (λ r. andThen {B = Fetched fetch.Feature} r (λ t _. fetch.givenBy (debug h) rows poiKinds wayKinds (walkedName (tableOf (h .poiTags)) m) (walkedName (tableOf (h .wayTags)) m) (collected.fetch (collected.storedTile t (C .end h l)) k))) c
-          ∙ fetch-gives (debug h) rows poiKinds wayKinds (h .poiTags .texts) (h .wayTags .texts) (walkedName (tableOf (h .poiTags)) m) (walkedName (tableOf (h .wayTags)) m) (name-is m (h .poiTags) (names .poi)) (name-is m (h .wayTags) (names .way)) t (C .end h l) k
+          ∙ ap (λ r. andThen {B = Fetched fetch.Feature} r (λ t _. fetch.givenBy (debug h) poiKinds wayKinds (walkedName (tableOf (h .poiTags)) m) (walkedName (tableOf (h .wayTags)) m) (collected.fetch (collected.storedTile t (C .end h l)) k))) c
+          ∙ fetch-gives (debug h) poiKinds wayKinds (h .poiTags .texts) (h .wayTags .texts) (walkedName (tableOf (h .poiTags)) m) (walkedName (tableOf (h .wayTags)) m) (name-is m (h .poiTags) (names .poi)) (name-is m (h .wayTags) (names .way)) t (C .end h l) k
 
       says : Says
       says = record {
@@ -134,17 +130,17 @@ module _ (m : List ℕ) (small : length m < 2 ^ 64) (s : ℕ) (grid : Grid) (num
 
     -- the tile as stored
     from-tile : (v : Tile) → v .exact ≡ true → answer v ≡ collectTile lay found grid number m → Says
-    from-tile v f q = go (collect (C .format h) m (l .entry .absolute)) refl (q ∙ collected-as s grid number h m e o l x en)
+    from-tile v f q = go (collect (C .tileHead h l) (C .format h) m (C .tileAt h l)) refl (q ∙ collected-as s grid number h m e o l x en)
       where
-        go : (r : Res (StoredTile (C .format h))) → collect (C .format h) m (l .entry .absolute) ≡ r → answer v ≡ answered (mapRes (shownIn s grid number h) r) → Says
+        go : (r : Res (StoredTile (C .format h))) → collect (C .tileHead h l) (C .format h) m (C .tileAt h l) ≡ r → answer v ≡ answered (mapRes shownTile r) → Says
         go (ok t past) c d = says t past c (ap (λ (a : Tile). a .exact) (sym (ok-val d)) ∙ f)
         go (no k y) c d = no-ok (sym d)
 
   from-map : (v : Tile) → v .exact ≡ true → answer v ≡ collectTile lay found grid number m → Says
   unfolding collectTile
-  from-map v f q = go (C .entry h m (C .entryAt h)) refl (q ∙ ap (λ r. andThen {B = Tile} r (λ l _. collectAt lay (l .interval .min) (l .interval .max) (l .entry .absolute) m)) (located-as s grid number h m e o))
+  from-map v f q = go (C .entry h m (C .entryAt h)) refl (q ∙ ap (λ r. andThen {B = Tile} r (λ l _. answered (mapRes shownTile (collect (C .tileHead h l) (formatOf lay m) m (C .tileAt h l))))) (located-as s grid number h m e o))
     where
-      go : (r : Res Located) → C .entry h m (C .entryAt h) ≡ r → answer v ≡ andThen {B = Tile} (answered r) (λ l _. collectAt lay (l .interval .min) (l .interval .max) (l .entry .absolute) m) → Says
+      go : (r : Res Located) → C .entry h m (C .entryAt h) ≡ r → answer v ≡ andThen {B = Tile} (answered r) (λ l _. answered (mapRes shownTile (collect (C .tileHead h l) (formatOf lay m) m (C .tileAt h l)))) → Says
       go (ok l x) en d = from-tile l x en v f q
       go (no k y) en d = no-ok (sym d)
 

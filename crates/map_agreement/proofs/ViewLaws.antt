@@ -1,5 +1,4 @@
 -- What the book says of a fetched feature is what the stream shows of the stored one.
-use Prim.Native.Nat.{ℕ}
 use mathlib.Core.Path.{refl}
 use mathlib.Core.Bool.{Bool}
 use mathlib.Core.List.{List}
@@ -8,8 +7,8 @@ use Rattle.tag.specs.declared.Kind.{Kind}
 use Rattle.agreement.specs.View.{ViewLaws}
 use Rattle.map_agreement.specs.TileView.{tileView}
 
-pub tile-view : (debug : Bool) (rows : ℕ) (poiKinds wayKinds : List Kind) (poiNames wayNames : List Part) → ViewLaws (tileView debug rows poiKinds wayKinds poiNames wayNames)
-tile-view debug rows poiKinds wayKinds poiNames wayNames = record {
+pub tile-view : (debug : Bool) (poiKinds wayKinds : List Kind) (poiNames wayNames : List Part) → ViewLaws (tileView debug poiKinds wayKinds poiNames wayNames)
+tile-view debug poiKinds wayKinds poiNames wayNames = record {
   point = λ p. refl;
   head = λ w. refl;
   body = λ w. refl;

@@ -8,19 +8,20 @@ use lib.ListN.{length, take, length-map}
 use Rattle.parsing.specs.Parse.{Res, ok, no, andThen, Maybe}
 use Rattle.parsing.specs.Good.{ok-val, no-ok}
 use Rattle.format.specs.Header.{Interval}
-use Rattle.format.specs.Index.{answer, answered, Grid, Located, locate}
+use Rattle.format.specs.Index.{answer, answered, Grid, Located, locate, tileAt}
 use Rattle.format.specs.Lent.{LentLists, Reply}
-use Rattle.format.specs.Rows.{rowsOfInterval, rowsUpto}
+use Rattle.format.specs.Rows.{rowsUpto, locatedHead}
 use Rattle.format.specs.Tile.{Point, Head, Body}
 use Rattle.tagged.specs.declared.TagIds.{TagIds}
 use Rattle.poi.specs.declared.Poi.{Poi}
 use Rattle.tile_layout.specs.TileLayout.{formatOf}
 use Rattle.tile_layout.specs.declared.TileLayout.{TileLayout}
 use Rattle.agreement.specs.Calls.{next, accept, decline, Answer, gotPoint, gotHead, gotBody, declined, ended, refused, Step, run, noLists, lending}
-use Rattle.agreement.specs.Format.{Format, pointsUpTo, waysUpTo}
+use Rattle.agreement.specs.Format.{Format}
+use Rattle.agreement.specs.Heads.{pointsUpTo, waysUpTo}
 use Rattle.agreement.specs.Stream.{State, stream, openStream}
 use Rattle.agreement.specs.TileFormat.{TileEnd}
-use Rattle.agreement.proofs.TileFormatLaws.{tile-laws}
+use Rattle.agreement.proofs.TileFormatLaws.{tile-laws, head-counts}
 use Rattle.zooming.specs.Zooming.{Delivered, byHead, whole, EndsWell, at-end, on-point, on-declined, on-accepted, OnlyAdds}
 use Rattle.zooming.proofs.Zooming.{zooming-in}
 use Rattle.zooming.proofs.TileZooming.{tile-advances, lower-zoom}
@@ -117,9 +118,9 @@ decides-first rule (suc n) no-way = no-way
 decides-first rule (suc n) (declines c d) = declines c (decides-first rule n d)
 decides-first rule (suc n) (accepts c d) = accepts c (decides-first rule n d)
 
-module _ (m : List ℕ) (l : TileLayout) (rows : ℕ) (rule : (bitmap : ℕ) → TagIds → Bool) where
+module _ (m : List ℕ) (l : TileLayout) (rule : (bitmap : ℕ) → TagIds → Bool) where
   abbrev F : Format
-  F = formatOf l rows m
+  F = formatOf l m
 
   -- the rule on a stored head
   abbrev stored : ℕ → Head → Bool
@@ -222,28 +223,25 @@ answered-read (no k v) a q = no-ok q
 module _ (m : List ℕ) (l : TileLayout) (i : Maybe Interval) (subFile : ℕ) (grid : Grid) (number zoom : ℕ) (rule : (bitmap : ℕ) → TagIds → Bool)
     (lists : List LentLists) (points : List Poi) (ways : List SeenWay) (z : TileEnd) (saw : Saw m l i subFile grid number zoom rule lists points ways z) where
   module _ (place : Located) (at : ℕ) (found : locate (l .debug) i grid number m ≡ ok place at) where
-    abbrev rows : ℕ
-    rows = rowsOfInterval (place .interval .min) (place .interval .max)
-
     abbrev upto : ℕ → ℕ
     upto zoom = rowsUpto (place .interval .min) (place .interval .max) zoom
 
     abbrev end : TileEnd
     end = record { subFile = subFile; water = place .entry .water }
 
-    opened-at : (zoom : ℕ) → openTile l i subFile grid number zoom m ≡ answered (openStream (formatOf l rows m) (upto zoom) end m (place .entry .absolute))
+    opened-at : (zoom : ℕ) → openTile l i subFile grid number zoom m ≡ answered (openStream (locatedHead (l .debug) place) (upto zoom) end m (tileAt place))
     unfolding openTile
     opened-at zoom = rw found
 
     -- what was seen, as the machine streams it
-    was : Streamed m l rows rule 0 (stateOf (saw .stream)) points ways z
+    was : Streamed m l rule 0 (stateOf (saw .stream)) points ways z
     was =
-        streamed-points m l rows rule (stateOf (saw .stream)) z points (saw .decides)
-        (called-run m l rows (saw .stream) (callsOf points ways) (repliesOf points ways z) (saw .calls))
+        streamed-points m l rule (stateOf (saw .stream)) z points (saw .decides)
+        (called-run m l (saw .stream) (callsOf points ways) (repliesOf points ways z) (saw .calls))
 
-    adds : OnlyAdds (formatOf l rows m) m (stored m l rows rule) (place .entry .absolute) end (upto zoom) (was .lent) (was .points) (was .ways) z
+    adds : OnlyAdds (locatedHead (l .debug) place) (formatOf l m) m (stored m l rule) (tileAt place) end (upto zoom) (was .lent) (was .points) (was .ways) z
     adds =
-        zooming-in (formatOf l rows m) (tile-laws _ _ _ _) (tile-advances _ _ _ _) m (saw .small) (stored m l rows rule) (place .entry .absolute) end (upto zoom)
+        zooming-in (locatedHead (l .debug) place) (head-counts (place .empty) (l .debug) _) (formatOf l m) (tile-laws _ _ _) (tile-advances _ _ _) m (saw .small) (stored m l rule) (tileAt place) end (upto zoom)
         (answered-read _ _ (sym (opened-at zoom) ∙ sym (saw .opens)) .read) (was .ends)
 
     module _ (zoom′ : ℕ) (le : zoom′ ≤ zoom) where
@@ -267,11 +265,11 @@ module _ (m : List ℕ) (l : TileLayout) (i : Maybe Interval) (subFile : ℕ) (g
             opens = λ r e. never-refused r (e ∙ o);
             decides = decides-first rule wayCount (saw .decides);
             replies = λ s e rs c.
-                called-run m l rows s (callsOf (take pointCount points) (take wayCount ways)) rs c
-                ∙ ap (λ x. shownReplies (run (stream (formatOf l rows m) m) x (callsOf (take pointCount points) (take wayCount ways)))) (ok-val (e ∙ o))
-                ∙ subst (λ ws. shownReplies (run (stream (formatOf l rows m) m) (f .start) (callsOf (take pointCount points) ws)) ≡ repliesOf (take pointCount points) ws z) first-ways
-                (subst (λ ps. shownReplies (run (stream (formatOf l rows m) m) (f .start) (callsOf ps (map seen (take wayCount (was .ways))))) ≡ repliesOf ps (map seen (take wayCount (was .ways))) z) first-points
-                (shown-all m l rows rule (f .ends)));
+                called-run m l s (callsOf (take pointCount points) (take wayCount ways)) rs c
+                ∙ ap (λ x. shownReplies (run (stream (formatOf l m) m) x (callsOf (take pointCount points) (take wayCount ways)))) (ok-val (e ∙ o))
+                ∙ subst (λ ws. shownReplies (run (stream (formatOf l m) m) (f .start) (callsOf (take pointCount points) ws)) ≡ repliesOf (take pointCount points) ws z) first-ways
+                (subst (λ ps. shownReplies (run (stream (formatOf l m) m) (f .start) (callsOf ps (map seen (take wayCount (was .ways))))) ≡ repliesOf ps (map seen (take wayCount (was .ways))) z) first-points
+                (shown-all m l rule (f .ends)));
             point-count = ap length (sym first-points) ∙ length-map (take pointCount (was .points)) shownPoint ∙ f .point-count;
             way-count = ap length (sym first-ways) ∙ length-map (take wayCount (was .ways)) seen ∙ f .way-count;
           }
@@ -292,7 +290,7 @@ module _ (m : List ℕ) (l : TileLayout) (i : Maybe Interval) (subFile : ℕ) (g
   zooming-says = go (locate (l .debug) i grid number m) refl (saw .opens)
     where
       go : (r : Res Located) → locate (l .debug) i grid number m ≡ r
-          → openRes (open-read.Stream (saw .stream)) ≡ andThen {B = State TileEnd} r (λ a _. answered (openStream (formatOf l (rowsOfInterval (a .interval .min) (a .interval .max)) m) (rowsUpto (a .interval .min) (a .interval .max) zoom) (record { subFile = subFile; water = a .entry .water }) m (a .entry .absolute)))
+          → openRes (open-read.Stream (saw .stream)) ≡ andThen {B = State TileEnd} r (λ a _. answered (openStream (locatedHead (l .debug) a) (rowsUpto (a .interval .min) (a .interval .max) zoom) (record { subFile = subFile; water = a .entry .water }) m (tileAt a)))
           → ZoomingIn m l i subFile grid number zoom rule lists points ways z
       go (ok a e) f q = from-place a e f
       go (no k v) f q = no-ok (sym q)

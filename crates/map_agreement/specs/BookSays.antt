@@ -30,14 +30,14 @@ use Rattle.visit.specs.Visit.{openTile, openRes, ShownAnswer}
 use Rattle.visit.specs.declared.Stream.{Stream}
 use Rattle.visit.specs.declared.OpenRead.{OpenRead}
 use Rattle.visit.specs.declared.OpenRead.the-variants as open-read
-use Rattle.tile.specs.Tile.{collectTile, TileIs}
+use Rattle.tile.specs.Tile.{shownTile, collectTile, TileIs}
 use Rattle.tile.specs.declared.TileAnswer.the-variants as tile-answer
 use Rattle.tile.specs.declared.TileRead.{TileRead}
 use Rattle.fetched.specs.Fetched.{FetchLists}
 use Rattle.fetch.specs.Fetch.{fetchTile, FeatureIs}
 use Rattle.fetched.specs.declared.Fetch.{Fetch}
 use Rattle.map_agreement.specs.TileView.{tileCollection, fetchGives}
-use Rattle.map_agreement.specs.MapsforgeMap.{shownIn, mapsforge}
+use Rattle.map_agreement.specs.MapsforgeMap.{mapsforge}
 use Rattle.map_agreement.specs.Called.{Called}
 use Rattle.map_agreement.specs.Texts.{textsFound, textsStored}
 
@@ -99,7 +99,7 @@ pub record BookSays (m : List ℕ) (subFile : ℕ) (grid : Grid) (number : ℕ) 
   pub tile : StoredTile (mapsforge subFile grid number .format stored)
   pub collects : MapCollects (mapsforge subFile grid number) m stored place tile
   pub demand-3 : Demand3 (mapsforge subFile grid number) m stored place tile
-  pub shows : (t : TileRead) → TileIs (collectTile l i grid number m) t → t .tile ≡ shownIn subFile grid number stored tile
+  pub shows : (t : TileRead) → TileIs (collectTile l i grid number m) t → t .tile ≡ shownTile tile
   pub entry : (r : EntryRead) → entryRes r ≡ heldRes (tileIndexEntry (l .debug) i grid number m) → r ≡ entry-read.Entry (heldEntry (place .entry))
   pub fetches : (k : ℕ) (lent left : FetchLists) (r : Fetch) → FeatureIs (fetchTile l i grid number k m) lent r left
       → FeatureIs (fetchGives (fetch (fedTile subFile grid number stored place tile) k)) lent r left

@@ -5,12 +5,14 @@ use Prim.Native.Nat.{ℕ}
 use mathlib.Core.Path.{_≡_}
 use mathlib.Core.List.{List, [], _∷_}
 use lib.Ieee.{Float}
+use Rattle.format.specs.BodyLists.{bodyLists}
 use Rattle.format.specs.Lent.{Reply}
+use Rattle.format.specs.Tile.{body}
 use Rattle.way_data.specs.Reply.{lent}
 use Rattle.tile_layout.specs.TileLayout.{formatOf}
 use Rattle.tile_layout.specs.declared.TileLayout.{TileLayout}
 use Rattle.agreement.specs.Calls.{Call, next, accept, decline, noLists}
-use Rattle.agreement.specs.Stream.{stream}
+use Rattle.agreement.specs.Stream.{onNext, onAccept, onDecline}
 use Rattle.visit.specs.Visit.{stateOf, ShownAnswer, shownStep, nextAnswer, NextIs, acceptAnswer, acceptStep, declineAnswer, declineStep}
 use Rattle.visit.specs.declared.Stream.{Stream}
 use Rattle.visit.specs.declared.NextStep.{NextStep}
@@ -21,14 +23,14 @@ use Rattle.visit.specs.declared.Declined.{Declined}
 pub data Called (m : List ℕ) (l : TileLayout) : Stream → List Call → List (Reply ShownAnswer) → Type 0 where
   no-call : {s : Stream} → Called m l s [] []
   call-next : (r : NextStep) {s : Stream} {cs : List Call} {rs : List (Reply ShownAnswer)}
-      → ((rows : ℕ) → NextIs (shownStep (stream (formatOf l rows m) m (stateOf s) next)) r)
+      → NextIs (shownStep (onNext (formatOf l m) m (stateOf s))) r
       → Called m l (r .stream) cs rs
       → Called m l s (next ∷ cs) (record { answer = nextAnswer (r .answer) (r .poi) (r .head); lists = noLists } ∷ rs)
   call-accept : (r : Accepted) (c₀ c : List ℕ) (la₀ lo₀ la lo : List Float) {s : Stream} {cs : List Call} {rs : List (Reply ShownAnswer)}
-      → ((k : TileLayout) (rows : ℕ) → acceptStep r c la lo ≡ shownStep (stream (formatOf k rows m) m (stateOf s) (accept (lent c₀ la₀ lo₀))))
+      → acceptStep r c la lo ≡ shownStep (onAccept body bodyLists m (stateOf s) (lent c₀ la₀ lo₀))
       → Called m l (r .stream) cs rs
       → Called m l s (accept (lent c₀ la₀ lo₀) ∷ cs) (record { answer = acceptAnswer (r .answer); lists = lent c la lo } ∷ rs)
   call-decline : (r : Declined) {s : Stream} {cs : List Call} {rs : List (Reply ShownAnswer)}
-      → ((k : TileLayout) (rows : ℕ) (x : List ℕ) → declineStep r ≡ shownStep (stream (formatOf k rows x) x (stateOf s) decline))
+      → declineStep r ≡ shownStep (onDecline (stateOf s))
       → Called m l (r .stream) cs rs
       → Called m l s (decline ∷ cs) (record { answer = declineAnswer (r .answer); lists = noLists } ∷ rs)

@@ -1,6 +1,5 @@
 -- What the book of demand 3 is fed of a Mapsforge tile: each feature as it is fetched, together with its texts as stored; and what the
 -- book says of it, which are the fetched fields but for those that a streamed feature lacks (document 01, "The book of demand 3").
-use Prim.Native.Nat.{ℕ}
 use mathlib.Core.Bool.{Bool}
 use mathlib.Core.List.{List, []}
 use Rattle.parsing.specs.Parse.{Res, no, Part, Maybe}
@@ -76,8 +75,8 @@ tileCollection = record {
 }
 
 -- `poiNames` and `wayNames` are the header's tag names; what the stream shows is what the contracts of crate visit say
-abbrev pub tileView : (debug : Bool) (rows : ℕ) (poiKinds wayKinds : List Kind) → (poiNames wayNames : List Part) → View (tileFormat debug rows poiKinds wayKinds)
-tileView debug rows poiKinds wayKinds poiNames wayNames = record {
+abbrev pub tileView : (debug : Bool) (poiKinds wayKinds : List Kind) → (poiNames wayNames : List Part) → View (tileFormat debug poiKinds wayKinds)
+tileView debug poiKinds wayKinds poiNames wayNames = record {
   collection = tileCollection;
   collectedPoint = λ p. record { fetched = fetchedPoint (listedName poiNames) p; name = p .name; houseNumber = p .houseNumber };
   collectedWay = λ w. record {

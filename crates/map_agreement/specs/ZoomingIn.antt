@@ -7,15 +7,15 @@ use mathlib.Core.List.{List, [], _∷_}
 use lib.ListN.{length, take}
 use Rattle.parsing.specs.Parse.{ok, Maybe}
 use Rattle.format.specs.Header.{Interval}
-use Rattle.format.specs.Index.{answer, answered, Grid, Located, locate}
+use Rattle.format.specs.Index.{answer, answered, Grid, Located, locate, tileAt}
 use Rattle.format.specs.Lent.{LentLists, Reply}
-use Rattle.format.specs.Rows.{rowsOfInterval, rowsUpto}
-use Rattle.format.specs.Tile.{TileHead, tileHead}
+use Rattle.format.specs.Rows.{rowsUpto, locatedHead}
+use Rattle.format.specs.Tile.{TileHead}
 use Rattle.tagged.specs.declared.TagIds.{TagIds}
 use Rattle.poi.specs.declared.Poi.{Poi}
 use Rattle.tile_layout.specs.declared.TileLayout.{TileLayout}
 use Rattle.agreement.specs.Calls.{Call, next, accept, decline, Answer, gotPoint, gotHead, gotBody, declined, ended, noLists}
-use Rattle.agreement.specs.Format.{pointsUpTo, waysUpTo}
+use Rattle.agreement.specs.Heads.{pointsUpTo, waysUpTo}
 use Rattle.agreement.specs.TileFormat.{TileEnd}
 use Rattle.zooming.specs.Zooming.{Delivered, byHead, whole}
 use Rattle.visit.specs.Visit.{openTile, openRes, ShownAnswer}
@@ -84,14 +84,14 @@ pub record WillSee (m : List ℕ) (l : TileLayout) (i : Maybe Interval) (subFile
   pub point-count : length (take pointCount points) ≡ pointCount
   pub way-count : length (take wayCount ways) ≡ wayCount
 
--- The tile has a head, at the place that its entry names. At every lower zoom the program sees the first points and the first ways, as
+-- The tile has a head, at the place that its entry names; marked empty, it has an empty one. At every lower zoom the program sees the first points and the first ways, as
 -- many as the head's zoom table counts up to that zoom, clamped into the interval.
 pub record ZoomingIn (m : List ℕ) (l : TileLayout) (i : Maybe Interval) (subFile : ℕ) (grid : Grid) (number zoom : ℕ) (rule : (bitmap : ℕ) → TagIds → Bool) (lists : List LentLists) (points : List Poi) (ways : List SeenWay) (z : TileEnd) : Type 0 where
   pub place : Located
   pub located : answered (locate (l .debug) i grid number m) ≡ answer place
   pub head : TileHead
   pub behind : ℕ
-  pub read : tileHead (l .debug) (rowsOfInterval (place .interval .min) (place .interval .max)) m (place .entry .absolute) ≡ ok head behind
+  pub read : locatedHead (l .debug) place m (tileAt place) ≡ ok head behind
   pub lower : (zoom′ : ℕ) → zoom′ ≤ zoom
       → WillSee m l i subFile grid number zoom′
       (pointsUpTo (head .table) (rowsUpto (place .interval .min) (place .interval .max) zoom′))

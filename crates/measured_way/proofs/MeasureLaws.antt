@@ -10,8 +10,10 @@ use lib.Seq.{take-all}
 use borrow.Author.Tests.{leb-true, leb-false, not-true, not-false, lt-ltb, le-ltb, le-leb, lt-leb}
 use Rattle.parsing.specs.Parse.{Res, ok, no, andThen, mapRes}
 use Rattle.parsing.specs.Good.{ok-val, ok-at, no-ok}
-use Rattle.error.specs.Refusals.{refused, lengths}
+use Rattle.error.specs.Refusals.{refused, lentRefused, lengths}
 use Rattle.error.specs.declared.Lengths.{Lengths}
+use Rattle.error.specs.declared.LentRefusal.{LentRefusal}
+use Rattle.error.specs.declared.LentRefusal.the-variants as lent-refusal
 use Rattle.error.specs.declared.Refusal.{Refusal}
 use Rattle.arithmetic.specs.Cut.{cut}
 use Rattle.arithmetic.proofs.CutLaws.{cut-fits}
@@ -20,10 +22,9 @@ use Rattle.format.specs.WayData.{Node, concat, nodeCount}
 use Rattle.format.specs.Nodes.{latitudeOf, longitudeOf, nodeCounts, latitudes, longitudes, initialLatitudes, initialLongitudes}
 use Rattle.format.specs.Tile.{Head, head, Body, body, doubleDelta}
 use Rattle.types.specs.Types.{endRes, endRefusal, maybePart}
-use Rattle.types.specs.Beside.{Beside}
+use Rattle.types.specs.Beside.{viewOr}
 use Rattle.types.specs.declared.End.the-variants as end
 use Rattle.types.specs.declared.TagTable.{TagTable}
-use Rattle.types.proofs.BesideLaws.{beside-done, beside-no}
 use Rattle.tag_table.specs.Tables.{tableIn}
 use Rattle.tagged.specs.TagIds.{tagIds}
 use Rattle.way.specs.Way.{bodyOf, bodyRes, bodyRefusal}
@@ -36,21 +37,35 @@ use Rattle.way_head.specs.declared.WayHead.{WayHead}
 use Rattle.way_head.specs.declared.WayHeadRead.{WayHeadRead}
 use Rattle.fetched.specs.Fetched.{walkedName, buffered, featureTexts, noTexts, wayLists, wayRecord, neededAll}
 use Rattle.fetched.specs.declared.FeatureTexts.{FeatureTexts}
+use Rattle.fetched.specs.declared.FetchEnd.{FetchEnd}
+use Rattle.fetched.specs.declared.FetchEnd.the-variants as fetch-end
 use Rattle.fetched.specs.declared.FetchedWay.{FetchedWay}
 use Rattle.feature_texts.specs.FeatureTexts.{textsIn}
 use Rattle.feature_texts.specs.declared.TextParts.{TextParts}
 use Rattle.feature_texts.proofs.ShortLaws.{Known, known-by, WayTexts, body-texts, head-few, texts-short, ids-within, ids-counted, ids-are}
 use Rattle.feature_tags.specs.FeatureTags.{textsOf}
-use Rattle.measured_way.specs.MeasuredWay.{wayParts, toldOf, toldWay, fitsIn, measured, wayWith, textsWith, listsWith, emptyWay, noTextPlan, noListPlan, noWay, Shown, shownOf, nothing, shown, MeasuredIs, roomy, tooShort, WayTold, BodyMeasured}
+use Rattle.measured_way.specs.MeasuredWay.{wayParts, Told, toldOf, toldWay, fitsIn, measured, wayWith, textsWith, listsWith, emptyWay, noTextPlan, noListPlan, noWay, Shown, shownOf, nothing, shown, ToldAs, MeasuredIs, roomy, tooShort, WayTold, BodyMeasured}
 use Rattle.measured_way.specs.declared.TextPlan.{TextPlan}
 use Rattle.measured_way.specs.declared.MeasuredWay.{MeasuredWay}
+
+-- a way that is told, and one that is not
+module _ (stored : Res Told) where
+  told-at : (v : Shown) (n : ℕ) → ok v n ≡ mapRes shownOf stored → ToldAs stored v (fetch-end.At n)
+  told-at v n q = record { answer = q; whole = value stored q }
+    where
+      value : (r : Res Told) → ok v n ≡ mapRes shownOf r → v ≡ viewOr shownOf nothing r
+      value (ok a e) q = ok-val q
+      value (no k l) q = no-ok (sym q)
+
+  told-no : (v : Shown) (g : FetchEnd) (e : LentRefusal) → v ≡ nothing → g ≡ fetch-end.Refused e → lentRefused e ≡ stored → ToldAs stored v g
+  told-no v g e h k q = record { answer = rw (k, ← q); whole = rw (← q) h }
 
 -- where there is no way
 pub no-texts-there : (t : FeatureTexts) → t ≡ noTexts
     → _≡_ {A = FetchedWay} (record { signature = emptyWay .signature; bitmap = 0; layer = emptyWay .layer; «tag_ids» = emptyWay .«tag_ids»; texts = t; «label_position» = emptyWay .«label_position»; «double_delta» = false; blocks = 0; nodes = 0 }) emptyWay
 no-texts-there t h = rw h
 
-pub none-made : (w : FetchedWay) (p : TextPlan) (x : Refusal) → w ≡ emptyWay → p ≡ noTextPlan → _≡_ {A = MeasuredWay} (record { way = w; texts = p; lists = noListPlan; end = end.Refused x }) (noWay x)
+pub none-made : (w : FetchedWay) (p : TextPlan) (x : LentRefusal) → w ≡ emptyWay → p ≡ noTextPlan → _≡_ {A = MeasuredWay} (record { way = w; texts = p; lists = noListPlan; end = fetch-end.Refused x }) (noWay x)
 none-made w p x h k = rw (h, k)
 
 -- the test of the lengths
@@ -132,7 +147,7 @@ module _ (t : TagTable) (m : List ℕ) (s : Head) (d : Body) (start next : ℕ) 
   needed-is : neededAll (wayLists name s d) ≡ lengths (length all) (nodeCount all) (nodeCount all) (length all) (length all) (length bytes)
   needed-is = rw (counts-length, lats-length, lons-length, initial-lats-length, initial-lons-length) refl
 
-  measured-short : (room : Lengths) → roomy (length all) (nodeCount all) (length bytes) room ≡ false → refused (tooShort (length all) (nodeCount all) (length bytes)) ≡ measured room (ok (toldOf t m s start d) next)
+  measured-short : (room : Lengths) → roomy (length all) (nodeCount all) (length bytes) room ≡ false → lentRefused (tooShort (length all) (nodeCount all) (length bytes)) ≡ measured room (ok (toldOf t m s start d) next)
   measured-short room q = ap (no 15) (sym needed-is) ∙ rw (fits-is room, q) refl
 
   measured-done : (room : Lengths) → roomy (length all) (nodeCount all) (length bytes) room ≡ true → ok (toldOf t m s start d) next ≡ measured room (ok (toldOf t m s start d) next)
@@ -154,7 +169,7 @@ module _ (t : TagTable) (h : WayHead) (b : WayBody) (ids : List ℕ) (start next
     tested : (c : Bool) → roomy (b .blocks) (b .nodes) len room ≡ c → roomy (length (concat (d .dataBlocks))) (nodeCount (concat (d .dataBlocks))) (length (bytes t m s d start next few-ids rd)) room ≡ c
     tested c q = ap (λ x. roomy (length (concat (d .dataBlocks))) (nodeCount (concat (d .dataBlocks))) x room) (sym measured-bytes) ∙ ap (λ (x : WayBody). roomy (x .blocks) (x .nodes) len room) (sym bd) ∙ q
 
-    refused-as : (x : Refusal) → x ≡ tooShort (b .blocks) (b .nodes) len → x ≡ tooShort (length (concat (d .dataBlocks))) (nodeCount (concat (d .dataBlocks))) (length (bytes t m s d start next few-ids rd))
+    refused-as : (x : LentRefusal) → x ≡ tooShort (b .blocks) (b .nodes) len → x ≡ tooShort (length (concat (d .dataBlocks))) (nodeCount (concat (d .dataBlocks))) (length (bytes t m s d start next few-ids rd))
     refused-as x q = q ∙ ap (λ (y : WayBody). tooShort (y .blocks) (y .nodes) len) bd ∙ ap (tooShort (length (concat (d .dataBlocks))) (nodeCount (concat (d .dataBlocks)))) measured-bytes
 
     shown-as : (tx : FeatureTexts) (v : FetchedWay) → tx ≡ textsOf pr m ids → v ≡ wayWith h b tx → _≡_ {A = Shown} (record { way = v; texts = textsWith h pr; lists = listsWith b start }) (shownOf (toldOf t m s start d))
@@ -167,26 +182,26 @@ module _ (t : TagTable) (h : WayHead) (b : WayBody) (ids : List ℕ) (start next
         ∙ ap (λ x. record { way = wayRecord (walkedName (tableIn t) m) s d; texts = textsWith (headOf s) x; lists = listsWith b start }) k
         ∙ ap (λ x. record { way = wayRecord (walkedName (tableIn t) m) s d; texts = textsWith (headOf s) (wayParts x t); lists = listsWith x start }) bd
 
-  pub told-short : (x : Refusal) (r : MeasuredWay) → g ≡ true → x ≡ tooShort (b .blocks) (b .nodes) len → r ≡ noWay x → WayTold t h b ids start next room m r
+  pub told-short : (x : LentRefusal) (r : MeasuredWay) → g ≡ true → x ≡ tooShort (b .blocks) (b .nodes) len → r ≡ noWay x → WayTold t h b ids start next room m r
   told-short x r q e v = record {
     each = λ s d hs is few bd rd.
-        beside-no shownOf nothing (measured room (ok (toldOf t m s start d) next)) (shown r) (r .end) x (ap shown v) (ap (λ (y : MeasuredWay). y .end) v)
-        (ap refused (refused-as s d hs is few bd rd x e) ∙ measured-short t m s d start next (few-ids s d hs is few bd rd) rd room (tested s d hs is few bd rd false (not-true _ (sym j ∙ q))));
+        told-no (measured room (ok (toldOf t m s start d) next)) (shown r) (r .end) x (ap shown v) (ap (λ (y : MeasuredWay). y .end) v)
+        (ap lentRefused (refused-as s d hs is few bd rd x e) ∙ measured-short t m s d start next (few-ids s d hs is few bd rd) rd room (tested s d hs is few bd rd false (not-true _ (sym j ∙ q))));
   }
 
-  pub told-done : (tx : FeatureTexts) (v : FetchedWay) → g ≡ false → tx ≡ textsOf pr m ids → v ≡ wayWith h b tx → WayTold t h b ids start next room m (record { way = v; texts = textsWith h pr; lists = listsWith b start; end = end.At next })
+  pub told-done : (tx : FeatureTexts) (v : FetchedWay) → g ≡ false → tx ≡ textsOf pr m ids → v ≡ wayWith h b tx → WayTold t h b ids start next room m (record { way = v; texts = textsWith h pr; lists = listsWith b start; end = fetch-end.At next })
   told-done tx v q e w = record {
     each = λ s d hs is few bd rd.
-        beside-done shownOf nothing (measured room (ok (toldOf t m s start d) next)) (record { way = v; texts = textsWith h pr; lists = listsWith b start }) next
+        told-at (measured room (ok (toldOf t m s start d) next)) (record { way = v; texts = textsWith h pr; lists = listsWith b start }) next
         (ap (λ x. ok x next) (shown-as s d hs is few bd rd tx v e w) ∙ ap (mapRes shownOf) (measured-done t m s d start next (few-ids s d hs is few bd rd) rd room (tested s d hs is few bd rd true (not-false _ (sym j ∙ q)))));
   }
 
 -- the body, behind the head
 module _ (t : TagTable) (h : WayHead) (ids : List ℕ) (start : ℕ) (room : Lengths) (m : List ℕ) (g : WayBodyRead) (q : bodyRes g ≡ mapRes bodyOf (body m start)) where
-  pub body-no : (x y : Refusal) (r : MeasuredWay) → g ≡ body-read.Refused x → y ≡ bodyRefusal g → r ≡ noWay y → BodyMeasured t h ids start room m r
+  pub body-no : (x y : Refusal) (r : MeasuredWay) → g ≡ body-read.Refused x → y ≡ bodyRefusal g → r ≡ noWay (lent-refusal.Refused y) → BodyMeasured t h ids start room m r
   body-no x y r e w v = record {
     each = λ s hs is few.
-        beside-no shownOf nothing (measured room (mapRes (toldOf t m s start) (body m start))) (shown r) (r .end) y (ap shown v) (ap (λ (z : MeasuredWay). z .end) v)
+        told-no (measured room (mapRes (toldOf t m s start) (body m start))) (shown r) (r .end) (lent-refusal.Refused y) (ap shown v) (ap (λ (z : MeasuredWay). z .end) v)
         (ap refused (w ∙ ap bodyRefusal e) ∙ go s (body m start) (ap bodyRes (sym e) ∙ q));
   }
     where
@@ -197,9 +212,9 @@ module _ (t : TagTable) (h : WayHead) (ids : List ℕ) (start : ℕ) (room : Len
   pub body-on : (b : WayBody) (n : ℕ) (r : MeasuredWay) → g ≡ body-read.Value b n → WayTold t h b ids start n room m r → BodyMeasured t h ids start room m r
   body-on b n r e w = record { each = λ s hs is few. go s hs is few (body m start) refl (ap bodyRes (sym e) ∙ q) }
     where
-      go : (s : Head) → h ≡ headOf s → ids ≡ s .tagged .ids → length ids ≤ 15 → (d : Res Body) → body m start ≡ d → ok b n ≡ mapRes bodyOf d → Beside shownOf nothing (measured room (mapRes (toldOf t m s start) d)) (shown r) (r .end)
+      go : (s : Head) → h ≡ headOf s → ids ≡ s .tagged .ids → length ids ≤ 15 → (d : Res Body) → body m start ≡ d → ok b n ≡ mapRes bodyOf d → ToldAs (measured room (mapRes (toldOf t m s start) d)) (shown r) (r .end)
       go s hs is few (ok d x) f i =
-          subst (λ (y : ℕ). Beside shownOf nothing (measured room (ok (toldOf t m s start d) y)) (shown r) (r .end)) (ok-at i)
+          subst (λ (y : ℕ). ToldAs (measured room (ok (toldOf t m s start d) y)) (shown r) (r .end)) (ok-at i)
           (w .each s d hs is few (ok-val i) (f ∙ ap (ok d) (sym (ok-at i))))
       go s hs is few (no k v) f i = no-ok (sym i)
 
@@ -208,9 +223,9 @@ module _ (debug : Bool) (t : TagTable) (room : Lengths) (m : List ℕ) (at : ℕ
   abbrev stored : Res Head
   stored = head debug (tagKinds (tableIn t) m) m at
 
-  pub head-no : (r : MeasuredWay) (x y : Refusal) → g .end ≡ end.Refused x → y ≡ endRefusal (g .end) → r ≡ noWay y → MeasuredIs debug t room m at r
+  pub head-no : (r : MeasuredWay) (x y : Refusal) → g .end ≡ end.Refused x → y ≡ endRefusal (g .end) → r ≡ noWay (lent-refusal.Refused y) → MeasuredIs debug t room m at r
   head-no r x y e w v =
-      beside-no shownOf nothing (measured room (toldWay debug t m at)) (shown r) (r .end) y (ap shown v) (ap (λ (z : MeasuredWay). z .end) v)
+      told-no (measured room (toldWay debug t m at)) (shown r) (r .end) (lent-refusal.Refused y) (ap shown v) (ap (λ (z : MeasuredWay). z .end) v)
       (ap refused (w ∙ ap endRefusal e) ∙ go stored (ap (endRes (g .head)) (sym e) ∙ q .answer))
     where
       go : (s : Res Head) → refused x ≡ mapRes headOf s → refused x ≡ measured room (andThen s (λ h e. mapRes (toldOf t m h e) (body m e)))
@@ -235,5 +250,5 @@ module _ (debug : Bool) (t : TagTable) (room : Lengths) (m : List ℕ) (at : ℕ
         let i = ids-are (g .head .«tag_ids») (known .value .tagged .ids) ids-told in
         let few = head-few m debug (tagKinds (tableIn t) m) .holds at (known .value) n (known .same) in
         let j = ap length i in
-        subst (λ (s : Res Head). Beside shownOf nothing (measured room (andThen s (λ h e. mapRes (toldOf t m h e) (body m e)))) (shown r) (r .end)) (sym (known .same))
+        subst (λ (s : Res Head). ToldAs (measured room (andThen s (λ h e. mapRes (toldOf t m h e) (body m e)))) (shown r) (r .end)) (sym (known .same))
         (w .each (known .value) (known .shown) i (omega arith))

@@ -7,13 +7,12 @@ use lib.Dec.{leb}
 use lib.ListN.{length}
 use Rattle.parsing.specs.Parse.{Res, ok, no, andThen, mapRes}
 use Rattle.error.specs.declared.Lengths.{Lengths}
-use Rattle.error.specs.declared.Refusal.{Refusal}
-use Rattle.error.specs.declared.Refusal.the-variants.{TooShort}
+use Rattle.error.specs.declared.LentRefusal.{LentRefusal}
+use Rattle.error.specs.declared.LentRefusal.the-variants.{Short}
 use Rattle.format.specs.Kinds.{tagKinds}
 use Rattle.format.specs.WayData.{concat}
 use Rattle.format.specs.Tile.{Head, head, Body, body}
-use Rattle.types.specs.Beside.{Beside}
-use Rattle.types.specs.declared.End.the-variants as end
+use Rattle.types.specs.Beside.{viewOr}
 use Rattle.types.specs.declared.OptionalPosition.the-variants as position
 use Rattle.types.specs.declared.OptionalSpan.the-variants as span
 use Rattle.types.specs.declared.TagTable.{TagTable}
@@ -24,7 +23,9 @@ use Rattle.way.specs.declared.WayBody.{WayBody}
 use Rattle.way_head.specs.WayHead.{headOf, emptyHead}
 use Rattle.way_head.specs.declared.WayHead.{WayHead}
 use Rattle.way_lists.specs.declared.ListPlan.{ListPlan}
-use Rattle.fetched.specs.Fetched.{walkedName, noTexts, FetchLists, Fetched, wayRecord, wayLists, fetchedWay, neededAll}
+use Rattle.fetched.specs.Fetched.{walkedName, noTexts, FetchLists, Fetched, wayRecord, wayLists, fetchedWay, neededAll, endRes}
+use Rattle.fetched.specs.declared.FetchEnd.{FetchEnd}
+use Rattle.fetched.specs.declared.FetchEnd.the-variants as end
 use Rattle.fetched.specs.declared.FeatureTexts.{FeatureTexts}
 use Rattle.fetched.specs.declared.FetchedWay.{FetchedWay}
 use Rattle.feature_texts.specs.declared.TextParts.{TextParts}
@@ -110,7 +111,7 @@ noTextPlan = record { «tag_ids» = emptyHead .«tag_ids»; parts = emptyParts }
 abbrev pub noListPlan : ListPlan
 noListPlan = record { present = false; start = 0; blocks = 0 }
 
-abbrev pub noWay : Refusal → MeasuredWay
+abbrev pub noWay : LentRefusal → MeasuredWay
 noWay r = record { way = emptyWay; texts = noTextPlan; lists = noListPlan; end = end.Refused r }
 
 -- what is handed out, but for the end
@@ -128,21 +129,26 @@ nothing = record { way = emptyWay; texts = noTextPlan; lists = noListPlan }
 abbrev pub shown : MeasuredWay → Shown
 shown r = record { way = r .way; texts = r .texts; lists = r .lists }
 
-abbrev pub MeasuredIs : Bool → TagTable → Lengths → List ℕ → (at : ℕ) → MeasuredWay → Type 0
-MeasuredIs debug t room m at r = Beside shownOf nothing (measured room (toldWay debug t m at)) (shown r) (r .end)
+-- a way that is told, or is not, by what the definition says
+pub record ToldAs (stored : Res Told) (r : Shown) (end : FetchEnd) : Type 0 where
+  pub answer : endRes r end ≡ mapRes shownOf stored
+  pub whole : r ≡ viewOr shownOf nothing stored
 
--- what the private functions test and tell
+abbrev pub MeasuredIs : Bool → TagTable → Lengths → List ℕ → (at : ℕ) → MeasuredWay → Type 0
+MeasuredIs debug t room m at r = ToldAs (measured room (toldWay debug t m at)) (shown r) (r .end)
+
+-- What private functions test and tell, which need not be believed.
 abbrev pub roomy : (blocks nodes texts : ℕ) → Lengths → Bool
 roomy blocks nodes texts l = (leb blocks (l .list1) && leb nodes (l .list2) && leb nodes (l .list3)) && leb blocks (l .list4) && leb blocks (l .list5) && leb texts (l .buffer)
 
-abbrev pub tooShort : (blocks nodes texts : ℕ) → Refusal
-tooShort blocks nodes texts = TooShort (record { list1 = blocks; list2 = nodes; list3 = nodes; list4 = blocks; list5 = blocks; buffer = texts })
+abbrev pub tooShort : (blocks nodes texts : ℕ) → LentRefusal
+tooShort blocks nodes texts = Short (record { list1 = blocks; list2 = nodes; list3 = nodes; list4 = blocks; list5 = blocks; buffer = texts })
 
 -- a way that was read, with this head, body and ids, its body from `start` to `next`
 pub record WayTold (t : TagTable) (h : WayHead) (b : WayBody) (ids : List ℕ) (start next : ℕ) (room : Lengths) (m : List ℕ) (r : MeasuredWay) : Type 0 where
   pub each : (s : Head) (d : Body) → h ≡ headOf s → ids ≡ s .tagged .ids → length ids ≤ 15 → b ≡ bodyOf d → body m start ≡ ok d next
-      → Beside shownOf nothing (measured room (ok (toldOf t m s start d) next)) (shown r) (r .end)
+      → ToldAs (measured room (ok (toldOf t m s start d) next)) (shown r) (r .end)
 
 -- the rest of a way with this head and these ids
 pub record BodyMeasured (t : TagTable) (h : WayHead) (ids : List ℕ) (start : ℕ) (room : Lengths) (m : List ℕ) (r : MeasuredWay) : Type 0 where
-  pub each : (s : Head) → h ≡ headOf s → ids ≡ s .tagged .ids → length ids ≤ 15 → Beside shownOf nothing (measured room (mapRes (toldOf t m s start) (body m start))) (shown r) (r .end)
+  pub each : (s : Head) → h ≡ headOf s → ids ≡ s .tagged .ids → length ids ≤ 15 → ToldAs (measured room (mapRes (toldOf t m s start) (body m start))) (shown r) (r .end)

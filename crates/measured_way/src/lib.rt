@@ -1,8 +1,9 @@
 // way.rs and tag.rs: a way as a fetch tells of it, and whether lists of given lengths have room for it. Nothing is written yet.
 use error::Lengths;
-use error::Refusal;
+use error::LentRefusal;
 use feature_texts::TextParts;
 use fetched::FeatureTexts;
+use fetched::FetchEnd;
 use fetched::FetchedWay;
 use tagged::TagIds;
 use types::End;
@@ -28,7 +29,7 @@ pub struct MeasuredWay {
     pub way: FetchedWay,
     pub texts: TextPlan,
     pub lists: ListPlan,
-    pub end: End,
+    pub end: FetchEnd,
 }
 
 // What stands where there is no way.
@@ -68,7 +69,7 @@ fn no_text_plan() -> TextPlan
     }
 }
 
-fn refused_way(refusal: Refusal) -> MeasuredWay
+fn refused_way(refusal: LentRefusal) -> MeasuredWay
     ensures { λ r. ⌜ r ≡ noWay refusal ⌝ }
 {
     MeasuredWay {
@@ -79,7 +80,7 @@ fn refused_way(refusal: Refusal) -> MeasuredWay
             start: 0,
             blocks: 0,
         },
-        end: End::Refused(refusal),
+        end: FetchEnd::Refused(refusal),
     }
 }
 
@@ -140,10 +141,10 @@ fn is_short(blocks: u64, nodes: u64, texts: u64, room: Lengths) -> bool
 }
 
 // The refusal that gives every length needed.
-fn too_short(blocks: u64, nodes: u64, texts: u64) -> Refusal
+fn too_short(blocks: u64, nodes: u64, texts: u64) -> LentRefusal
     ensures { λ r. ⌜ r ≡ tooShort blocks nodes texts ⌝ }
 {
-    Refusal::TooShort(Lengths {
+    LentRefusal::Short(Lengths {
         list1: blocks,
         list2: nodes,
         list3: nodes,
@@ -182,7 +183,7 @@ fn tell_way(
             start,
             blocks: body.blocks as usize,
         },
-        end: End::At(next),
+        end: FetchEnd::At(next),
     }
 }
 
@@ -199,7 +200,7 @@ fn measure_body(
 {
     let got = way::measure_way_body(map, start);
     let WayBodyRead::Value(body, next) = got else {
-        return refused_way(way::way_body_refusal(got));
+        return refused_way(LentRefusal::Refused(way::way_body_refusal(got)));
     };
     tell_way(map, head, body, ids, start, next, table, room)
 }
@@ -217,7 +218,7 @@ pub fn measure_way(
     let got = way_head::read_way_head(map, at, debug, table);
     let end = got.end;
     let End::At(start) = end else {
-        return refused_way(types::end_refusal(end));
+        return refused_way(LentRefusal::Refused(types::end_refusal(end)));
     };
     let head = got.head;
     let tag_ids = head.tag_ids;

@@ -1,94 +1,97 @@
--- The signatures of the sub files, one behind the other, and what opening makes of a header.
-use Prim.Native.Nat.{ℕ, suc, _+_, _/_, _%_, _≤_, _<_}
-use native.Mathlib.Numerals.{add-one}
+-- The signatures of the sub files, row by row, and what opening makes of a header.
+use Prim.Native.Nat.{ℕ, suc, _+_, _/_, _%_, _-_, _≤_, _<_}
+use native.Mathlib.Nat.{sub-zero}
 use native.Mathlib.Omega.{arith}
 use mathlib.Core.Path.{_≡_, refl, sym, ap, _∙_}
 use mathlib.Core.Bool.{true, false}
-use mathlib.Core.List.{List, _∷_}
-use mathlib.Core.List.{map as mapped}
-use lib.ListN.{length, getD, take, drop, length-take, length-map, List·getD-map, drop-of-length-le}
-use lib.Seq.{drop-cons, getD-take}
-use borrow.Author.Needs.{needs}
+use mathlib.Core.List.{List}
+use lib.ListN.{length}
 use borrow.Author.Tests.{eq-eqb, ne-eqb}
-use Rattle.parsing.specs.Parse.{ok, andThen, mapRes}
+use Rattle.parsing.specs.Parse.{Res, ok, andThen, mapRes}
 use Rattle.parsing.proofs.Steps.{then-then}
 use Rattle.error.specs.Refusals.{refused}
 use Rattle.error.specs.declared.Refusal.{Refusal}
-use Rattle.format.specs.Header.{Header, Interval, debug, signature, signatures, header, opened}
-use Rattle.types.specs.Types.{intervalOf, intervalsOf, endRes, endRefusal}
+use Rattle.format.specs.Header.{debug, interval, signature, signatures, header, opened}
+use Rattle.format.specs.IntervalTable.{startBefore, rowsSigned}
+use Rattle.format.proofs.IntervalLaws.{signed-are, intervals-stand}
+use Rattle.types.specs.Types.{endRes, endRefusal}
 use Rattle.types.specs.declared.End.{End}
 use Rattle.types.specs.declared.End.the-variants as end
-use Rattle.types.specs.declared.MapHeader.{MapHeader}
+use Rattle.types.specs.declared.HeaderFields.{HeaderFields}
+use Rattle.types.specs.declared.IntervalTable.{IntervalTable}
 use Rattle.types.specs.declared.ZoomInterval.{ZoomInterval}
 use Rattle.types.proofs.TypeLaws.{end-ok, end-no}
-use Rattle.types.specs.Beside.{Beside}
-use Rattle.types.proofs.BesideLaws.{beside-ok, beside-stop}
-use Rattle.header.specs.HeaderView.{mapHeader, emptyHeader}
-use Rattle.header.proofs.HeaderLaws.{intervals-back}
+use Rattle.zoom_intervals.specs.Intervals.{intervalRes, intervalRefusal}
+use Rattle.zoom_intervals.specs.Rows.{tableBefore}
+use Rattle.zoom_intervals.specs.declared.IntervalRead.{IntervalRead}
+use Rattle.zoom_intervals.specs.declared.IntervalRead.the-variants as interval-read
+use Rattle.zoom_intervals.proofs.RowLaws.{rows, interval-ok, interval-no}
+use Rattle.header.specs.HeaderView.{headerFields, fieldsRefusal, FieldsAre}
+use Rattle.header.specs.declared.FieldsRead.{FieldsRead}
+use Rattle.header.specs.declared.FieldsRead.the-variants as fields
+use Rattle.header.proofs.HeaderLaws.{Stored, fields-stored, fields-no}
 
-abbrev pub firsts : ℕ → List ZoomInterval → List Interval
-firsts n l = mapped intervalOf (take n l)
+-- the loop over rows: what those from number i on say is what all say
+pub signed-all : (m : List ℕ) (n at : ℕ) → rowsSigned (n - 0) m at ≡ rowsSigned n m at
+signed-all m n at = ap (λ k. rowsSigned k m at) (sub-zero n)
 
--- the signatures of the intervals from number i on
-module _ (m : List ℕ) (l : List ZoomInterval) (n i : ℕ) (d : ZoomInterval) where
-  next : i < n → n ≤ length l → drop i (firsts n l) ≡ intervalOf (getD l i d) ∷ drop (suc i) (firsts n l)
-  next b f =
-      drop-cons (firsts n l) i (intervalOf d) (omega (arith, length-map (take n l) intervalOf, length-take n l))
-      ∙ ap (λ (z : Interval). z ∷ drop (suc i) (firsts n l)) (List·getD-map intervalOf (take n l) i d ∙ ap intervalOf (getD-take n l i d b))
+module _ (m : List ℕ) (i n at : ℕ) (whole : Res Unit) (e : rowsSigned (n - i) m at ≡ whole) where
+  pub signed-done : n ≤ i → ok tt 0 ≡ whole
+  unfolding rowsSigned
+  signed-done h = let z : n - i ≡ 0 = omega arith in rw z at e
 
-  first : i < n → n ≤ length l → andThen (signature m (getD l i d .«sub_file_start»)) (λ _ _. signatures (drop (suc i) (firsts n l)) m) ≡ signatures (drop i (firsts n l)) m
-  unfolding signatures
-  first b f = rw (next b f)
+  first : i < n → andThen (interval m at) (λ z x. andThen (signature m (z .start)) (λ _ _. rowsSigned (n - (i + 1)) m x)) ≡ whole
+  unfolding rowsSigned
+  first h = let z : n - i ≡ suc (n - (i + 1)) = omega arith in rw z at e
 
-  pub sign-more : (g : End) (k : ℕ) → i < n → n ≤ length l → endRes tt g ≡ signature m (getD l i d .«sub_file_start») → g ≡ end.At k → signatures (drop i (firsts n l)) m ≡ signatures (firsts n l) m → signatures (drop (i + 1) (firsts n l)) m ≡ signatures (firsts n l) m
-  sign-more g k b f q h e =
-      rw add-one (end-ok tt g k (signature m (getD l i d .«sub_file_start»)) (λ _ _. signatures (drop (suc i) (firsts n l)) m) (signatures (drop (suc i) (firsts n l)) m) q h refl ∙ first b f ∙ e)
+  module _ (g : IntervalRead) (q : intervalRes g ≡ interval m at) where
+    pub signed-lost : (e′ x : Refusal) → i < n → g ≡ interval-read.Refused x → e′ ≡ intervalRefusal g → refused e′ ≡ whole
+    signed-lost e′ x b h p = interval-no g e′ x (interval m at) _ q h p ∙ first b
 
-  pub sign-no : (g : End) (e′ e : Refusal) → i < n → n ≤ length l → endRes tt g ≡ signature m (getD l i d .«sub_file_start») → g ≡ end.Refused e → e′ ≡ endRefusal g → signatures (drop i (firsts n l)) m ≡ signatures (firsts n l) m → refused e′ ≡ signatures (firsts n l) m
-  sign-no g e′ e b f q h p z =
-      end-no tt g e′ e (signature m (getD l i d .«sub_file_start»)) (λ _ _. signatures (drop (suc i) (firsts n l)) m) q h p ∙ first b f ∙ z
+    module _ (z : ZoomInterval) (k : ℕ) (s : End) (t : endRes tt s ≡ signature m (z .«sub_file_start»)) where
+      pub signed-no : (e′ x : Refusal) → i < n → g ≡ interval-read.Value z k → s ≡ end.Refused x → e′ ≡ endRefusal s → refused e′ ≡ whole
+      signed-no e′ x b h d p = interval-ok g z k (interval m at) _ (refused e′) q h (end-no tt s e′ x _ _ t d p) ∙ first b
 
-pub sign-done : (m : List ℕ) (l : List ZoomInterval) (n i : ℕ) → n ≤ i → signatures (drop i (firsts n l)) m ≡ signatures (firsts n l) m → ok tt 0 ≡ signatures (firsts n l) m
-unfolding signatures
-sign-done m l n i b e = rw (drop-of-length-le (firsts n l) {i = i} (omega (arith, length-map (take n l) intervalOf, length-take n l))) at e
+      pub signed-more : (j : ℕ) → i < n → g ≡ interval-read.Value z k → s ≡ end.At j → rowsSigned (n - (i + 1)) m k ≡ whole
+      signed-more j b h d = interval-ok g z k (interval m at) _ (rowsSigned (n - (i + 1)) m k) q h (end-ok tt s j _ _ _ t d refl) ∙ first b
 
-pub ruleset signs = (needs, sign-more, sign-no, sign-done)
+pub ruleset signs = (rows, signed-all, signed-done, signed-lost, signed-no, signed-more)
 
 -- a header that was read, by its debug flag and its signatures
-signed : (h : Header) (v : MapHeader) → v ≡ mapHeader h → firsts (v .«num_zoom_intervals») (v .«zoom_interval_configuration») ≡ h .intervals
-signed h v q = ap intervalsOf q ∙ intervals-back h
-
-flag-of : (h : Header) (v : MapHeader) → v ≡ mapHeader h → v .flags ≡ h .front .flags
-flag-of h v q = ap (λ (x : MapHeader). x .flags) q
-
-module _ (m : List ℕ) (v : MapHeader) (g : End) (n : ℕ) where
-  pub open-plain : Beside mapHeader emptyHeader (header m 0) v g → g ≡ end.At n → (v .flags / 128 % 2 ≡ 1 → ⊥) → ok v n ≡ mapRes mapHeader (opened m)
-  unfolding opened
-  open-plain b h f =
-      then-then (header m 0) _ _ _ (beside-ok mapHeader emptyHeader (header m 0) v g n _ _ b h
-      (λ a q.
-      let d : debug a ≡ false = ne-eqb (a .front .flags / 128 % 2) 1 (λ z. f (rw (flag-of a v q) z)) in
-      rw d (ap (λ (x : MapHeader). ok x n) q)))
-
-  module _ (s : End) where
-    pub open-checked : (k : ℕ) → Beside mapHeader emptyHeader (header m 0) v g → g ≡ end.At n → v .flags / 128 % 2 ≡ 1 → endRes tt s ≡ signatures (firsts (v .«num_zoom_intervals») (v .«zoom_interval_configuration»)) m → s ≡ end.At k → ok v n ≡ mapRes mapHeader (opened m)
-    unfolding opened
-    open-checked k b h f t w =
-        then-then (header m 0) _ _ _ (beside-ok mapHeader emptyHeader (header m 0) v g n _ _ b h
-        (λ a q.
-        let d : debug a ≡ true = eq-eqb (a .front .flags / 128 % 2) 1 (rw (flag-of a v q) at f) in
-        let e : signatures (a .intervals) m ≡ ok tt k = rw (← signed a v q) (sym t ∙ ap (endRes tt) w) in
-        rw (d, e) (ap (λ (x : MapHeader). ok x n) q)))
-
-    pub open-bad : (e′ e : Refusal) → Beside mapHeader emptyHeader (header m 0) v g → g ≡ end.At n → v .flags / 128 % 2 ≡ 1 → endRes tt s ≡ signatures (firsts (v .«num_zoom_intervals») (v .«zoom_interval_configuration»)) m → s ≡ end.Refused e → e′ ≡ endRefusal s → refused e′ ≡ opened m
-    unfolding opened
-    open-bad e′ e b h f t w p =
-        beside-ok mapHeader emptyHeader (header m 0) v g n _ _ b h
-        (λ a q.
-        let d : debug a ≡ true = eq-eqb (a .front .flags / 128 % 2) 1 (rw (flag-of a v q) at f) in
-        let e : signatures (a .intervals) m ≡ refused e = rw (← signed a v q) (sym t ∙ ap (endRes tt) w) in
-        rw (d, e) (ap refused (p ∙ ap endRefusal w)))
-
-pub open-no : (m : List ℕ) (v : MapHeader) (g : End) (e′ e : Refusal) → Beside mapHeader emptyHeader (header m 0) v g → g ≡ end.Refused e → e′ ≡ endRefusal g → refused e′ ≡ opened m
+pub open-no : (m : List ℕ) (got : FieldsRead) (e′ e : Refusal) → FieldsAre (header m 0) got → got ≡ fields.Refused e → e′ ≡ fieldsRefusal got → refused e′ ≡ mapRes headerFields (opened m)
 unfolding opened
-open-no m v g e′ e b h p = beside-stop mapHeader emptyHeader (header m 0) v g e′ e _ b h p
+open-no m got e′ e q d p = then-then (header m 0) _ _ _ (fields-no got e′ e (header m 0) _ q d p)
+
+module _ (m : List ℕ) (got : FieldsRead) (f : HeaderFields) (n : ℕ) (q : FieldsAre (header m 0) got) (d : got ≡ fields.Value f n) where
+  stored : Stored (header m 0) f n
+  stored = fields-stored (header m 0) got f n q d
+
+  flags-are : f .flags ≡ stored .header .front .flags
+  flags-are = ap (λ (f : HeaderFields). f .flags) (stored .shown)
+
+  pub open-plain : (f .flags / 128 % 2 ≡ 1 → ⊥) → ok f n ≡ mapRes headerFields (opened m)
+  unfolding opened
+  open-plain c =
+      let h : debug (stored .header) ≡ false = ne-eqb (stored .header .front .flags / 128 % 2) 1 (λ z. c (rw flags-are z)) in
+      rw (stored .read, h) (ap (λ (f : HeaderFields). ok f n) (stored .shown))
+
+  -- by the table in front of the place behind the header
+  module _ (t : IntervalTable) (k : t ≡ tableBefore n (f .«num_zoom_intervals»)) (s : End) (r : endRes tt s ≡ rowsSigned (t .count) m (t .start)) (c : f .flags / 128 % 2 ≡ 1) where
+    signed : endRes tt s ≡ signatures (stored .header .intervals) m
+    signed =
+        let l = stored .header .intervals in
+        r ∙ ap (λ (t : IntervalTable). rowsSigned (t .count) m (t .start)) (k ∙ ap (λ (f : HeaderFields). tableBefore n (f .«num_zoom_intervals»)) (stored .shown))
+        ∙ signed-are m (length l) (startBefore n (length l)) l n (intervals-stand m (stored .header) n (stored .read))
+
+    flagged : debug (stored .header) ≡ true
+    flagged = eq-eqb (stored .header .front .flags / 128 % 2) 1 (rw flags-are at c)
+
+    pub open-signed : (j : ℕ) → s ≡ end.At j → ok f n ≡ mapRes headerFields (opened m)
+    unfolding opened
+    open-signed j w = rw (stored .read, flagged, ← (sym (ap (endRes tt) w) ∙ signed)) (ap (λ (f : HeaderFields). ok f n) (stored .shown))
+
+    pub open-bad : (e′ e : Refusal) → s ≡ end.Refused e → e′ ≡ endRefusal s → refused e′ ≡ mapRes headerFields (opened m)
+    unfolding opened
+    open-bad e′ e w p = rw (stored .read, flagged, ← (sym (ap (endRes tt) w) ∙ signed)) (ap refused (p ∙ ap endRefusal w))
+
+pub ruleset opens = (signs, open-no, open-plain, open-signed, open-bad)

@@ -36,7 +36,7 @@ module _ (s : List ℕ) (at n : ℕ) where
       go zero h l = absurd (omega arith)
       go (suc n) h l = rw (le-leb (at + suc n) (length s) l)
 
-  fits-not : 1 ≤ n → length s < at + n → no 1 [] ≡ chunk n s at
+  pub fits-not : 1 ≤ n → length s < at + n → no 1 [] ≡ chunk n s at
   fits-not h l = go n h l
     where
       go : (n : ℕ) → 1 ≤ n → length s < at + n → no 1 [] ≡ chunk n s at

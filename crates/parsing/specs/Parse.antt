@@ -25,6 +25,10 @@ andThen (no n v) k = no n v
 abbrev pub mapRes : {A B : Type 0} → (A → B) → Res A → Res B
 mapRes f r = andThen r (λ a e. ok (f a) e)
 
+-- the place behind what was read, without the value
+abbrev pub passed : {A : Type 0} → Res A → Res Unit
+passed r = mapRes (λ _. tt) r
+
 abbrev pub bind : {A B : Type 0} → Parser A → (A → Parser B) → Parser B
 bind p f m i = andThen (p m i) (λ a e. f a m e)
 

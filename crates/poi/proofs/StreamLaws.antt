@@ -17,16 +17,16 @@ pub view-streamed : (m : List ℕ) (p : Point) → Within m (p .name) → Within
 view-streamed m p a b = rw (streamed-view m (p .name) a, streamed-view m (p .houseNumber) b)
 
 -- both texts of a point that was read are parts of the map
-record Texts (m : List ℕ) (name houseNumber : Maybe Part) : Type 0 where
-  first : Within m name
-  second : Within m houseNumber
+pub record Texts (m : List ℕ) (name houseNumber : Maybe Part) : Type 0 where
+  pub first : Within m name
+  pub second : Within m houseNumber
 
 fields-within : (m : List ℕ) → Gives m pointFields (λ f. Texts m (f .name) (f .houseNumber))
 unfolding pointFields
 fields-within m =
     gives-bind m (any m byte) λ f _. gives-bind m (optional-within m (bit 7 f)) λ n a. gives-bind m (optional-within m (bit 6 f)) λ h b. gives-bind m (any m (optional (bit 5 f) signed)) λ e _. gives-return m _ _ (record { first = a; second = b })
 
-point-within : (m : List ℕ) (debug : Bool) (kinds : List Kind) → Gives m (point debug kinds) (λ p. Texts m (p .name) (p .houseNumber))
+pub point-within : (m : List ℕ) (debug : Bool) (kinds : List Kind) → Gives m (point debug kinds) (λ p. Texts m (p .name) (p .houseNumber))
 unfolding point
 point-within m debug kinds =
     gives-bind m (any m (debugSignature debug)) λ g _. gives-bind m (any m node) λ p _. gives-bind m (any m (tagged kinds)) λ t _. gives-bind m (fields-within m) λ f h. gives-return m _ _ h

@@ -30,11 +30,11 @@ pub enum OptionalElevation {
 pub struct Poi {
     pub signature: OptionalSpan,
     pub position: Position,
-    pub layer: i8,
     pub tag_ids: TagIds,
     pub name: OptionalSpan,
     pub house_number: OptionalSpan,
     pub elevation: OptionalElevation,
+    pub layer: i8,
 }
 
 pub struct PoiRead {

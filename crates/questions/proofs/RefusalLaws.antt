@@ -8,22 +8,23 @@ use types.Run.{OneOf, miss}
 use denote.Enum.Declared.{tagOf}
 use Rattle.error.specs.Refusals.{numberOf, valuesOf}
 use Rattle.error.specs.declared.Lengths.{Lengths}
+use Rattle.error.specs.declared.LentRefusal.{LentRefusal}
+use Rattle.error.specs.declared.LentRefusal.the-variants.{Refused, Short}
 use Rattle.error.specs.declared.Refusal.{Refusal}
-use Rattle.error.specs.declared.Refusal.the-variants.{Source, InvalidMagic, UnsupportedVersion, InvalidBoundingBox, InvalidHeaderSize, InvalidIndexSignature, InvalidTagId, InvalidTileIndex, TextTooLong, TooManyNodes, NumberTooLong, CoordinateTooLarge, ReversedInterval, InvalidGrid, TooShort, OutOfTurn, InvalidFeature, ZoomTooLarge, IndexCutOff, TileHeadCutOff}
+use Rattle.error.specs.declared.Refusal.the-variants.{Source, InvalidMagic, UnsupportedVersion, InvalidBoundingBox, InvalidHeaderSize, InvalidIndexSignature, InvalidTagId, InvalidTileIndex, TextTooLong, TooManyNodes, NumberTooLong, CoordinateTooLarge, ReversedInterval, InvalidGrid, OutOfTurn, InvalidFeature, ZoomTooLarge, IndexCutOff, TileHeadCutOff}
 use Rattle.error.proofs.Refusal as declared
 use Rattle.report.specs.declared.Words.{Words}
 use Rattle.report.specs.Words.{noWords, pushed}
 use Rattle.report.proofs.WordLaws.{chains}
-use Rattle.questions.specs.Answers.{pushedAll, inRust, refusalWords}
-use lib.ListN.{take}
+use Rattle.questions.specs.Answers.{pushedAll, inRust, refusalWords, lentRefusalWords}
 
 -- the cases that have no values in the Rust, by the places of their variants
 abbrev plain : List ℕ
-plain = 0 ∷ 1 ∷ 3 ∷ 4 ∷ 5 ∷ 7 ∷ 8 ∷ 9 ∷ 10 ∷ 11 ∷ 12 ∷ 13 ∷ 15 ∷ 16 ∷ 17 ∷ 18 ∷ 19 ∷ []
+plain = 0 ∷ 1 ∷ 3 ∷ 4 ∷ 5 ∷ 7 ∷ 8 ∷ 9 ∷ 10 ∷ 11 ∷ 12 ∷ 13 ∷ 14 ∷ 15 ∷ 16 ∷ 17 ∷ 18 ∷ []
 
 -- the values
 abbrev valuesThere : Refusal → List ℕ
-valuesThere r = inRust (numberOf r) [] (take 3 (valuesOf r))
+valuesThere r = inRust (numberOf r) [] (valuesOf r)
 
 no-values : (r : Refusal) → OneOf plain (tagOf declared.the-type r) → valuesThere r ≡ []
 no-values Source h = refl
@@ -40,7 +41,6 @@ no-values NumberTooLong h = refl
 no-values CoordinateTooLarge h = refl
 no-values ReversedInterval h = refl
 no-values InvalidGrid h = refl
-no-values (TooShort l) h = absurd (miss plain 14 tt h)
 no-values OutOfTurn h = refl
 no-values InvalidFeature h = refl
 no-values ZoomTooLarge h = refl
@@ -74,7 +74,13 @@ module _ (r : Refusal) (w : Words) (e : w ≡ pushed noWords (inRust (numberOf r
   pub refused-tag : (i : ℕ) (x : Words) → r ≡ InvalidTagId i → x ≡ pushed w i → x ≡ refusalWords r
   refused-tag i x h p = valued (i ∷ []) x (ap valuesThere h) p
 
-  pub refused-lengths : (l : Lengths) (x : Words) → r ≡ TooShort l → x ≡ pushedAll w (l .list1 ∷ l .list2 ∷ l .list3 ∷ []) → x ≡ refusalWords r
-  refused-lengths l x h p = valued (l .list1 ∷ l .list2 ∷ l .list3 ∷ []) x (ap valuesThere h) p
+-- a call that is lent lists
+pub lent-refused : (g : LentRefusal) (r : Refusal) (x : Words) → g ≡ Refused r → x ≡ refusalWords r → x ≡ lentRefusalWords g
+unfolding lentRefusalWords
+lent-refused g r x h p = p ∙ ap lentRefusalWords (sym h)
 
-pub ruleset refusals = (chains, refused-plain, refused-version, refused-tag, refused-lengths)
+pub lent-short : (g : LentRefusal) (l : Lengths) (w x : Words) → g ≡ Short l → w ≡ pushed noWords 15 → x ≡ pushedAll w (l .list1 ∷ l .list2 ∷ l .list3 ∷ []) → x ≡ lentRefusalWords g
+unfolding lentRefusalWords
+lent-short g l w x h e p = p ∙ ap (λ v. pushedAll v (l .list1 ∷ l .list2 ∷ l .list3 ∷ [])) e ∙ ap lentRefusalWords (sym h)
+
+pub ruleset refusals = (chains, refused-plain, refused-version, refused-tag)

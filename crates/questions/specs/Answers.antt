@@ -4,7 +4,9 @@ use mathlib.Core.Bool.{cond}
 use mathlib.Core.List.{List, [], _∷_}
 use lib.Dec.{eqb}
 use lib.ListN.{take}
-use Rattle.error.specs.Refusals.{numberOf, valuesOf}
+use Rattle.error.specs.Refusals.{numberOf, valuesOf, lentValues}
+use Rattle.error.specs.declared.LentRefusal.{LentRefusal}
+use Rattle.error.specs.declared.LentRefusal.the-variants.{Refused, Short}
 use Rattle.error.specs.declared.Refusal.{Refusal}
 use Rattle.report.specs.declared.Words.{Words}
 use Rattle.report.specs.Words.{noWords, pushed}
@@ -21,6 +23,11 @@ answered xs = pushedAll (pushed noWords 0) xs
 abbrev pub inRust : {A : Type 0} → (number : ℕ) → (source other : A) → A
 inRust n a b = cond (eqb n 19) a (cond (eqb n 20) a b)
 
--- a refusal is its number and its values; of the six lengths needed those of the first three lists
+-- a refusal is its number and its values
 unfoldable pub refusalWords : Refusal → Words
-refusalWords r = pushedAll (pushed noWords (inRust (numberOf r) 1 (numberOf r))) (inRust (numberOf r) [] (take 3 (valuesOf r)))
+refusalWords r = pushedAll (pushed noWords (inRust (numberOf r) 1 (numberOf r))) (inRust (numberOf r) [] (valuesOf r))
+
+-- of the six lengths needed those of the first three lists
+unfoldable pub lentRefusalWords : LentRefusal → Words
+lentRefusalWords (Refused r) = refusalWords r
+lentRefusalWords (Short l) = pushedAll (pushed noWords 15) (take 3 (lentValues (Short l)))

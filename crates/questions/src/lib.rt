@@ -4,6 +4,7 @@ use byte_source::IntRead;
 use byte_source::NumberRead;
 use byte_source::WordRead;
 use error::Lengths;
+use error::LentRefusal;
 use error::Refusal;
 use report::Words;
 use tag::Kind;
@@ -13,7 +14,7 @@ ghost use mathlib.Core.List.{[], _∷_};
 ghost use Rattle.questions.specs.Numbers.{byteAt, numberAt, intAt};
 ghost use Rattle.error.specs.Refusals.{numberOf};
 ghost use Rattle.tag.specs.Tag.{letterOf};
-ghost use Rattle.questions.specs.Answers.{pushedAll, answered, inRust, refusalWords};
+ghost use Rattle.questions.specs.Answers.{pushedAll, answered, lentRefusalWords, inRust, refusalWords};
 
 // The numbers that stand at a place of a question; 0 where it ends too early.
 pub fn byte_at(question: &[u8], at: usize) -> u8
@@ -72,7 +73,7 @@ fn rust_number(refusal: Refusal) -> u8
     number
 }
 
-// A refusal: its number in the Rust, and its values there; of the lengths needed those of the first three lists.
+// A refusal: its number in the Rust, and its value there.
 pub fn refusal_words(refusal: Refusal) -> Words
     ensures { λ r. ⌜ r ≡ refusalWords refusal ⌝ }
 {
@@ -80,8 +81,17 @@ pub fn refusal_words(refusal: Refusal) -> Words
     match refusal {
         Refusal::UnsupportedVersion(v) => report::push(words, v as u64),
         Refusal::InvalidTagId(i) => report::push(words, i),
-        Refusal::TooShort(l) => push_lengths(words, l),
         _ => words,
+    }
+}
+
+// The same of a call that is lent lists; of the lengths needed those of the first three.
+pub fn lent_refusal_words(refusal: LentRefusal) -> Words
+    ensures { λ r. ⌜ r ≡ lentRefusalWords refusal ⌝ }
+{
+    match refusal {
+        LentRefusal::Refused(r) => refusal_words(r),
+        LentRefusal::Short(l) => push_lengths(report::push(report::no_words(), 15), l),
     }
 }
 

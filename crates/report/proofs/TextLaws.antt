@@ -8,7 +8,7 @@ use lib.ListN.{length, take, drop, length-replicate}
 use lib.Seq.{sets, sets-eq, take-at}
 use borrow.Author.Needs.{needs}
 use borrow.Author.Tests.{le-leb, lt-leb}
-use Rattle.error.specs.declared.Refusal.{Refusal}
+use Rattle.error.specs.declared.LentRefusal.{LentRefusal}
 use Rattle.text.specs.declared.Written.{Written}
 use Rattle.text.specs.declared.Written.the-variants.{Upto, Refused}
 use Rattle.text.specs.Utf8.{replaced}
@@ -50,7 +50,7 @@ module _ (h : ℕ) (s b b′ : List ℕ) (g : Written) (e : outcome g b′ ≡ w
       let m : 0 + length (replaced s) ≤ length b = omega (arith, zero-add (length (replaced s))) in
       rw (q, sets-eq (replaced s) b 0 m) (take-at (replaced s) (drop (0 + length (replaced s)) b) n (sym k))
 
-  pub text-short : (r : Refusal) → g ≡ Refused r → (0 ≡ mixedReplaced h s (length b)) × (b′ ≡ writing s b 0 .buffer)
+  pub text-short : (r : LentRefusal) → g ≡ Refused r → (0 ≡ mixedReplaced h s (length b)) × (b′ ≡ writing s b 0 .buffer)
   text-short r q =
       let f = written-short s b b′ 0 g e r q in
       (sym (mixed-short h s (length b) (omega (arith, zero-add (length (replaced s))))), kept)

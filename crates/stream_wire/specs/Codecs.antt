@@ -1,10 +1,10 @@
--- How the other program reads the words of a stream, and that nothing is lost on the way.
+-- How the other program reads the words of a stream, and that nothing is lost on the way, whatever words it lent.
 use Prim.Native.Nat.{ℕ}
 use mathlib.Core.Bool.{Bool, true, false, cond}
 use mathlib.Core.Path.{_≡_, refl, ap, _∙_}
 use mathlib.Core.List.{List, [], _∷_}
 use lib.ListN.{getD}
-use Rattle.error.specs.Refusals.{numberOf}
+use lib.Seq.{sets}
 use Rattle.error.specs.declared.Refusal.{Refusal}
 use Rattle.types.specs.declared.OptionalPosition.{OptionalPosition}
 use Rattle.types.specs.declared.OptionalSpan.{OptionalSpan}
@@ -27,36 +27,36 @@ use Rattle.visit.specs.declared.Accepted.{Accepted}
 use Rattle.visit.specs.declared.DeclineAnswer.{DeclineAnswer}
 use Rattle.visit.specs.declared.DeclineAnswer.the-variants as decline-answer
 use Rattle.visit.specs.declared.Declined.{Declined}
-use Rattle.wire.specs.Wire.{Wire, Decoder, Codec, word, truth, there}
-use Rattle.wire.specs.Codecs.{settle, settled, truth-back, spanIn, span-back, placeIn, place-back, degree}
-use Rattle.elevation_wire.specs.Elevation.{listOf, signedAt, metresIn, metres-back}
-use Rattle.stream_wire.specs.Streams.{turnWords, streamWords, streamIn, stateAfter, openedWire, nextNumber, nextWire, acceptNumber, acceptWire, declineNumber, declineWire}
+use Rattle.wire.specs.Wire.{Wire, Lent, Decoder, Codec, listOf, word, signedAt, truth}
+use Rattle.wire.specs.Codecs.{settle, settled, settleLent, settled-lent, truth-back, spanIn, span-back, placeIn, place-back, degree}
+use Rattle.wire.specs.Elevation.{metresIn, metres-back}
+use Rattle.wire.specs.Spread.{spreadWire, spread-out}
+use Rattle.stream_wire.specs.Streams.{turnWords, streamWords, streamIn, openedWire, nextWith, nextWire, acceptWith, acceptWire, declineWith, declineWire}
 
 -- the state
-turn-back : (t : Turn) (e : TileEnd) → streamIn (turnWords t (e .«sub_file») (cond (e .«is_water») 1 0)) ≡ record { turn = t; end = e }
-turn-back (turn.Idle r) e = ap (λ (b : Bool). record { turn = turn.Idle r; end = record { «sub_file» = e .«sub_file»; «is_water» = b } }) (truth-back (e .«is_water»))
-turn-back (turn.Waits w) e = ap (λ (b : Bool). record { turn = turn.Waits w; end = record { «sub_file» = e .«sub_file»; «is_water» = b } }) (truth-back (e .«is_water»))
+turn-back : (t : Turn) (e : TileEnd) (x₀ x₁ x₂ x₃ x₄ x₅ x₆ : ℕ) → streamIn (sets (x₀ ∷ x₁ ∷ x₂ ∷ x₃ ∷ x₄ ∷ x₅ ∷ x₆ ∷ []) 0 (turnWords t (e .«sub_file») (cond (e .«is_water») 1 0))) ≡ record { turn = t; end = e }
+turn-back (turn.Idle r) e x₀ x₁ x₂ x₃ x₄ x₅ x₆ = ap (λ (b : Bool). record { turn = turn.Idle r; end = record { «sub_file» = e .«sub_file»; «is_water» = b } }) (truth-back (e .«is_water»))
+turn-back (turn.Waits w) e x₀ x₁ x₂ x₃ x₄ x₅ x₆ = ap (λ (b : Bool). record { turn = turn.Waits w; end = record { «sub_file» = e .«sub_file»; «is_water» = b } }) (truth-back (e .«is_water»))
 
-pub stream-back : (s : Stream) → streamIn (streamWords s) ≡ s
+stream-back : (s : Stream) (x₀ x₁ x₂ x₃ x₄ x₅ x₆ : ℕ) → streamIn (sets (x₀ ∷ x₁ ∷ x₂ ∷ x₃ ∷ x₄ ∷ x₅ ∷ x₆ ∷ []) 0 (streamWords s)) ≡ s
 stream-back s = turn-back (s .turn) (s .end)
 
--- and after a call: if it was refused, they say what they said before
-pub state-back : (number : ℕ) (s : Stream) (before : List ℕ) → streamIn (stateAfter number s before) ≡ there number s (streamIn before)
-state-back number s before = go (truth number)
-  where
-    go : (b : Bool) → streamIn (cond b before (streamWords s)) ≡ cond b (streamIn before) s
-    go true = refl
-    go false = stream-back s
-
+-- opening
 abbrev pub openedIn : Wire → OpenRead
 openedIn w = settle open-read.Refused (open-read.Stream (streamIn (listOf w 1))) w
 
-pub opened-back : (before : List ℕ) (a : OpenRead) → openedIn (openedWire before a) ≡ a
-opened-back before (open-read.Stream s) = ap open-read.Stream (stream-back s)
-opened-back before (open-read.Refused r) = settled open-read.Refused (open-read.Stream (streamIn before)) r
+abbrev pub OpenedLent : Wire → Type 0
+OpenedLent = Lent (6 ∷ 7 ∷ []) 0 0
 
-abbrev pub openedCodec : (before : List ℕ) → Codec (openedWire before)
-openedCodec before = record { decode = openedIn; back = opened-back before }
+pub opened-back : (w : Wire) → OpenedLent w → (a : OpenRead) → openedIn (openedWire w a) ≡ a
+opened-back w h a = spread-out (6 ∷ 7 ∷ []) 0 0 w h (λ v. openedIn (openedWire v a) ≡ a) (go a)
+  where
+    go : (a : OpenRead) → openedIn (openedWire (spreadWire (6 ∷ 7 ∷ []) 0 0 w) a) ≡ a
+    go (open-read.Stream s) = ap open-read.Stream (stream-back s _ _ _ _ _ _ _)
+    go (open-read.Refused r) = settled open-read.Refused _ _ _ r
+
+abbrev pub openedCodec : (w : Wire) → OpenedLent w → Codec (openedWire w)
+openedCodec w h = record { decode = openedIn; back = opened-back w h }
 
 -- What a next shows: the point and the head stand beside the answer, of which one is meant. The stream is the one that the state's words
 -- then say, here as with accept and decline: after a refusal the one that they said before, which is the one that the call left
@@ -77,8 +77,14 @@ shownOf next-answer.Way p h = aWay h
 shownOf (next-answer.End z) p h = theEnd z
 shownOf (next-answer.Refused r) p h = aRefusal r
 
-abbrev pub seen : (before : List ℕ) → NextStep → Seen
-seen l s = record { shown = shownOf (s .answer) (s .poi) (s .head); stream = there (nextNumber (s .answer)) (s .stream) (streamIn l) }
+abbrev pub nextLeft : NextAnswer → (left before : Stream) → Stream
+nextLeft next-answer.Point left before = left
+nextLeft next-answer.Way left before = left
+nextLeft (next-answer.End z) left before = left
+nextLeft (next-answer.Refused r) left before = before
+
+abbrev pub seen : (lent : Wire) → NextStep → Seen
+seen w s = record { shown = shownOf (s .answer) (s .poi) (s .head); stream = nextLeft (s .answer) (s .stream) (streamIn (listOf w 2)) }
 
 abbrev pub pointIn : Wire → Poi
 pointIn w = record {
@@ -109,18 +115,22 @@ pointWith s n h e p = record { signature = s; position = p .position; layer = p 
 point-with : (p : Poi) (s s′ n n′ h h′ : OptionalSpan) (e e′ : OptionalElevation) (t t′ : Stream) → s ≡ s′ → n ≡ n′ → h ≡ h′ → e ≡ e′ → t ≡ t′ → _≡_ {A = Seen} (record { shown = aPoint (pointWith s n h e p); stream = t }) (record { shown = aPoint (pointWith s′ n′ h′ e′ p); stream = t′ })
 point-with p s s′ n n′ h h′ e e′ t t′ q1 q2 q3 q4 q5 = rw (q1, q2, q3, q4, q5) refl
 
-pub next-back : (l : List ℕ) (a : NextAnswer) (p : Poi) (h : StreamedHead) (s : Stream) → nextIn (nextWire l (record { answer = a; poi = p; head = h; stream = s })) ≡ seen l (record { answer = a; poi = p; head = h; stream = s })
-next-back l next-answer.Point p h s = point-with p _ _ _ _ _ _ _ _ _ _ (span-back (p .signature)) (span-back (p .name)) (span-back (p .«house_number»)) (metres-back (p .elevation)) (stream-back s)
-next-back l next-answer.Way p h s = ap (λ (t : Stream). record { shown = aWay h; stream = t }) (stream-back s)
-next-back l (next-answer.End z) p h s =
-    ap (λ (t : Stream). record { shown = theEnd (record { «sub_file» = z .«sub_file»; «is_water» = truth (cond (z .«is_water») 1 0) }); stream = t }) (stream-back s)
-    ∙ ap (λ (b : Bool). record { shown = theEnd (record { «sub_file» = z .«sub_file»; «is_water» = b }); stream = s }) (truth-back (z .«is_water»))
-next-back l (next-answer.Refused r) p h s =
-    ap (λ (t : Stream). record { shown = nextIn (nextWire l (record { answer = next-answer.Refused r; poi = p; head = h; stream = s })) .shown; stream = t }) (state-back (numberOf r) s l)
-    ∙ ap (λ (x : Shown). record { shown = x; stream = there (numberOf r) s (streamIn l) }) (settled aRefusal _ r)
+abbrev pub NextLent : Wire → Type 0
+NextLent = Lent (21 ∷ 15 ∷ 7 ∷ []) 2 2
 
-abbrev pub nextDecoder : (before : List ℕ) → Decoder (nextWire before) (seen before)
-nextDecoder l = record { decode = nextIn; back = λ s. next-back l (s .answer) (s .poi) (s .head) (s .stream) }
+pub next-back : (w : Wire) → NextLent w → (s : NextStep) → nextIn (nextWire w s) ≡ seen w s
+next-back w h s = spread-out (21 ∷ 15 ∷ 7 ∷ []) 2 2 w h (λ v. nextIn (nextWire v s) ≡ seen v s) (go (s .answer) (s .poi) (s .head) (s .stream))
+  where
+    go : (a : NextAnswer) (p : Poi) (h : StreamedHead) (t : Stream) → nextIn (nextWith a p h t (spreadWire (21 ∷ 15 ∷ 7 ∷ []) 2 2 w)) ≡ seen (spreadWire (21 ∷ 15 ∷ 7 ∷ []) 2 2 w) (record { answer = a; poi = p; head = h; stream = t })
+    go next-answer.Point p h t = point-with p _ _ _ _ _ _ _ _ _ _ (span-back (p .signature)) (span-back (p .name)) (span-back (p .«house_number»)) (metres-back (p .elevation)) (stream-back t _ _ _ _ _ _ _)
+    go next-answer.Way p h t = ap (λ (x : Stream). record { shown = aWay h; stream = x }) (stream-back t _ _ _ _ _ _ _)
+    go (next-answer.End z) p h t =
+        ap (λ (x : Stream). record { shown = theEnd (record { «sub_file» = z .«sub_file»; «is_water» = truth (cond (z .«is_water») 1 0) }); stream = x }) (stream-back t _ _ _ _ _ _ _)
+        ∙ ap (λ (b : Bool). record { shown = theEnd (record { «sub_file» = z .«sub_file»; «is_water» = b }); stream = t }) (truth-back (z .«is_water»))
+    go (next-answer.Refused r) p h t = ap (λ (x : Shown). record { shown = x; stream = streamIn (listOf (spreadWire (21 ∷ 15 ∷ 7 ∷ []) 2 2 w) 2) }) (settled aRefusal _ _ _ r)
+
+abbrev pub nextDecoder : (w : Wire) → NextLent w → Decoder (nextWire w) (seen w)
+nextDecoder w h = record { decode = nextIn; back = next-back w h }
 
 -- accept and decline
 abbrev pub bodyIn : Wire → StreamedBody
@@ -134,7 +144,7 @@ bodyIn w = record {
 }
 
 abbrev pub acceptIn : Wire → Accepted
-acceptIn w = record { answer = settle accept-answer.Refused (accept-answer.Body (bodyIn w)) w; stream = streamIn (listOf w 1) }
+acceptIn w = record { answer = settleLent accept-answer.Refused (accept-answer.Body (bodyIn w)) w; stream = streamIn (listOf w 1) }
 
 abbrev bodyWith : (name houseNumber reference : OptionalSpan) → OptionalPosition → StreamedBody → StreamedBody
 bodyWith n h r p b = record { name = n; «house_number» = h; reference = r; «label_position» = p; blocks = b .blocks; nodes = b .nodes }
@@ -142,29 +152,45 @@ bodyWith n h r p b = record { name = n; «house_number» = h; reference = r; «l
 body-with : (b : StreamedBody) (n n′ h h′ r r′ : OptionalSpan) (p p′ : OptionalPosition) (t t′ : Stream) → n ≡ n′ → h ≡ h′ → r ≡ r′ → p ≡ p′ → t ≡ t′ → _≡_ {A = Accepted} (record { answer = accept-answer.Body (bodyWith n h r p b); stream = t }) (record { answer = accept-answer.Body (bodyWith n′ h′ r′ p′ b); stream = t′ })
 body-with b n n′ h h′ r r′ p p′ t t′ q1 q2 q3 q4 q5 = rw (q1, q2, q3, q4, q5) refl
 
-abbrev pub acceptSeen : (before : List ℕ) → Accepted → Accepted
-acceptSeen l s = record { answer = s .answer; stream = there (acceptNumber (s .answer)) (s .stream) (streamIn l) }
+abbrev pub acceptLeft : AcceptAnswer → (left before : Stream) → Stream
+acceptLeft (accept-answer.Body b) left before = left
+acceptLeft (accept-answer.Refused r) left before = before
 
-pub accept-back : (l : List ℕ) (a : AcceptAnswer) (s : Stream) → acceptIn (acceptWire l (record { answer = a; stream = s })) ≡ acceptSeen l (record { answer = a; stream = s })
-accept-back l (accept-answer.Body b) s = body-with b _ _ _ _ _ _ _ _ _ _ (span-back (b .name)) (span-back (b .«house_number»)) (span-back (b .reference)) (place-back (b .«label_position»)) (stream-back s)
-accept-back l (accept-answer.Refused r) s =
-    ap (λ (t : Stream). record { answer = acceptIn (acceptWire l (record { answer = accept-answer.Refused r; stream = s })) .answer; stream = t }) (state-back (numberOf r) s l)
-    ∙ ap (λ (x : AcceptAnswer). record { answer = x; stream = there (numberOf r) s (streamIn l) }) (settled accept-answer.Refused _ r)
+abbrev pub acceptSeen : (lent : Wire) → Accepted → Accepted
+acceptSeen w s = record { answer = s .answer; stream = acceptLeft (s .answer) (s .stream) (streamIn (listOf w 1)) }
 
-abbrev pub acceptDecoder : (before : List ℕ) → Decoder (acceptWire before) (acceptSeen before)
-acceptDecoder l = record { decode = acceptIn; back = λ s. accept-back l (s .answer) (s .stream) }
+abbrev pub AcceptLent : Wire → Type 0
+AcceptLent = Lent (18 ∷ 7 ∷ []) 0 2
+
+pub accept-back : (w : Wire) → AcceptLent w → (s : Accepted) → acceptIn (acceptWire w s) ≡ acceptSeen w s
+accept-back w h s = spread-out (18 ∷ 7 ∷ []) 0 2 w h (λ v. acceptIn (acceptWire v s) ≡ acceptSeen v s) (go (s .answer) (s .stream))
+  where
+    go : (a : AcceptAnswer) (t : Stream) → acceptIn (acceptWith a t (spreadWire (18 ∷ 7 ∷ []) 0 2 w)) ≡ acceptSeen (spreadWire (18 ∷ 7 ∷ []) 0 2 w) (record { answer = a; stream = t })
+    go (accept-answer.Body b) t = body-with b _ _ _ _ _ _ _ _ _ _ (span-back (b .name)) (span-back (b .«house_number»)) (span-back (b .reference)) (place-back (b .«label_position»)) (stream-back t _ _ _ _ _ _ _)
+    go (accept-answer.Refused r) t = ap (λ (x : AcceptAnswer). record { answer = x; stream = streamIn (listOf (spreadWire (18 ∷ 7 ∷ []) 0 2 w) 1) }) (settled-lent accept-answer.Refused _ _ _ _ _ _ _ _ r)
+
+abbrev pub acceptDecoder : (w : Wire) → AcceptLent w → Decoder (acceptWire w) (acceptSeen w)
+acceptDecoder w h = record { decode = acceptIn; back = accept-back w h }
 
 abbrev pub declineIn : Wire → Declined
 declineIn w = record { answer = settle decline-answer.Refused decline-answer.Declined w; stream = streamIn (listOf w 1) }
 
-abbrev pub declineSeen : (before : List ℕ) → Declined → Declined
-declineSeen l s = record { answer = s .answer; stream = there (declineNumber (s .answer)) (s .stream) (streamIn l) }
+abbrev pub declineLeft : DeclineAnswer → (left before : Stream) → Stream
+declineLeft decline-answer.Declined left before = left
+declineLeft (decline-answer.Refused r) left before = before
 
-pub decline-back : (l : List ℕ) (a : DeclineAnswer) (s : Stream) → declineIn (declineWire l (record { answer = a; stream = s })) ≡ declineSeen l (record { answer = a; stream = s })
-decline-back l decline-answer.Declined s = ap (λ (t : Stream). record { answer = decline-answer.Declined; stream = t }) (stream-back s)
-decline-back l (decline-answer.Refused r) s =
-    ap (λ (t : Stream). record { answer = declineIn (declineWire l (record { answer = decline-answer.Refused r; stream = s })) .answer; stream = t }) (state-back (numberOf r) s l)
-    ∙ ap (λ (x : DeclineAnswer). record { answer = x; stream = there (numberOf r) s (streamIn l) }) (settled decline-answer.Refused decline-answer.Declined r)
+abbrev pub declineSeen : (lent : Wire) → Declined → Declined
+declineSeen w s = record { answer = s .answer; stream = declineLeft (s .answer) (s .stream) (streamIn (listOf w 1)) }
 
-abbrev pub declineDecoder : (before : List ℕ) → Decoder (declineWire before) (declineSeen before)
-declineDecoder l = record { decode = declineIn; back = λ s. decline-back l (s .answer) (s .stream) }
+abbrev pub DeclineLent : Wire → Type 0
+DeclineLent = Lent (6 ∷ 7 ∷ []) 0 0
+
+pub decline-back : (w : Wire) → DeclineLent w → (s : Declined) → declineIn (declineWire w s) ≡ declineSeen w s
+decline-back w h s = spread-out (6 ∷ 7 ∷ []) 0 0 w h (λ v. declineIn (declineWire v s) ≡ declineSeen v s) (go (s .answer) (s .stream))
+  where
+    go : (a : DeclineAnswer) (t : Stream) → declineIn (declineWith a t (spreadWire (6 ∷ 7 ∷ []) 0 0 w)) ≡ declineSeen (spreadWire (6 ∷ 7 ∷ []) 0 0 w) (record { answer = a; stream = t })
+    go decline-answer.Declined t = ap (λ (x : Stream). record { answer = decline-answer.Declined; stream = x }) (stream-back t _ _ _ _ _ _ _)
+    go (decline-answer.Refused r) t = ap (λ (x : DeclineAnswer). record { answer = x; stream = streamIn (listOf (spreadWire (6 ∷ 7 ∷ []) 0 0 w) 1) }) (settled decline-answer.Refused decline-answer.Declined _ _ r)
+
+abbrev pub declineDecoder : (w : Wire) → DeclineLent w → Decoder (declineWire w) (declineSeen w)
+declineDecoder w h = record { decode = declineIn; back = decline-back w h }

@@ -1,11 +1,9 @@
--- A stream, and what its calls answer, as words.
+-- A stream, and what its calls answer, as words: which ones each answer writes. The others keep their values.
 use Prim.Native.Nat.{ℕ}
-use lib.IntN.{ℤ, pos}
 use mathlib.Core.Bool.{cond}
 use mathlib.Core.List.{List, [], _∷_}
-use lib.Ieee.{Float}
-use lib.ListN.{getD, replicate}
-use Rattle.error.specs.Refusals.{numberOf}
+use lib.ListN.{getD}
+use Rattle.types.specs.declared.OptionalSpan.{OptionalSpan}
 use Rattle.poi.specs.declared.Poi.{Poi}
 use Rattle.visit.specs.declared.TileEnd.{TileEnd}
 use Rattle.visit.specs.declared.Turn.{Turn}
@@ -24,9 +22,9 @@ use Rattle.visit.specs.declared.Accepted.{Accepted}
 use Rattle.visit.specs.declared.DeclineAnswer.{DeclineAnswer}
 use Rattle.visit.specs.declared.DeclineAnswer.the-variants as decline-answer
 use Rattle.visit.specs.declared.Declined.{Declined}
-use Rattle.wire.specs.Wire.{Wire, truth, there}
-use Rattle.wire.specs.Verdicts.{valuesIn, noValues, behind, spanWords, placeWords, nowhere}
-use Rattle.elevation_wire.specs.Elevation.{metreWords}
+use Rattle.wire.specs.Wire.{Wire, put, putAll, putSigned, putDegrees, numbered, putRefusal, putLentRefusal, truth, there}
+use Rattle.wire.specs.Verdicts.{spanWords, placeWords}
+use Rattle.wire.specs.Elevation.{metreWords}
 
 -- the state, in seven words
 abbrev pub turnWords : Turn → (subFile water : ℕ) → List ℕ
@@ -44,118 +42,52 @@ turnIn l =
 abbrev pub streamIn : List ℕ → Stream
 streamIn l = record { turn = turnIn l; end = record { «sub_file» = getD l 5 0; «is_water» = truth (getD l 6 0) } }
 
--- the state's words after a next, an accept or a decline that answered this number: a refused call leaves them as they were
-abbrev pub stateAfter : (number : ℕ) → Stream → (before : List ℕ) → List ℕ
-stateAfter n s l = there n (streamWords s) l
+-- opening
+abbrev pub openedWire : (before : Wire) → OpenRead → Wire
+openedWire w (open-read.Stream s) = numbered 0 (put 1 0 (streamWords s) w)
+openedWire w (open-read.Refused r) = putRefusal r w
 
--- opening: on a refusal the state keeps its words
-abbrev pub openedNumber : OpenRead → ℕ
-openedNumber (open-read.Stream s) = 0
-openedNumber (open-read.Refused r) = numberOf r
+-- next: words from 6 on, the tag ids, the state
+abbrev pub spanList : OptionalSpan → List ℕ → List ℕ
+spanList s l = spanWords s .present ∷ spanWords s .start ∷ spanWords s .size ∷ l
 
-abbrev pub openedWords : OpenRead → List ℕ
-openedWords (open-read.Stream s) = behind noValues []
-openedWords (open-read.Refused r) = behind (valuesIn r) []
+abbrev pub putPoint : Poi → Wire → Wire
+putPoint p w =
+    put 0 6 (0 ∷ p .«tag_ids» .count ∷ spanList (p .signature) (spanList (p .name) (spanList (p .«house_number») (metreWords (p .elevation) .present ∷ []))))
+    (putAll 1 (p .«tag_ids» .ids) (putSigned 0 (p .layer ∷ metreWords (p .elevation) .metres ∷ []) (putDegrees 0 (p .position .latitude ∷ p .position .longitude ∷ []) w)))
 
-abbrev pub openedState : OpenRead → (before : List ℕ) → List ℕ
-openedState (open-read.Stream s) l = streamWords s
-openedState (open-read.Refused r) l = l
+abbrev pub putHead : StreamedHead → Wire → Wire
+putHead h w = put 0 18 (h .bitmap ∷ []) (put 0 6 (1 ∷ h .«tag_ids» .count ∷ []) (putAll 1 (h .«tag_ids» .ids) (putSigned 0 (h .layer ∷ []) w)))
 
-abbrev pub openedWire : (before : List ℕ) → OpenRead → Wire
-openedWire l a = record { number = openedNumber a; lists = openedWords a ∷ openedState a l ∷ []; signed = []; degrees = [] }
+abbrev pub putEnd : TileEnd → Wire → Wire
+putEnd z w = put 0 19 (z .«sub_file» ∷ cond (z .«is_water») 1 0 ∷ []) (put 0 6 (2 ∷ []) w)
 
--- next
-abbrev pub pointWords : Poi → List ℕ
-pointWords p =
-    behind noValues (0 ∷ p .«tag_ids» .count ∷ spanWords (p .signature) .present ∷ spanWords (p .signature) .start ∷ spanWords (p .signature) .size ∷
-    spanWords (p .name) .present ∷ spanWords (p .name) .start ∷ spanWords (p .name) .size ∷
-    spanWords (p .«house_number») .present ∷ spanWords (p .«house_number») .start ∷ spanWords (p .«house_number») .size ∷
-    metreWords (p .elevation) .present ∷ 0 ∷ 0 ∷ 0 ∷ [])
+abbrev pub nextWith : NextAnswer → Poi → StreamedHead → Stream → Wire → Wire
+nextWith next-answer.Point p h s w = numbered 0 (put 2 0 (streamWords s) (putPoint p w))
+nextWith next-answer.Way p h s w = numbered 0 (put 2 0 (streamWords s) (putHead h w))
+nextWith (next-answer.End z) p h s w = numbered 0 (put 2 0 (streamWords s) (putEnd z w))
+nextWith (next-answer.Refused r) p h s w = putRefusal r w
 
-abbrev pub headWords : StreamedHead → List ℕ
-headWords h = behind noValues (1 ∷ h .«tag_ids» .count ∷ 0 ∷ 0 ∷ 0 ∷ 0 ∷ 0 ∷ 0 ∷ 0 ∷ 0 ∷ 0 ∷ 0 ∷ h .bitmap ∷ 0 ∷ 0 ∷ [])
+abbrev pub nextWire : (before : Wire) → NextStep → Wire
+nextWire w s = nextWith (s .answer) (s .poi) (s .head) (s .stream) w
 
-abbrev pub endWords : TileEnd → List ℕ
-endWords z = behind noValues (2 ∷ 0 ∷ 0 ∷ 0 ∷ 0 ∷ 0 ∷ 0 ∷ 0 ∷ 0 ∷ 0 ∷ 0 ∷ 0 ∷ 0 ∷ z .«sub_file» ∷ cond (z .«is_water») 1 0 ∷ [])
+-- accept: words from 6 on, the label's position, the state
+abbrev pub putBody : StreamedBody → Wire → Wire
+putBody b w =
+    put 0 6 (b .blocks ∷ b .nodes ∷ spanList (b .name) (spanList (b .«house_number») (spanList (b .reference) (placeWords (b .«label_position») .present ∷ []))))
+    (putDegrees 0 (placeWords (b .«label_position») .latitude ∷ placeWords (b .«label_position») .longitude ∷ []) w)
 
-abbrev pub nextNumber : NextAnswer → ℕ
-nextNumber next-answer.Point = 0
-nextNumber next-answer.Way = 0
-nextNumber (next-answer.End z) = 0
-nextNumber (next-answer.Refused r) = numberOf r
+abbrev pub acceptWith : AcceptAnswer → Stream → Wire → Wire
+acceptWith (accept-answer.Body b) s w = numbered 0 (put 1 0 (streamWords s) (putBody b w))
+acceptWith (accept-answer.Refused r) s w = putLentRefusal r w
 
-abbrev pub nextWords : NextAnswer → Poi → StreamedHead → List ℕ
-nextWords next-answer.Point p h = pointWords p
-nextWords next-answer.Way p h = headWords h
-nextWords (next-answer.End z) p h = endWords z
-nextWords (next-answer.Refused r) p h = behind (valuesIn r) (replicate 15 0)
+abbrev pub acceptWire : (before : Wire) → Accepted → Wire
+acceptWire w s = acceptWith (s .answer) (s .stream) w
 
-abbrev pub nextSigned : NextAnswer → Poi → StreamedHead → List ℤ
-nextSigned next-answer.Point p h = p .layer ∷ metreWords (p .elevation) .metres ∷ []
-nextSigned next-answer.Way p h = h .layer ∷ pos 0 ∷ []
-nextSigned (next-answer.End z) p h = pos 0 ∷ pos 0 ∷ []
-nextSigned (next-answer.Refused r) p h = pos 0 ∷ pos 0 ∷ []
+-- decline: the state
+abbrev pub declineWith : DeclineAnswer → Stream → Wire → Wire
+declineWith decline-answer.Declined s w = numbered 0 (put 1 0 (streamWords s) w)
+declineWith (decline-answer.Refused r) s w = putRefusal r w
 
-abbrev pub nextDegrees : NextAnswer → Poi → List Float
-nextDegrees next-answer.Point p = p .position .latitude ∷ p .position .longitude ∷ []
-nextDegrees next-answer.Way p = nowhere ∷ nowhere ∷ []
-nextDegrees (next-answer.End z) p = nowhere ∷ nowhere ∷ []
-nextDegrees (next-answer.Refused r) p = nowhere ∷ nowhere ∷ []
-
-abbrev pub nextIds : NextAnswer → Poi → StreamedHead → List ℕ
-nextIds next-answer.Point p h = p .«tag_ids» .ids
-nextIds next-answer.Way p h = h .«tag_ids» .ids
-nextIds (next-answer.End z) p h = replicate 15 0
-nextIds (next-answer.Refused r) p h = replicate 15 0
-
-abbrev pub nextWire : (before : List ℕ) → NextStep → Wire
-nextWire l s = record {
-  number = nextNumber (s .answer);
-  lists = nextWords (s .answer) (s .poi) (s .head) ∷ nextIds (s .answer) (s .poi) (s .head) ∷ stateAfter (nextNumber (s .answer)) (s .stream) l ∷ [];
-  signed = nextSigned (s .answer) (s .poi) (s .head);
-  degrees = nextDegrees (s .answer) (s .poi);
-}
-
--- accept
-abbrev pub acceptNumber : AcceptAnswer → ℕ
-acceptNumber (accept-answer.Body b) = 0
-acceptNumber (accept-answer.Refused r) = numberOf r
-
-abbrev pub bodyWords : StreamedBody → List ℕ
-bodyWords b =
-    behind noValues (b .blocks ∷ b .nodes ∷ spanWords (b .name) .present ∷ spanWords (b .name) .start ∷ spanWords (b .name) .size ∷
-    spanWords (b .«house_number») .present ∷ spanWords (b .«house_number») .start ∷ spanWords (b .«house_number») .size ∷
-    spanWords (b .reference) .present ∷ spanWords (b .reference) .start ∷ spanWords (b .reference) .size ∷ placeWords (b .«label_position») .present ∷ [])
-
-abbrev pub acceptWords : AcceptAnswer → List ℕ
-acceptWords (accept-answer.Body b) = bodyWords b
-acceptWords (accept-answer.Refused r) = behind (valuesIn r) (replicate 12 0)
-
-abbrev pub acceptDegrees : AcceptAnswer → List Float
-acceptDegrees (accept-answer.Body b) = placeWords (b .«label_position») .latitude ∷ placeWords (b .«label_position») .longitude ∷ []
-acceptDegrees (accept-answer.Refused r) = nowhere ∷ nowhere ∷ []
-
-abbrev pub acceptWire : (before : List ℕ) → Accepted → Wire
-acceptWire l s = record {
-  number = acceptNumber (s .answer);
-  lists = acceptWords (s .answer) ∷ stateAfter (acceptNumber (s .answer)) (s .stream) l ∷ [];
-  signed = [];
-  degrees = acceptDegrees (s .answer);
-}
-
--- decline
-abbrev pub declineNumber : DeclineAnswer → ℕ
-declineNumber decline-answer.Declined = 0
-declineNumber (decline-answer.Refused r) = numberOf r
-
-abbrev pub declineWords : DeclineAnswer → List ℕ
-declineWords decline-answer.Declined = behind noValues []
-declineWords (decline-answer.Refused r) = behind (valuesIn r) []
-
-abbrev pub declineWire : (before : List ℕ) → Declined → Wire
-declineWire l s = record {
-  number = declineNumber (s .answer);
-  lists = declineWords (s .answer) ∷ stateAfter (declineNumber (s .answer)) (s .stream) l ∷ [];
-  signed = [];
-  degrees = [];
-}
+abbrev pub declineWire : (before : Wire) → Declined → Wire
+declineWire w s = declineWith (s .answer) (s .stream) w

@@ -1,9 +1,11 @@
-// What a stream answers, as words for programs in other languages.
-use error::Lengths;
+// What a stream answers, as words for programs in other languages. An answer writes its own words; the others keep their values.
 use poi::Poi;
 use visit::AcceptAnswer;
+use visit::Accepted;
 use visit::DeclineAnswer;
+use visit::Declined;
 use visit::NextAnswer;
+use visit::NextStep;
 use visit::OpenRead;
 use visit::Remaining;
 use visit::Stream;
@@ -13,31 +15,11 @@ use visit::TileEnd;
 use visit::Turn;
 use visit::WaitingWay;
 ghost use mathlib.Core.Path.{_≡_};
-ghost use Rattle.stream_wire.specs.Streams.{streamWords, stateAfter, turnIn, streamIn, openedNumber, openedWords, openedState, pointWords, headWords, endWords, nextNumber, nextWords, nextSigned, nextDegrees, nextIds, acceptNumber, bodyWords, acceptWords, acceptDegrees, declineNumber, declineWords};
-ghost use Rattle.wire.specs.Verdicts.{behind};
-ghost use lib.ListN.{replicate};
-
-// A stream as seven words.
-pub fn stream_words(stream: Stream) -> [u64; 7]
-    ensures { λ r. ⌜ r ≡ streamWords stream ⌝ }
-{
-    let turn = stream.turn;
-    let end = stream.end;
-    let sub_file = end.sub_file as u64;
-    let water = wire::bit(end.is_water);
-    match turn {
-        Turn::Idle(r) => [
-            0,
-            r.points,
-            r.ways,
-            r.at as u64,
-            r.way as u64,
-            sub_file,
-            water,
-        ],
-        Turn::Waits(w) => [1, w.ways, w.past as u64, w.body as u64, 0, sub_file, water],
-    }
-}
+ghost use mathlib.Core.List.{[], _∷_};
+ghost use lib.Seq.{sets};
+ghost use Rattle.wire.specs.Wire.{wire, lending};
+ghost use Rattle.wire.specs.Elevation.{metreWords};
+ghost use Rattle.stream_wire.specs.Streams.{streamWords, turnIn, streamIn, openedWire, putPoint, putHead, putEnd, putBody, nextWire, acceptWire, declineWire};
 
 fn turn_in(words: [u64; 7]) -> Turn
     ensures { λ r. ⌜ r ≡ turnIn words ⌝ }
@@ -68,250 +50,165 @@ pub fn stream_in(words: [u64; 7]) -> Stream
     Stream { turn, end }
 }
 
-// The state's words after a call that answered this number: a refused call leaves them as they were.
-pub fn state_after(number: u64, stream: Stream, before: [u64; 7]) -> [u64; 7]
-    ensures { λ r. ⌜ r ≡ stateAfter number stream before ⌝ }
+// A stream, in seven words.
+fn put_stream(stream: Stream, state: &mut [u64; 7])
+    ensures { λ r. ⌜ now (state .exit) ≡ sets (now (state .entry)) 0 (streamWords stream) ⌝ }
 {
-    if 0 < number {
-        return before;
-    }
-    stream_words(stream)
-}
-
-// The stream that was opened, or the words that were there.
-pub fn opened_state(got: OpenRead, before: [u64; 7]) -> [u64; 7]
-    ensures { λ r. ⌜ r ≡ openedState got before ⌝ }
-{
-    match got {
-        OpenRead::Stream(s) => stream_words(s),
-        OpenRead::Refused(_) => before,
-    }
-}
-
-pub fn opened_number(got: OpenRead) -> u64
-    ensures { λ r. ⌜ r ≡ openedNumber got ⌝ }
-{
-    match got {
-        OpenRead::Stream(_) => 0,
-        OpenRead::Refused(r) => error::number_of(r) as u64,
-    }
-}
-
-pub fn opened_words(got: OpenRead) -> [u64; 6]
-    ensures { λ r. ⌜ r ≡ openedWords got ⌝ }
-{
-    match got {
-        OpenRead::Stream(_) => [0; 6],
-        OpenRead::Refused(r) => {
-            let v = wire::values_of(r);
-            [v.list1, v.list2, v.list3, v.list4, v.list5, v.buffer]
+    let end = stream.end;
+    let water = wire::bit(end.is_water);
+    let turn = stream.turn;
+    match turn {
+        Turn::Idle(r) => {
+            state[0] = 0;
+            state[1] = r.points;
+            state[2] = r.ways;
+            state[3] = r.at as u64;
+            state[4] = r.way as u64;
+            state[5] = end.sub_file as u64;
+            state[6] = water;
+        }
+        Turn::Waits(w) => {
+            state[0] = 1;
+            state[1] = w.ways;
+            state[2] = w.past as u64;
+            state[3] = w.body as u64;
+            state[4] = 0;
+            state[5] = end.sub_file as u64;
+            state[6] = water;
         }
     }
 }
 
-pub fn next_number(answer: NextAnswer) -> u64
-    ensures { λ r. ⌜ r ≡ nextNumber answer ⌝ }
+// The stream that was opened.
+pub fn put_opened(got: OpenRead, words: &mut [u64; 6], state: &mut [u64; 7]) -> u64
+    ensures { λ r. ⌜ wire r (now (words .exit) ∷ now (state .exit) ∷ []) [] [] ≡ openedWire (lending (now (words .entry) ∷ now (state .entry) ∷ []) [] []) got ⌝ }
 {
-    match answer {
-        NextAnswer::Point => 0,
-        NextAnswer::Way => 0,
-        NextAnswer::End(_) => 0,
-        NextAnswer::Refused(r) => error::number_of(r) as u64,
+    match got {
+        OpenRead::Stream(s) => {
+            put_stream(s, state);
+            0
+        }
+        OpenRead::Refused(r) => wire::put_refusal(r, words),
     }
 }
 
-fn point_words(poi: Poi) -> [u64; 21]
-    ensures { λ r. ⌜ r ≡ pointWords poi ⌝ }
+// A point's layer and elevation.
+fn put_signs(poi: Poi, signed_words: &mut [i64; 2])
+    ensures { λ r. ⌜ now («signed_words» .exit) ≡ sets (now («signed_words» .entry)) 0 (poi .layer ∷ metreWords (poi .elevation) .metres ∷ []) ⌝ }
+{
+    let stored = poi.elevation;
+    let elevation = wire::metre_words(stored);
+    let metres = elevation.metres;
+    let layer = wire::wide_i8(poi.layer);
+    signed_words[0] = layer;
+    signed_words[1] = metres;
+}
+
+// A point: its texts and where it lies.
+fn put_point(
+    poi: Poi,
+    words: &mut [u64; 21],
+    signed_words: &mut [i64; 2],
+    degrees: &mut [f64; 2],
+    ids: &mut [u64; 15],
+)
+    ensures { λ r. ⌜ wire 0 (now (words .exit) ∷ now (ids .exit) ∷ []) (now («signed_words» .exit)) (now (degrees .exit)) ≡ putPoint poi (lending (now (words .entry) ∷ now (ids .entry) ∷ []) (now («signed_words» .entry)) (now (degrees .entry))) ⌝ }
 {
     let stored = poi.signature;
     let signature = wire::span_words(stored);
-    let tags = poi.tag_ids;
     let stored = poi.name;
     let name = wire::span_words(stored);
     let stored = poi.house_number;
     let house = wire::span_words(stored);
     let stored = poi.elevation;
-    let elevation = elevation_wire::metre_words(stored);
-    [
-        0,
-        0,
-        0,
-        0,
-        0,
-        0,
-        0,
-        tags.count as u64,
-        signature.present,
-        signature.start,
-        signature.size,
-        name.present,
-        name.start,
-        name.size,
-        house.present,
-        house.start,
-        house.size,
-        elevation.present,
-        0,
-        0,
-        0,
-    ]
-}
-
-fn head_words(head: StreamedHead) -> [u64; 21]
-    ensures { λ r. ⌜ r ≡ headWords head ⌝ }
-{
-    let tags = head.tag_ids;
-    let count = tags.count as u64;
-    let bitmap = head.bitmap as u64;
-    [
-        0,
-        0,
-        0,
-        0,
-        0,
-        0,
-        1,
-        count,
-        0,
-        0,
-        0,
-        0,
-        0,
-        0,
-        0,
-        0,
-        0,
-        0,
-        bitmap,
-        0,
-        0,
-    ]
-}
-
-fn end_words(end: TileEnd) -> [u64; 21]
-    ensures { λ r. ⌜ r ≡ endWords end ⌝ }
-{
-    let sub_file = end.sub_file as u64;
-    let water = wire::bit(end.is_water);
-    [
-        0,
-        0,
-        0,
-        0,
-        0,
-        0,
-        2,
-        0,
-        0,
-        0,
-        0,
-        0,
-        0,
-        0,
-        0,
-        0,
-        0,
-        0,
-        0,
-        sub_file,
-        water,
-    ]
-}
-
-fn next_refused(v: Lengths) -> [u64; 21]
-    ensures { λ r. ⌜ r ≡ behind v (replicate 15 0) ⌝ }
-{
-    [
-        v.list1,
-        v.list2,
-        v.list3,
-        v.list4,
-        v.list5,
-        v.buffer,
-        0,
-        0,
-        0,
-        0,
-        0,
-        0,
-        0,
-        0,
-        0,
-        0,
-        0,
-        0,
-        0,
-        0,
-        0,
-    ]
-}
-
-pub fn next_words(answer: NextAnswer, poi: Poi, head: StreamedHead) -> [u64; 21]
-    ensures { λ r. ⌜ r ≡ nextWords answer poi head ⌝ }
-{
-    match answer {
-        NextAnswer::Point => point_words(poi),
-        NextAnswer::Way => head_words(head),
-        NextAnswer::End(end) => end_words(end),
-        NextAnswer::Refused(r) => { next_refused(wire::values_of(r)) }
-    }
-}
-
-pub fn next_signed(answer: NextAnswer, poi: Poi, head: StreamedHead) -> [i64; 2]
-    ensures { λ r. ⌜ r ≡ nextSigned answer poi head ⌝ }
-{
-    match answer {
-        NextAnswer::Point => {
-            let stored = poi.elevation;
-            let elevation = elevation_wire::metre_words(stored);
-            [wire::wide_i8(poi.layer), elevation.metres]
-        }
-        NextAnswer::Way => [wire::wide_i8(head.layer), 0],
-        NextAnswer::End(_) => [0, 0],
-        NextAnswer::Refused(_) => [0, 0],
-    }
-}
-
-pub fn next_degrees(answer: NextAnswer, poi: Poi) -> [f64; 2]
-    ensures { λ r. ⌜ r ≡ nextDegrees answer poi ⌝ }
-{
-    match answer {
-        NextAnswer::Point => {
-            let position = poi.position;
-            [position.latitude, position.longitude]
-        }
-        NextAnswer::Way => [0.0; 2],
-        NextAnswer::End(_) => [0.0; 2],
-        NextAnswer::Refused(_) => [0.0; 2],
-    }
-}
-
-pub fn next_ids(answer: NextAnswer, poi: Poi, head: StreamedHead) -> [u64; 15]
-    ensures { λ r. ⌜ r ≡ nextIds answer poi head ⌝ }
-{
+    let elevation = wire::metre_words(stored);
+    let position = poi.position;
     let tags = poi.tag_ids;
-    let point = tags.ids;
-    let tags = head.tag_ids;
-    let way = tags.ids;
-    match answer {
-        NextAnswer::Point => point,
-        NextAnswer::Way => way,
-        NextAnswer::End(_) => [0; 15],
-        NextAnswer::Refused(_) => [0; 15],
-    }
+    words[6] = 0;
+    words[7] = tags.count as u64;
+    words[8] = signature.present;
+    words[9] = signature.start;
+    words[10] = signature.size;
+    words[11] = name.present;
+    words[12] = name.start;
+    words[13] = name.size;
+    words[14] = house.present;
+    words[15] = house.start;
+    words[16] = house.size;
+    words[17] = elevation.present;
+    put_signs(poi, signed_words);
+    degrees[0] = position.latitude;
+    degrees[1] = position.longitude;
+    let row = tags.ids;
+    *ids = row;
 }
 
-pub fn accept_number(answer: AcceptAnswer) -> u64
-    ensures { λ r. ⌜ r ≡ acceptNumber answer ⌝ }
+// The head of a way.
+fn put_head(
+    head: StreamedHead,
+    words: &mut [u64; 21],
+    signed_words: &mut [i64; 2],
+    ids: &mut [u64; 15],
+)
+    ensures { λ r. ⌜ wire 0 (now (words .exit) ∷ now (ids .exit) ∷ []) (now («signed_words» .exit)) [] ≡ putHead head (lending (now (words .entry) ∷ now (ids .entry) ∷ []) (now («signed_words» .entry)) []) ⌝ }
 {
+    let tags = head.tag_ids;
+    let layer = wire::wide_i8(head.layer);
+    words[6] = 1;
+    words[7] = tags.count as u64;
+    words[18] = head.bitmap as u64;
+    signed_words[0] = layer;
+    let row = tags.ids;
+    *ids = row;
+}
+
+fn put_end(end: TileEnd, words: &mut [u64; 21])
+    ensures { λ r. ⌜ wire 0 (now (words .exit) ∷ []) [] [] ≡ putEnd end (lending (now (words .entry) ∷ []) [] []) ⌝ }
+{
+    let water = wire::bit(end.is_water);
+    words[6] = 2;
+    words[19] = end.sub_file as u64;
+    words[20] = water;
+}
+
+// The next point, the next way's head, or the end; and the state.
+pub fn put_next(
+    step: NextStep,
+    state: &mut [u64; 7],
+    words: &mut [u64; 21],
+    signed_words: &mut [i64; 2],
+    degrees: &mut [f64; 2],
+    ids: &mut [u64; 15],
+) -> u64
+    ensures { λ r. ⌜ wire r (now (words .exit) ∷ now (ids .exit) ∷ now (state .exit) ∷ []) (now («signed_words» .exit)) (now (degrees .exit)) ≡ nextWire (lending (now (words .entry) ∷ now (ids .entry) ∷ now (state .entry) ∷ []) (now («signed_words» .entry)) (now (degrees .entry))) step ⌝ }
+{
+    let answer = step.answer;
+    let stream = step.stream;
     match answer {
-        AcceptAnswer::Body(_) => 0,
-        AcceptAnswer::Refused(r) => error::number_of(r) as u64,
+        NextAnswer::Point => {
+            let poi = step.poi;
+            put_point(poi, words, signed_words, degrees, ids);
+            put_stream(stream, state);
+            0
+        }
+        NextAnswer::Way => {
+            let head = step.head;
+            put_head(head, words, signed_words, ids);
+            put_stream(stream, state);
+            0
+        }
+        NextAnswer::End(end) => {
+            put_end(end, words);
+            put_stream(stream, state);
+            0
+        }
+        NextAnswer::Refused(r) => wire::put_refusal(r, words),
     }
 }
 
-fn body_words(body: StreamedBody) -> [u64; 18]
-    ensures { λ r. ⌜ r ≡ bodyWords body ⌝ }
+// What an accepted way has besides its nodes.
+fn put_body(body: StreamedBody, words: &mut [u64; 18], degrees: &mut [f64; 2])
+    ensures { λ r. ⌜ wire 0 (now (words .exit) ∷ []) [] (now (degrees .exit)) ≡ putBody body (lending (now (words .entry) ∷ []) [] (now (degrees .entry))) ⌝ }
 {
     let stored = body.name;
     let name = wire::span_words(stored);
@@ -321,89 +218,52 @@ fn body_words(body: StreamedBody) -> [u64; 18]
     let reference = wire::span_words(stored);
     let stored = body.label_position;
     let label = wire::place_words(stored);
-    [
-        0,
-        0,
-        0,
-        0,
-        0,
-        0,
-        body.blocks,
-        body.nodes,
-        name.present,
-        name.start,
-        name.size,
-        house.present,
-        house.start,
-        house.size,
-        reference.present,
-        reference.start,
-        reference.size,
-        label.present,
-    ]
+    words[6] = body.blocks;
+    words[7] = body.nodes;
+    words[8] = name.present;
+    words[9] = name.start;
+    words[10] = name.size;
+    words[11] = house.present;
+    words[12] = house.start;
+    words[13] = house.size;
+    words[14] = reference.present;
+    words[15] = reference.start;
+    words[16] = reference.size;
+    words[17] = label.present;
+    degrees[0] = label.latitude;
+    degrees[1] = label.longitude;
 }
 
-pub fn accept_words(answer: AcceptAnswer) -> [u64; 18]
-    ensures { λ r. ⌜ r ≡ acceptWords answer ⌝ }
+pub fn put_accepted(
+    step: Accepted,
+    state: &mut [u64; 7],
+    words: &mut [u64; 18],
+    degrees: &mut [f64; 2],
+) -> u64
+    ensures { λ r. ⌜ wire r (now (words .exit) ∷ now (state .exit) ∷ []) [] (now (degrees .exit)) ≡ acceptWire (lending (now (words .entry) ∷ now (state .entry) ∷ []) [] (now (degrees .entry))) step ⌝ }
 {
+    let answer = step.answer;
+    let stream = step.stream;
     match answer {
-        AcceptAnswer::Body(b) => body_words(b),
-        AcceptAnswer::Refused(r) => {
-            let v = wire::values_of(r);
-            [
-                v.list1,
-                v.list2,
-                v.list3,
-                v.list4,
-                v.list5,
-                v.buffer,
-                0,
-                0,
-                0,
-                0,
-                0,
-                0,
-                0,
-                0,
-                0,
-                0,
-                0,
-                0,
-            ]
+        AcceptAnswer::Body(body) => {
+            put_body(body, words, degrees);
+            put_stream(stream, state);
+            0
         }
+        AcceptAnswer::Refused(r) => wire::put_lent_refusal(r, words),
     }
 }
 
-pub fn accept_degrees(answer: AcceptAnswer) -> [f64; 2]
-    ensures { λ r. ⌜ r ≡ acceptDegrees answer ⌝ }
+pub fn put_declined(step: Declined, state: &mut [u64; 7], words: &mut [u64; 6]) -> u64
+    ensures { λ r. ⌜ wire r (now (words .exit) ∷ now (state .exit) ∷ []) [] [] ≡ declineWire (lending (now (words .entry) ∷ now (state .entry) ∷ []) [] []) step ⌝ }
 {
+    let answer = step.answer;
+    let stream = step.stream;
     match answer {
-        AcceptAnswer::Body(b) => {
-            let stored = b.label_position;
-            let label = wire::place_words(stored);
-            [label.latitude, label.longitude]
+        DeclineAnswer::Declined => {
+            put_stream(stream, state);
+            0
         }
-        AcceptAnswer::Refused(_) => [0.0; 2],
-    }
-}
-
-pub fn decline_number(answer: DeclineAnswer) -> u64
-    ensures { λ r. ⌜ r ≡ declineNumber answer ⌝ }
-{
-    match answer {
-        DeclineAnswer::Declined => 0,
-        DeclineAnswer::Refused(r) => error::number_of(r) as u64,
-    }
-}
-
-pub fn decline_words(answer: DeclineAnswer) -> [u64; 6]
-    ensures { λ r. ⌜ r ≡ declineWords answer ⌝ }
-{
-    match answer {
-        DeclineAnswer::Declined => [0; 6],
-        DeclineAnswer::Refused(r) => {
-            let v = wire::values_of(r);
-            [v.list1, v.list2, v.list3, v.list4, v.list5, v.buffer]
-        }
+        DeclineAnswer::Refused(r) => wire::put_refusal(r, words),
     }
 }

@@ -3,7 +3,7 @@ use Prim.Native.Nat.{ℕ, _+_, _<_}
 use mathlib.Core.Path.{_≡_, refl, sym, ap, _∙_}
 use mathlib.Core.List.{List}
 use lib.ListN.{length}
-use Rattle.parsing.specs.Parse.{Res, ok, no, Part, andThen, many}
+use Rattle.parsing.specs.Parse.{Res, ok, no, Part, andThen, many, passed}
 use Rattle.parsing.specs.Good.{ok-at, no-ok}
 use Rattle.parsing.proofs.Loops.{fold-more, counted, many-count}
 use Rattle.parsing.proofs.Views.{view-stop}
@@ -20,7 +20,7 @@ use Rattle.types.specs.declared.End.{End}
 use Rattle.types.specs.declared.End.the-variants as end
 use Rattle.types.specs.declared.TagTable.{TagTable}
 use Rattle.types.proofs.TypeLaws as types
-use Rattle.tag_table.specs.Tables.{tagTable, tableRes, tableRefusal, passed}
+use Rattle.tag_table.specs.Tables.{tagTable, tableRes, tableRefusal}
 use Rattle.tag_table.specs.declared.TagTableRead.the-variants as table
 
 pub table-refused : Taken tableRefusal table.Refused

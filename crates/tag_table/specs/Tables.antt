@@ -1,6 +1,6 @@
 -- Tag tables as the code holds them (document 01, header.rs): where the names stand and how many there are.
 use lib.ListN.{length}
-use Rattle.parsing.specs.Parse.{Res, ok, mapRes}
+use Rattle.parsing.specs.Parse.{Res, ok}
 use Rattle.error.specs.Refusals.{refused}
 use Rattle.error.specs.declared.Refusal.{Refusal}
 use Rattle.error.specs.declared.Refusal.the-variants.{Source}
@@ -24,7 +24,3 @@ tableRes (table.Refused r) = refused r
 abbrev pub tableRefusal : TagTableRead → Refusal
 tableRefusal (table.Value t n) = Source
 tableRefusal (table.Refused r) = r
-
--- the place behind what was read, without the value
-abbrev pub passed : {A : Type 0} → Res A → Res Unit
-passed r = mapRes (λ _. tt) r

@@ -5,13 +5,13 @@ use error::Refusal;
 use types::End;
 use types::TagTable;
 ghost use mathlib.Core.Path.{_≡_};
-ghost use Rattle.parsing.specs.Parse.{mapRes, many};
+ghost use Rattle.parsing.specs.Parse.{mapRes, many, passed};
 ghost use Rattle.byte_source.specs.Answers.{spanRes};
 ghost use Rattle.utils.specs.Vbe.{text};
 ghost use Rattle.format.specs.Header.{tags};
 ghost use Rattle.format.specs.TagTable.{tagText};
 ghost use Rattle.types.specs.Types.{endRes};
-ghost use Rattle.tag_table.specs.Tables.{tagTable, tableIn, tableRes, tableRefusal, passed};
+ghost use Rattle.tag_table.specs.Tables.{tagTable, tableIn, tableRes, tableRefusal};
 
 pub enum TagTableRead {
     Value(TagTable, usize),

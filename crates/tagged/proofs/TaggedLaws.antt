@@ -10,7 +10,7 @@ use lib.Seq.{drop-cons, take-append-seam, length-take-le}
 use lib.Signed.{mag}
 use mir.Syntax.{w8}
 use mir.Val.{toZ, ofZ}
-use Rattle.parsing.specs.Parse.{Res, ok, no, Part, andThen, mapRes, many}
+use Rattle.parsing.specs.Parse.{Res, ok, no, Part, andThen, mapRes, passed, many}
 use Rattle.parsing.specs.Good.{split, ok-val, ok-at, no-ok}
 use Rattle.parsing.proofs.Loops.{counted, many-count}
 use Rattle.parsing.proofs.Views.{viewed, view-stop}
@@ -28,7 +28,6 @@ use Rattle.byte_source.specs.declared.NumberRead.the-variants as number
 use Rattle.format.specs.TagTable.{Table}
 use Rattle.format.specs.Kinds.{tagKind, tagKinds}
 use Rattle.format.specs.Tile.{Tagged, tagId, values, layerOf}
-use Rattle.tag_table.specs.Tables.{passed}
 use Rattle.tag_kinds.proofs.KindLaws.{kindAt-tagKinds, length-tagKinds}
 use Rattle.types.specs.Types.{endRes, endRefusal}
 use Rattle.types.specs.declared.End.{End}

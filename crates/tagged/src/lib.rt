@@ -8,12 +8,12 @@ use types::TagTable;
 ghost use mathlib.Core.Path.{_≡_};
 ghost use Prim.Native.Nat.{_≤_};
 ghost use lib.ListN.{replicate};
-ghost use Rattle.parsing.specs.Parse.{many, mapRes};
+ghost use Rattle.parsing.specs.Parse.{many, mapRes, passed};
 ghost use Rattle.byte_source.specs.Answers.{numberRes};
 ghost use Rattle.format.specs.Kinds.{tagKinds};
 ghost use Rattle.format.specs.Tile.{tagId, values, layerOf, behindSpecial, tagged};
 ghost use Rattle.types.specs.Types.{endRes};
-ghost use Rattle.tag_table.specs.Tables.{tableIn, passed};
+ghost use Rattle.tag_table.specs.Tables.{tableIn};
 ghost use Rattle.tagged.specs.TagIds.{filledIds, noTags, TaggedIs, shownTags};
 
 // Up to 15 tag ids from the front, zeros behind them.
@@ -24,9 +24,9 @@ pub struct TagIds {
 
 // Layer and tag ids, with the place behind the tag values.
 pub struct TaggedRead {
-    pub layer: i8,
     pub tag_ids: TagIds,
     pub end: End,
+    pub layer: i8,
 }
 
 // The high four bits of the special byte, minus 5.

@@ -11,8 +11,8 @@ use lib.Seq.{drop-drop, sets, length-sets, take-length}
 use borrow.Author.Tests.{le-leb, lt-leb, leb-true, leb-false}
 use Rattle.parsing.specs.Parse.{ok}
 use Rattle.parsing.proofs.Loops.{sets-append}
-use Rattle.error.specs.declared.Refusal.{Refusal}
-use Rattle.error.specs.Refusals.{refused, shortBuffer}
+use Rattle.error.specs.declared.LentRefusal.{LentRefusal}
+use Rattle.error.specs.Refusals.{lentRefused, shortBuffer}
 use Rattle.arithmetic.specs.Cut.{cut}
 use Rattle.text.specs.declared.Sequence.{Sequence}
 use Rattle.text.specs.declared.Sequence.the-variants.{Char, Ill}
@@ -216,7 +216,7 @@ module _ (s b : List ℕ) (start : ℕ) where
   unfolding writing
   writing-fits h = rw (le-leb (behind s start) (length b) h)
 
-  pub writing-short : length b < behind s start → writing s b start ≡ record { answer = refused (shortBuffer (cut (behind s start))); buffer = b }
+  pub writing-short : length b < behind s start → writing s b start ≡ record { answer = lentRefused (shortBuffer (cut (behind s start))); buffer = b }
   unfolding writing
   writing-short h = rw (lt-leb (behind s start) (length b) h)
 
@@ -227,7 +227,7 @@ module _ (s b : List ℕ) (start : ℕ) where
     pub fits-done : (n : ℕ) (b′ : List ℕ) → v ≡ true → n ≡ behind s start → b′ ≡ sets b start (replaced s) → _≡_ {A = Writing} (record { answer = ok tt n; buffer = b′ }) (writing s b start)
     fits-done n b′ f g h = rw (g, h) (sym (writing-fits (fits-room f)))
 
-    pub short-done : (n m : ℕ) (r : Refusal) → v ≡ false → n ≡ cut (length (replaced s)) → m ≡ cut (n + start) → r ≡ shortBuffer m → _≡_ {A = Writing} (record { answer = refused r; buffer = b }) (writing s b start)
+    pub short-done : (n m : ℕ) (r : LentRefusal) → v ≡ false → n ≡ cut (length (replaced s)) → m ≡ cut (n + start) → r ≡ shortBuffer m → _≡_ {A = Writing} (record { answer = lentRefused r; buffer = b }) (writing s b start)
     short-done n m r f g h i =
         let w : length (replaced s) + start ≡ behind s start = omega arith in
         let z : m ≡ cut (behind s start) = h ∙ ap (λ x. cut (x + start)) g ∙ cut-add (length (replaced s)) start ∙ ap cut w in

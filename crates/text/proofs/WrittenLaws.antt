@@ -8,17 +8,14 @@ use lib.Dec.{leb}
 use lib.ListN.{length}
 use lib.Seq.{sets}
 use borrow.Author.Tests.{leb-true, leb-false}
-use Rattle.error.specs.declared.Refusal.{Refusal}
-use Rattle.error.specs.Refusals.{refused, shortBuffer}
+use Rattle.error.specs.declared.LentRefusal.{LentRefusal}
+use Rattle.error.specs.Refusals.{lentRefused, shortBuffer}
 use Rattle.arithmetic.specs.Cut.{cut}
 use Rattle.text.specs.declared.Written.{Written}
 use Rattle.text.specs.declared.Written.the-variants.{Upto, Refused}
 use Rattle.text.specs.Utf8.{replaced}
-use Rattle.text.specs.Writing.{Writing, writtenRes, writtenRefusal, behind, outcome, writing}
+use Rattle.text.specs.Writing.{Writing, writtenRes, behind, outcome, writing}
 use Rattle.text.proofs.WriteLaws.{writing-fits, writing-short}
-
-pub written-refused : (g : Written) (r : Refusal) → g ≡ Refused r → r ≡ writtenRefusal g
-written-refused g r h = ap writtenRefusal (sym h)
 
 -- the text is in the buffer
 pub record Fits (s b b′ : List ℕ) (start n : ℕ) : Type 0 where
@@ -27,10 +24,10 @@ pub record Fits (s b b′ : List ℕ) (start n : ℕ) : Type 0 where
   pub bytes : b′ ≡ sets b start (replaced s)
 
 -- the buffer is as it was
-pub record Short (s b b′ : List ℕ) (start : ℕ) (r : Refusal) : Type 0 where
+pub record Short (s b b′ : List ℕ) (start : ℕ) (r : LentRefusal) : Type 0 where
   pub room : length b < behind s start
   pub bytes : b′ ≡ b
-  pub refusal : refused {A = Unit} r ≡ refused (shortBuffer (cut (behind s start)))
+  pub refusal : lentRefused {A = Unit} r ≡ lentRefused (shortBuffer (cut (behind s start)))
 
 module _ (s b b′ : List ℕ) (start : ℕ) (g : Written) (e : outcome g b′ ≡ writing s b start) where
   pub written-fits : (n : ℕ) → g ≡ Upto n → Fits s b b′ start n
@@ -49,7 +46,7 @@ module _ (s b b′ : List ℕ) (start : ℕ) (g : Written) (e : outcome g b′ �
           let z : _≡_ {A = ℕ} 0 1 = cc in
           absurd (omega arith)
 
-  pub written-short : (r : Refusal) → g ≡ Refused r → Short s b b′ start r
+  pub written-short : (r : LentRefusal) → g ≡ Refused r → Short s b b′ start r
   written-short r h = go (leb (behind s start) (length b)) refl
     where
       go : (x : Bool) → leb (behind s start) (length b) ≡ x → Short s b b′ start r

@@ -6,9 +6,7 @@ use lib.Dec.{leb}
 use lib.ListN.{length}
 use lib.Seq.{sets}
 use Rattle.parsing.specs.Parse.{Res, ok, no}
-use Rattle.error.specs.Refusals.{refused, lengths}
-use Rattle.error.specs.declared.Refusal.{Refusal}
-use Rattle.error.specs.declared.Refusal.the-variants.{Source}
+use Rattle.error.specs.Refusals.{lentRefused, lengths}
 use Rattle.arithmetic.specs.Cut.{cut}
 use Rattle.text.specs.declared.Written.{Written}
 use Rattle.text.specs.declared.Written.the-variants.{Upto, Refused}
@@ -17,11 +15,7 @@ use Rattle.text.specs.Utf8.{replaced}
 -- an answer: the place behind the text, or a refusal's number and values
 abbrev pub writtenRes : Written → Res Unit
 writtenRes (Upto n) = ok tt n
-writtenRes (Refused r) = refused r
-
-abbrev pub writtenRefusal : Written → Refusal
-writtenRefusal (Upto n) = Source
-writtenRefusal (Refused r) = r
+writtenRes (Refused r) = lentRefused r
 
 -- the answer, and what the buffer then holds
 pub record Writing : Type 0 where

@@ -1,5 +1,5 @@
 // Texts of the map: UTF-8, the text with U+FFFD put in, and the hash of utils.rs.
-use error::Refusal;
+use error::LentRefusal;
 ghost use mathlib.Core.Path.{_≡_};
 ghost use Prim.Native.Nat.{_+_, _≤_, _<_, _^_};
 ghost use lib.Dec.{leb};
@@ -8,7 +8,7 @@ ghost use lib.Seq.{sets};
 ghost use Rattle.arithmetic.specs.Cut.{cut};
 ghost use Rattle.text.specs.Utf8.{follow, sequenceAt, sizeOf, codeOf, writtenOf, bytesOf, valid, codePoints, replaced};
 ghost use Rattle.text.specs.Hash.{hash};
-ghost use Rattle.text.specs.Writing.{writtenRefusal, behind, outcome, writing};
+ghost use Rattle.text.specs.Writing.{behind, outcome, writing};
 
 // A code unit sequence: a character with its code point and its number of bytes, or an ill-formed one with its number of bytes.
 pub enum Sequence {
@@ -236,17 +236,7 @@ fn put_replaced(text: &[u8], buffer: &mut [u8], start: usize) -> usize
 // The place behind a text that was written, or why none was.
 pub enum Written {
     Upto(usize),
-    Refused(Refusal),
-}
-
-// The refusal of an answer that is one (of any other, `Source`).
-pub fn written_refusal(got: Written) -> Refusal
-    ensures { λ r. ⌜ r ≡ writtenRefusal got ⌝ }
-{
-    match got {
-        Written::Refused(r) => r,
-        Written::Upto(_) => Refusal::Source,
-    }
+    Refused(LentRefusal),
 }
 
 // The replaced text written to the buffer from `start` on; a buffer that is too short is refused and kept.

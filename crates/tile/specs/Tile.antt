@@ -5,22 +5,26 @@ use Prim.Native.Nat.{ℕ, _+_}
 use mathlib.Core.Bool.{Bool, false}
 use mathlib.Core.Path.{_≡_}
 use mathlib.Core.List.{List}
-use lib.ListN.{length, replicate}
-use Rattle.parsing.specs.Parse.{Res, Parser, _>>=_, andThen, mapRes, many, Maybe, none}
+use mathlib.Core.List.{map as mapped}
+use lib.ListN.{length, take, replicate}
+use lib.Seq.{sets}
+use Rattle.parsing.specs.Parse.{Res, ok, Parser, _>>=_, return, pick, andThen, mapRes, many, Maybe, none}
 use Rattle.error.specs.Refusals.{refused}
+use Rattle.error.specs.declared.Refusal.{Refusal}
+use Rattle.error.specs.declared.Refusal.the-variants.{Source}
 use Rattle.arithmetic.specs.Cut.{cut}
 use Rattle.format.specs.Header.{Interval}
-use Rattle.format.specs.Index.{answer, answered, Grid, locate}
+use Rattle.format.specs.Index.{answer, answered, Grid, locate, tileAt}
 use Rattle.format.specs.Kinds.{tagKinds}
-use Rattle.format.specs.Rows.{rowsOfInterval, intervalTable}
+use Rattle.format.specs.Rows.{rowsOfInterval, intervalTable, emptyHead, markedHead, locatedHead}
 use Rattle.format.specs.Tile as format
 use Rattle.format.specs.Tile.{Row, debugSignature, point}
 use Rattle.types.specs.Types.{optionalSpan}
 use Rattle.types.specs.Beside.{viewOr}
 use Rattle.tag_table.specs.Tables.{tableIn}
 use Rattle.blocks.specs.Blocks.{emptyRow, filledRows}
-use Rattle.tag.specs.declared.Kind.{Kind}
-use Rattle.agreement.specs.TileFormat.{tileFormat}
+use Rattle.blocks.specs.declared.ZoomRow.{ZoomRow}
+use Rattle.agreement.specs.Format.{Format}
 use Rattle.agreement.specs.Collected.{allExact, StoredTile, collect}
 use Rattle.tile_layout.specs.TileLayout.{formatOf}
 use Rattle.tile_layout.specs.declared.TileLayout.{TileLayout}
@@ -29,10 +33,13 @@ use Rattle.tile.specs.declared.Tile.{Tile}
 use Rattle.tile.specs.declared.TileAnswer.{TileAnswer}
 use Rattle.tile.specs.declared.TileAnswer.the-variants as tile-answer
 use Rattle.tile.specs.declared.TileRead.{TileRead}
+use Rattle.tile.specs.declared.TileSummary.{TileSummary}
+use Rattle.tile.specs.declared.SummaryRead.{SummaryRead}
+use Rattle.tile.specs.declared.SummaryRead.the-variants as summary
 
 -- what is shown of a tile that was collected: its features are fetched
-abbrev pub shownTile : (debug : Bool) (rows : ℕ) (poiKinds wayKinds : List Kind) → StoredTile (tileFormat debug rows poiKinds wayKinds) → Tile
-shownTile debug rows poiKinds wayKinds t = record {
+abbrev pub shownTile : {F : Format} → StoredTile F → Tile
+shownTile t = record {
   signature = optionalSpan (t .head .signature);
   «zoom_table» = filledRows (t .head .table);
   rows = length (t .head .table);
@@ -41,9 +48,6 @@ shownTile debug rows poiKinds wayKinds t = record {
   ways = length (t .ways);
   exact = allExact (t .ways);
 }
-
-abbrev pub tileOf : (l : TileLayout) (rows : ℕ) (m : List ℕ) → StoredTile (formatOf l rows m) → Tile
-tileOf l rows m t = shownTile (l .debug) rows (tagKinds (tableIn (l .«poi_tags»)) m) (tagKinds (tableIn (l .«way_tags»)) m) t
 
 -- where collecting is refused
 abbrev pub emptyTile : Tile
@@ -57,15 +61,11 @@ emptyTile = record {
   exact = false;
 }
 
--- the tile at a place, of the levels from low to high
-abbrev pub collectAt : TileLayout → (low high at : ℕ) → List ℕ → Res Tile
-collectAt l low high at m = answered (mapRes (tileOf l (rowsOfInterval low high) m) (collect (formatOf l (rowsOfInterval low high) m) m at))
-
--- sub file (8), grid (14), tile (8), entry (19), interval (13), then the tile's bytes
+-- sub file (8), grid (14), tile (8), its entry and the next one (19), interval (13), then the tile's bytes, if it is not marked empty
 unfoldable pub collectTile : TileLayout → Maybe Interval → Grid → (number : ℕ) → List ℕ → Res Tile
 collectTile l i g t m =
     andThen (locate (l .debug) i g t m) (λ a _.
-    collectAt l (a .interval .min) (a .interval .max) (a .entry .absolute) m)
+    answered (mapRes shownTile (collect (locatedHead (l .debug) a) (formatOf l m) m (tileAt a))))
 
 abbrev pub tileRes : TileAnswer → Tile → Res Tile
 tileRes tile-answer.Collected t = answer t
@@ -76,13 +76,58 @@ pub record TileIs (stored : Res Tile) (r : TileRead) : Type 0 where
   pub answer : tileRes (r .answer) (r .tile) ≡ stored
   pub whole : r .tile ≡ viewOr (λ t. t) emptyTile stored
 
--- What the private functions read: the zoom table behind the tile's signature
-unfoldable pub rowsRead : Bool → (low high : ℕ) → Parser (List Row)
-rowsRead debug low high = do
-  g ← debugSignature debug
-  intervalTable low high
+-- The same without an array: what is said of a tile besides its rows,
+abbrev pub summaryOf : Tile → TileSummary
+summaryOf t = record {
+  signature = t .signature;
+  «first_way_offset» = t .«first_way_offset»;
+  points = t .points;
+  ways = t .ways;
+  rows = t .rows;
+  exact = t .exact;
+}
 
--- and, behind a head that ends at e, the points, then the ways, in a tile with any number of rows
-abbrev pub walked : TileLayout → List ℕ → (e points ways offset rows : ℕ) → Res Bool
-walked l m e points ways offset rows =
-    andThen (many (point (l .debug) (tagKinds (tableIn (l .«poi_tags»)) m)) points m e) (λ _ _. exactWays l m ways (cut (e + offset)) rows)
+-- and its rows, whose points and ways go to the fronts of two lent lists
+abbrev pub rowsOfTile : Tile → List ZoomRow
+rowsOfTile t = take (t .rows) (t .«zoom_table»)
+
+abbrev pub rowPoints : List ZoomRow → List ℕ
+rowPoints l = mapped (λ (r : ZoomRow). r .points) l
+
+abbrev pub rowWays : List ZoomRow → List ℕ
+rowWays l = mapped (λ (r : ZoomRow). r .ways) l
+
+abbrev pub summaryRes : SummaryRead → Res TileSummary
+summaryRes (summary.Value s) = answer s
+summaryRes (summary.Refused r) = refused r
+
+abbrev pub summaryRefusal : SummaryRead → Refusal
+summaryRefusal (summary.Value s) = Source
+summaryRefusal (summary.Refused r) = r
+
+-- the answer and the lists after the call; entries behind the rows keep their values, and with a refusal all do
+pub record CollectIs (stored : Res Tile) (lentPoints lentWays : List ℕ) (r : SummaryRead) (leftPoints leftWays : List ℕ) : Type 0 where
+  pub answer : summaryRes r ≡ mapRes summaryOf stored
+  pub points : leftPoints ≡ viewOr (λ t. sets lentPoints 0 (rowPoints (rowsOfTile t))) lentPoints stored
+  pub ways : leftWays ≡ viewOr (λ t. sets lentWays 0 (rowWays (rowsOfTile t))) lentWays stored
+
+-- What private functions read, which need not be believed: the tile at a place, of the levels from low to high,
+abbrev pub collectAt : TileLayout → (empty : Bool) → (low high at : ℕ) → List ℕ → Res Tile
+collectAt l empty low high at m = answered (mapRes shownTile (collect (markedHead empty (l .debug) (rowsOfInterval low high)) (formatOf l m) m at))
+
+-- its zoom table, behind its signature,
+unfoldable pub rowsRead : (empty debug : Bool) → (low high : ℕ) → Parser (List Row)
+rowsRead empty debug low high =
+    pick empty (return (emptyHead (rowsOfInterval low high) .table)) (do
+      g ← debugSignature debug
+      intervalTable low high)
+
+-- and, behind a head that ends at e, the points, then the ways
+abbrev pub walked : TileLayout → List ℕ → (e points ways offset : ℕ) → Res Bool
+walked l m e points ways offset =
+    andThen (many (point (l .debug) (tagKinds (tableIn (l .«poi_tags»)) m)) points m e) (λ _ _. exactWays l m ways (cut (e + offset)))
+
+-- rows that can be read are written to the fronts of two lists
+pub record RowsPut (stored : Res (List Row)) (lentPoints lentWays leftPoints leftWays : List ℕ) : Type 0 where
+  pub points : (rows : List Row) (e : ℕ) → stored ≡ ok rows e → leftPoints ≡ sets lentPoints 0 (mapped (λ (r : Row). r .points) rows)
+  pub ways : (rows : List Row) (e : ℕ) → stored ≡ ok rows e → leftWays ≡ sets lentWays 0 (mapped (λ (r : Row). r .ways) rows)

@@ -1,7 +1,7 @@
 -- A tile's head, and definitions that go on from it.
 use Prim.Native.Nat.{ℕ, suc, _-_, _≤_, _<_}
 use mathlib.Core.Path.{_≡_, refl, sym, ap, _∙_}
-use mathlib.Core.Bool.{Bool}
+use mathlib.Core.Bool.{Bool, true, false}
 use mathlib.Core.List.{List, []}
 use borrow.Author.Needs.{needs}
 use borrow.Author.Tests.{le-leb, lt-leb}
@@ -13,7 +13,8 @@ use Rattle.error.specs.declared.Refusal.{Refusal}
 use Rattle.byte_source.proofs.ReadLaws.{taken, number-ok, number-no}
 use Rattle.format.specs.Tile as format
 use Rattle.format.specs.Tile.{Row, zoomTable, tileHead}
-use Rattle.format.specs.Rows.{intervalTable, intervalHead}
+use Rattle.format.specs.Rows.{intervalTable, rowsUpto, markedHead, intervalHead}
+use Rattle.format.proofs.EmptyLaws.{no-points, no-ways, no-points-of, no-ways-of}
 use Rattle.types.specs.Types.{optionalSpan}
 use Rattle.types.specs.declared.OptionalSpan.{OptionalSpan}
 use Rattle.fields.proofs.FieldLaws.{optional-span-ok, optional-span-no}
@@ -21,7 +22,7 @@ use Rattle.blocks.specs.Blocks.{zoomSums, sumsRes, sumsRefusal}
 use Rattle.blocks.specs.declared.Sums.{Sums}
 use Rattle.blocks.specs.declared.SumsRead.{SumsRead}
 use Rattle.blocks.specs.declared.SumsRead.the-variants as sums
-use Rattle.tile_head.specs.TileHead.{headAt, headRes, headRefusal}
+use Rattle.tile_head.specs.TileHead.{headAt, headRes, headRefusal, noFeatures}
 use Rattle.tile_head.specs.declared.TileHead.{TileHead}
 use Rattle.tile_head.specs.declared.TileHeadRead.{TileHeadRead}
 use Rattle.tile_head.specs.declared.TileHeadRead.the-variants as head
@@ -46,17 +47,24 @@ module _ {B : Type 0} (m : List ℕ) (at low high zoom : ℕ) (g : SumsRead) (f 
 pub head-made : (s : OptionalSpan) (v : Sums) (low high zoom offset n : ℕ) (a : Maybe Part) (t : List Row) → s ≡ optionalSpan a → v ≡ zoomSums low high zoom t → _≡_ {A = Res TileHead} (ok (record { signature = s; sums = v; offset = offset }) n) (ok (headAt low high zoom (record { signature = a; table = t; offset = offset })) n)
 head-made s v low high zoom offset n a t h k = rw (h, k)
 
--- the test of the interval comes first
-module _ (debug : Bool) (low high zoom : ℕ) (m : List ℕ) (at : ℕ) where
-  pub head-reversed : high < low → no 13 [] ≡ mapRes (headAt low high zoom) (intervalHead debug low high m at)
+-- the test of the interval comes first, then the mark
+module _ (empty debug : Bool) (low high zoom : ℕ) (m : List ℕ) (at : ℕ) where
+  pub head-reversed : high < low → no 13 [] ≡ mapRes (headAt low high zoom) (intervalHead empty debug low high m at)
   unfolding intervalHead
   head-reversed o = rw (lt-leb low high o)
 
-  pub head-ordered : (x : Res TileHead) → low ≤ high → x ≡ mapRes (headAt low high zoom) (tileHead debug (suc (high - low)) m at) → x ≡ mapRes (headAt low high zoom) (intervalHead debug low high m at)
-  unfolding intervalHead
-  head-ordered x o e = e ∙ rw (le-leb low high o)
+  pub head-empty : (v : TileHead) → low ≤ high → empty ≡ true → v ≡ noFeatures → ok v at ≡ mapRes (headAt low high zoom) (intervalHead empty debug low high m at)
+  unfolding intervalHead markedHead
+  head-empty v o e h =
+      let n = suc (high - low) in
+      let k = rowsUpto low high zoom in
+      rw (le-leb low high o, e, h, no-points-of n k, no-ways-of n k, no-points n, no-ways n)
 
-pub ruleset heads = (needs, then-then, head-reversed, head-ordered, optional-span-ok, optional-span-no, sums-ok, sums-no, number-ok, number-no, head-made)
+  pub head-ordered : (x : Res TileHead) → low ≤ high → empty ≡ false → x ≡ mapRes (headAt low high zoom) (tileHead debug (suc (high - low)) m at) → x ≡ mapRes (headAt low high zoom) (intervalHead empty debug low high m at)
+  unfolding intervalHead markedHead
+  head-ordered x o e h = h ∙ rw (le-leb low high o, e)
+
+pub ruleset heads = (needs, then-then, head-reversed, head-empty, head-ordered, optional-span-ok, optional-span-no, sums-ok, sums-no, number-ok, number-no, head-made)
 
 -- a head that was read, in a definition that goes on from it
 module _ {B : Type 0} (low high zoom : ℕ) where

@@ -1,6 +1,6 @@
 -- A tile's head as it is handed out (document 01, tile.rs and visit.rs), from what is stored.
 use Prim.Native.Nat.{ℕ}
-use Rattle.parsing.specs.Parse.{Res, ok}
+use Rattle.parsing.specs.Parse.{Res, ok, none}
 use Rattle.error.specs.Refusals.{refused}
 use Rattle.error.specs.declared.Refusal.{Refusal}
 use Rattle.error.specs.declared.Refusal.the-variants.{Source}
@@ -22,3 +22,7 @@ headRes (head.Refused r) = refused r
 abbrev pub headRefusal : TileHeadRead → Refusal
 headRefusal (head.Value v n) = Source
 headRefusal (head.Refused r) = r
+
+-- What a private function makes, which need not be believed: the head of a tile that its index marks empty
+abbrev pub noFeatures : TileHead
+noFeatures = record { signature = optionalSpan none; sums = record { points = 0; ways = 0; «all_points» = 0; «all_ways» = 0 }; offset = 0 }

@@ -13,7 +13,7 @@ ghost use Rattle.fields.specs.Fields.{optionalSpanRes};
 ghost use Rattle.format.specs.CutOff.{whereRead, whereByte, ofHead};
 ghost use Rattle.format.specs.Tile.{debugSignature};
 ghost use Rattle.format.specs.Rows.{intervalHead};
-ghost use Rattle.tile_head.specs.TileHead.{headAt, headRes, headRefusal};
+ghost use Rattle.tile_head.specs.TileHead.{headAt, headRes, headRefusal, noFeatures};
 
 // The first way is `offset` bytes behind the head.
 pub struct TileHead {
@@ -64,20 +64,39 @@ fn head_number(map: &[u8], at: usize) -> NumberRead
     got
 }
 
+fn no_features() -> TileHead
+    ensures { λ r. ⌜ r ≡ noFeatures ⌝ }
+{
+    TileHead {
+        signature: OptionalSpan::Absent,
+        sums: Sums {
+            points: 0,
+            ways: 0,
+            all_points: 0,
+            all_ways: 0,
+        },
+        offset: 0,
+    }
+}
+
 // The head of a tile of the levels from min to max, with the sums up to a zoom, and the place behind it. A reversed interval is
-// refused before any byte is read.
+// refused before any byte is read. A tile that its index marks empty has no bytes.
 pub fn read_tile_head(
     map: &[u8],
     at: usize,
+    empty: bool,
     debug: bool,
     min: u8,
     max: u8,
     zoom: u8,
 ) -> TileHeadRead
-    ensures { λ r. ⌜ headRes r ≡ mapRes (headAt min max zoom) (intervalHead debug min max (now (map .entry)) at) ⌝ }
+    ensures { λ r. ⌜ headRes r ≡ mapRes (headAt min max zoom) (intervalHead empty debug min max (now (map .entry)) at) ⌝ }
 {
     if max < min {
         return TileHeadRead::Refused(Refusal::ReversedInterval);
+    }
+    if empty {
+        return TileHeadRead::Value(no_features(), at);
     }
     let got = head_signature(map, at, debug);
     let OptionalSpanRead::Value(signature, at) = got else {

@@ -2,12 +2,23 @@
 use types::MapHeader;
 use types::TagTable;
 ghost use mathlib.Core.Path.{_≡_};
-ghost use Rattle.tile_layout.specs.TileLayout.{layoutOf};
+ghost use Rattle.tile_layout.specs.TileLayout.{layoutWith, layoutOf};
 
 pub struct TileLayout {
-    pub debug: bool,
     pub poi_tags: TagTable,
     pub way_tags: TagTable,
+    pub debug: bool,
+}
+
+// By the header's flags (80 is a debug map) and tag tables.
+pub fn layout_with(flags: u8, poi_tags: TagTable, way_tags: TagTable) -> TileLayout
+    ensures { λ r. ⌜ r ≡ layoutWith flags «poi_tags» «way_tags» ⌝ }
+{
+    TileLayout {
+        debug: flags / 128 % 2 == 1,
+        poi_tags,
+        way_tags,
+    }
 }
 
 pub fn layout_of(header: MapHeader) -> TileLayout
@@ -15,9 +26,5 @@ pub fn layout_of(header: MapHeader) -> TileLayout
 {
     let poi_tags = header.poi_tags;
     let way_tags = header.way_tags;
-    TileLayout {
-        debug: header.flags / 128 % 2 == 1,
-        poi_tags,
-        way_tags,
-    }
+    layout_with(header.flags, poi_tags, way_tags)
 }

@@ -28,11 +28,10 @@ use Rattle.way.specs.Way.{bodyOf, bodyRes, bodyRefusal}
 use Rattle.way.specs.declared.WayBody.{WayBody}
 use Rattle.way.specs.declared.WayBodyRead.{WayBodyRead}
 use Rattle.way.specs.declared.WayBodyRead.the-variants as body-read
-use Rattle.agreement.specs.Collected.{way, exact}
 use Rattle.agreement.proofs.CollectLaws.{count-more, count-no, way-exact, way-no-body, way-no-head, exact-more, exact-no}
 use Rattle.tile_layout.specs.TileLayout.{formatOf}
 use Rattle.tile_layout.specs.declared.TileLayout.{TileLayout}
-use Rattle.tile_walk.specs.TileWalk.{waysRes, waysRefusal, exactWay, exactWays, ForAllRows}
+use Rattle.tile_walk.specs.TileWalk.{waysRes, waysRefusal, exactWay, exactWays}
 use Rattle.tile_walk.specs.declared.WaysRead.{WaysRead}
 use Rattle.tile_walk.specs.declared.WaysRead.the-variants as ways
 
@@ -64,11 +63,9 @@ module _ (m : List ℕ) (l : TileLayout) (at : ℕ) (g : WayHeadRead) (b : HeadI
   abbrev read : Res Head
   read = head (l .debug) (tagKinds (tableIn (l .«way_tags»)) m) m at
 
-  pub way-stops : (x y : Refusal) → g .end ≡ end.Refused x → y ≡ endRefusal (g .end) → ForAllRows (exactWay l m at) (refused y)
-  way-stops x y h w = record {
-    each = λ rows.
-        ap refused (w ∙ ap endRefusal h) ∙ sym (way-no-head (formatOf l rows m) m at (stopped read (sym (b .answer) ∙ ap (endRes (g .head)) h)));
-  }
+  pub way-stops : (x y : Refusal) → g .end ≡ end.Refused x → y ≡ endRefusal (g .end) → refused y ≡ exactWay l m at
+  way-stops x y h w =
+      ap refused (w ∙ ap endRefusal h) ∙ sym (way-no-head (formatOf l m) m at (stopped read (sym (b .answer) ∙ ap (endRes (g .head)) h)))
     where
       stopped : (r : Res Head) → mapRes headOf r ≡ refused x → r ≡ refused x
       stopped (ok a e) d = no-ok (sym d)
@@ -92,12 +89,10 @@ module _ (m : List ℕ) (l : TileLayout) (at : ℕ) (g : WayHeadRead) (b : HeadI
     starts-before (no k v) d q = no-ok q
 
     module _ (w : WayBodyRead) (q : bodyRes w ≡ mapRes bodyOf (body m n)) where
-      pub body-stops : (x y : Refusal) → w ≡ body-read.Refused x → y ≡ bodyRefusal w → ForAllRows (exactWay l m at) (refused y)
-      body-stops x y d z = record {
-        each = λ rows.
-            ap refused (z ∙ ap bodyRefusal d)
-            ∙ sym (way-no-body (formatOf l rows m) m bodyOf (g .head .size) n at (viewed (λ (a : WayHead). a .size) read seen) (sym q ∙ ap bodyRes d));
-      }
+      pub body-stops : (x y : Refusal) → w ≡ body-read.Refused x → y ≡ bodyRefusal w → refused y ≡ exactWay l m at
+      body-stops x y d z =
+          ap refused (z ∙ ap bodyRefusal d)
+          ∙ sym (way-no-body (formatOf l m) m bodyOf (g .head .size) n at (viewed (λ (a : WayHead). a .size) read seen) (sym q ∙ ap bodyRes d))
 
       module _ (v : WayBody) (k : ℕ) (d : w ≡ body-read.Value v k) where
         -- a way ends behind its data start
@@ -108,11 +103,9 @@ module _ (m : List ℕ) (l : TileLayout) (at : ℕ) (g : WayHeadRead) (b : HeadI
             ends (ok a e) f c = let u : e ≡ k = ok-at c in let z = body-good .forth m n a e f in omega arith
             ends (no x y) f c = no-ok c
 
-        pub way-ends : ForAllRows (exactWay l m at) (ok (eqb (g .head .size) (k - g .head .start)) k)
-        way-ends = record {
-          each = λ rows.
-              sym (way-exact (formatOf l rows m) m bodyOf (g .head .size) n at (g .head .start) (viewed (λ (a : WayHead). a .size) read seen) (viewed (λ (a : WayHead). a .start) read seen) (sym q ∙ ap bodyRes d));
-        }
+        pub way-ends : ok (eqb (g .head .size) (k - g .head .start)) k ≡ exactWay l m at
+        way-ends =
+            sym (way-exact (formatOf l m) m bodyOf (g .head .size) n at (g .head .start) (viewed (λ (a : WayHead). a .size) read seen) (viewed (λ (a : WayHead). a .start) read seen) (sym q ∙ ap bodyRes d))
 
 pub ruleset way-reads = (needs, way-stops, body-stops, length-fits, way-ends)
 
@@ -125,21 +118,18 @@ module _ (a b : Bool) where
   both-no h = rw h
 
 -- ways
-module _ (m : List ℕ) (l : TileLayout) (i at n : ℕ) (all : Bool) (e : ForAllRows (exactWays l m i at) (ok all n)) where
-  module _ (g : WaysRead) (q : ForAllRows (exactWay l m n) (waysRes g)) where
-    pub ways-more : (b c : Bool) (k : ℕ) → g ≡ ways.Value b k → c ≡ (all && b) → ForAllRows (exactWays l m (i + 1) at) (ok c k)
-    ways-more b c k h w = record { each = λ rows. ap (λ x. ok x k) w ∙ sym (exact-more (formatOf l rows m) m i at (sym (e .each rows)) (sym (q .each rows) ∙ ap waysRes h)) }
+module _ (m : List ℕ) (l : TileLayout) (i at n : ℕ) (all : Bool) (e : ok all n ≡ exactWays l m i at) where
+  module _ (g : WaysRead) (q : waysRes g ≡ exactWay l m n) where
+    pub ways-more : (b c : Bool) (k : ℕ) → g ≡ ways.Value b k → c ≡ (all && b) → ok c k ≡ exactWays l m (i + 1) at
+    ways-more b c k h w = ap (λ x. ok x k) w ∙ sym (exact-more (formatOf l m) m i at (sym e) (sym q ∙ ap waysRes h))
 
-    pub ways-no : (k : ℕ) (x y : Refusal) → g ≡ ways.Refused x → y ≡ waysRefusal g → i < k → ForAllRows (exactWays l m k at) (refused y)
-    ways-no k x y h w b = record {
-      each = λ rows.
-          ap refused (w ∙ ap waysRefusal h) ∙ sym (exact-no (formatOf l rows m) m i k at (sym (e .each rows)) (sym (q .each rows) ∙ ap waysRes h) b);
-    }
+    pub ways-no : (k : ℕ) (x y : Refusal) → g ≡ ways.Refused x → y ≡ waysRefusal g → i < k → refused y ≡ exactWays l m k at
+    ways-no k x y h w b = ap refused (w ∙ ap waysRefusal h) ∙ sym (exact-no (formatOf l m) m i k at (sym e) (sym q ∙ ap waysRes h) b)
 
-  pub ways-done : (k : ℕ) → i ≤ k → k ≤ i → ForAllRows (exactWays l m k at) (ok all n)
+  pub ways-done : (k : ℕ) → i ≤ k → k ≤ i → ok all n ≡ exactWays l m k at
   ways-done k b b′ = let z : i ≡ k = omega arith in rw z at e
 
-pub ways-start : (m : List ℕ) (l : TileLayout) (at : ℕ) → ForAllRows (exactWays l m 0 at) (ok true at)
-ways-start m l at = record { each = λ rows. refl }
+pub ways-start : (m : List ℕ) (l : TileLayout) (at : ℕ) → ok true at ≡ exactWays l m 0 at
+ways-start m l at = refl
 
 pub ruleset way-loops = (needs, ways-start, ways-more, ways-no, ways-done)

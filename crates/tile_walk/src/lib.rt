@@ -11,7 +11,7 @@ ghost use Rattle.format.specs.Kinds.{tagKinds};
 ghost use Rattle.format.specs.Tile.{point};
 ghost use Rattle.types.specs.Types.{endRes};
 ghost use Rattle.tag_table.specs.Tables.{tableIn};
-ghost use Rattle.tile_walk.specs.TileWalk.{waysRes, waysRefusal, exactWay, exactWays, ForAllRows};
+ghost use Rattle.tile_walk.specs.TileWalk.{waysRes, waysRefusal, exactWay, exactWays};
 
 // Whether every stored size is the decoded length, and the place behind the ways.
 pub enum WaysRead {
@@ -48,7 +48,7 @@ pub fn pass_points(map: &[u8], at: usize, n: u64, layout: TileLayout) -> End
 
 // One way: its decoded length is counted from its data start, as its stored size is.
 fn measure_way(map: &[u8], at: usize, layout: TileLayout) -> WaysRead
-    ensures { λ r. ⌜ ForAllRows (exactWay layout (now (map .entry)) at) (waysRes r) ⌝ }
+    ensures { λ r. ⌜ waysRes r ≡ exactWay layout (now (map .entry)) at ⌝ }
 {
     let table = layout.way_tags;
     let got = way_head::read_way_head(map, at, layout.debug, table);
@@ -75,7 +75,7 @@ fn both(a: bool, b: bool) -> bool
 
 // n ways.
 pub fn measure_ways(map: &[u8], at: usize, n: u64, layout: TileLayout) -> WaysRead
-    ensures { λ r. ⌜ ForAllRows (exactWays layout (now (map .entry)) n at) (waysRes r) ⌝ }
+    ensures { λ r. ⌜ waysRes r ≡ exactWays layout (now (map .entry)) n at ⌝ }
 {
     let mut all = true;
     let mut next = at;

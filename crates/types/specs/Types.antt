@@ -1,18 +1,17 @@
 -- The records that are handed out, from what is stored (document 01, types.rs).
 use Prim.Native.Nat.{ℕ}
 use lib.IntN.{ℤ}
-use mathlib.Core.Bool.{Bool}
 use mathlib.Core.List.{List}
 use mathlib.Core.List.{map as mapped}
 use lib.ListN.{take}
-use Rattle.parsing.specs.Parse.{Res, ok, no, Part, Maybe, none, some}
+use Rattle.parsing.specs.Parse.{Res, ok, Part, Maybe, none, some}
 use Rattle.error.specs.Refusals.{refused}
 use Rattle.error.specs.declared.Refusal.{Refusal}
 use Rattle.error.specs.declared.Refusal.the-variants.{Source}
 use Rattle.byte_source.specs.declared.Span.{Span}
 use Rattle.byte_source.specs.Answers.{partIn}
 use Rattle.utils.specs.Degree.{degrees}
-use Rattle.format.specs.Header.{Interval, bit}
+use Rattle.format.specs.Header.{Interval}
 use Rattle.format.specs.WayData.{Node}
 use Rattle.format.specs.Index.{Grid as TileGrid}
 use Rattle.types.specs.declared.Position.{Position}
@@ -40,9 +39,6 @@ intervalOf z = record {
 
 abbrev pub intervalsOf : MapHeader → List Interval
 intervalsOf h = mapped intervalOf (take (h .«num_zoom_intervals») (h .«zoom_interval_configuration»))
-
-abbrev pub debugOf : MapHeader → Bool
-debugOf h = bit 7 (h .flags)
 
 abbrev pub gridOf : Grid → TileGrid
 gridOf g = record { xMin = g .«x_min»; yMin = g .«y_min»; xMax = g .«x_max»; yMax = g .«y_max» }

@@ -33,11 +33,11 @@ pub struct BoundingBox {
 
 // The zoom levels from min to max have one sub file.
 pub struct ZoomInterval {
+    pub sub_file_start: u64,
+    pub sub_file_size: u64,
     pub base_zoom_level: u8,
     pub min_zoom_level: u8,
     pub max_zoom_level: u8,
-    pub sub_file_start: u64,
-    pub sub_file_size: u64,
 }
 
 // Where the tag names of points or of ways stand in the map's header, and how many there are.
@@ -46,25 +46,52 @@ pub struct TagTable {
     pub count: usize,
 }
 
-// The file header. Texts are parts of the map; the intervals are filled from the front.
-pub struct MapHeader {
+// Where the zoom intervals stand in the map's header, and how many there are.
+pub struct IntervalTable {
+    pub start: usize,
+    pub count: u8,
+}
+
+// The file header but for the array of its intervals, which is 6 KB.
+pub struct HeaderFields {
     pub magic: Span,
-    pub header_size: u32,
-    pub file_version: u32,
     pub file_size: u64,
     pub creation_date: u64,
     pub bounding_box: BoundingBox,
-    pub tile_size: u16,
     pub projection: Span,
-    pub flags: u8,
     pub map_start_position: OptionalPosition,
-    pub start_zoom_level: OptionalByte,
     pub language_preference: OptionalSpan,
     pub comment: OptionalSpan,
     pub created_by: OptionalSpan,
     pub poi_tags: TagTable,
     pub way_tags: TagTable,
+    pub header_size: u32,
+    pub file_version: u32,
+    pub tile_size: u16,
+    pub flags: u8,
     pub num_zoom_intervals: u8,
+    pub start_zoom_level: OptionalByte,
+}
+
+// The file header. Texts are parts of the map; the intervals are filled from the front.
+pub struct MapHeader {
+    pub magic: Span,
+    pub header_size: u32,
+    pub file_version: u32,
+    pub tile_size: u16,
+    pub flags: u8,
+    pub num_zoom_intervals: u8,
+    pub start_zoom_level: OptionalByte,
+    pub file_size: u64,
+    pub creation_date: u64,
+    pub bounding_box: BoundingBox,
+    pub projection: Span,
+    pub map_start_position: OptionalPosition,
+    pub language_preference: OptionalSpan,
+    pub comment: OptionalSpan,
+    pub created_by: OptionalSpan,
+    pub poi_tags: TagTable,
+    pub way_tags: TagTable,
     pub zoom_interval_configuration: [ZoomInterval; 255],
 }
 

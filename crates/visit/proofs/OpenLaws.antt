@@ -7,14 +7,14 @@ use borrow.Author.Needs.{needs}
 use borrow.Author.Tests.{le-leb}
 use Rattle.parsing.specs.Parse.{Res, ok, no, andThen, mapRes, Maybe}
 use Rattle.parsing.specs.Good.{ok-val, no-ok}
+use Rattle.parsing.proofs.Steps.{then-then}
 use Rattle.error.specs.Refusals.{refused}
 use Rattle.error.specs.declared.Refusal.{Refusal}
 use Rattle.arithmetic.specs.Cut.{cut}
 use Rattle.format.specs.Header.{Interval}
-use Rattle.format.specs.Index.{answer, answered, Grid, Located, locate}
-use Rattle.format.specs.Rows.{rowsOfInterval, rowsUpto, intervalHead}
+use Rattle.format.specs.Index.{answered, Grid, Located, locate, tileAt}
+use Rattle.format.specs.Rows.{rowsOfInterval, rowsUpto, locatedHead, intervalHead}
 use Rattle.format.specs.Tile as format
-use Rattle.format.specs.Tile.{tileHead}
 use Rattle.tile_head.specs.TileHead.{headAt}
 use Rattle.tile_head.specs.declared.TileHead.{TileHead}
 use Rattle.tile_head.proofs.HeadLaws.{head-ok, head-no}
@@ -25,37 +25,29 @@ use Rattle.tile_place.specs.declared.PlaceRead.the-variants as place
 use Rattle.tile_place.proofs.PlaceLaws.{located-ordered}
 use Rattle.agreement.specs.Stream.{State, openStream, freshStream}
 use Rattle.agreement.specs.TileFormat as tile
-use Rattle.agreement.proofs.TileFormatLaws.{tileHead-cuts}
-use Rattle.tile_layout.specs.TileLayout.{formatOf}
+use Rattle.agreement.proofs.TileFormatLaws.{head-cut}
 use Rattle.tile_layout.specs.declared.TileLayout.{TileLayout}
-use Rattle.visit.specs.Visit.{stateOf, openTile, openRes, freshAt, openedAt}
-use Rattle.visit.specs.declared.Stream.{Stream}
+use Rattle.visit.specs.Visit.{stateOf, openTile, openRes, openedAt}
 use Rattle.visit.specs.declared.OpenRead.{OpenRead}
 use Rattle.visit.specs.declared.Turn.the-variants as turn
 
 pub fresh-made : (s zoom : ℕ) (p : TilePlace) (h : TileHead) (n way : ℕ) (a : format.TileHead) → way ≡ cut (n + h .offset) → h ≡ headAt (p .«min_zoom») (p .«max_zoom») zoom a
-    → _≡_ {A = Res (State tile.TileEnd)} (ok (stateOf (record { turn = turn.Idle (record { points = h .sums .points; ways = h .sums .ways; at = n; way = way }); end = record { «sub_file» = s; «is_water» = p .«is_water» } })) 0) (ok (freshAt s zoom p a n) 0)
+    → _≡_ {A = Res (State tile.TileEnd)} (ok (stateOf (record { turn = turn.Idle (record { points = h .sums .points; ways = h .sums .ways; at = n; way = way }); end = record { «sub_file» = s; «is_water» = p .«is_water» } })) 0)
+    (answered (ok (freshStream (rowsUpto (p .«min_zoom») (p .«max_zoom») zoom) (record { subFile = s; water = p .«is_water» }) a n) n))
 fresh-made s zoom p h n way a w q = rw (w, q)
 
-pub ruleset heads = (needs, head-ok, head-no, fresh-made)
+pub ruleset heads = (needs, then-then, head-ok, head-no, fresh-made)
 
 -- a stream at a tile's place as the code holds it is the machine's
 module _ (t : TileLayout) (i : Maybe Interval) (s : ℕ) (zoom : ℕ) (m : List ℕ) (small : length m < 2 ^ 64) where
   abbrev opened : Located → Res (State tile.TileEnd)
   opened l =
-      answered (openStream (formatOf t (rowsOfInterval (l .interval .min) (l .interval .max)) m)
-      (rowsUpto (l .interval .min) (l .interval .max) zoom) (record { subFile = s; water = l .entry .water }) m (l .entry .absolute))
+      answered (openStream (locatedHead (t .debug) l) (rowsUpto (l .interval .min) (l .interval .max) zoom) (record { subFile = s; water = l .entry .water }) m (tileAt l))
 
   opened-is : (l : Located) → l .interval .min ≤ l .interval .max → openedAt (t .debug) s zoom (placeOf l) m ≡ opened l
   unfolding intervalHead
   opened-is l o =
-      rw (le-leb (l .interval .min) (l .interval .max) o, tileHead-cuts (t .debug) (rowsOfInterval (l .interval .min) (l .interval .max)) .at m (l .entry .absolute) small)
-      (go (tileHead (t .debug) (rowsOfInterval (l .interval .min) (l .interval .max)) m (l .entry .absolute)))
-    where
-      go : (r : Res format.TileHead) → andThen r (λ a e. answer (freshAt s zoom (placeOf l) a e))
-          ≡ answered (andThen r (λ a e. ok (freshStream (formatOf t (rowsOfInterval (l .interval .min) (l .interval .max)) m) (rowsUpto (l .interval .min) (l .interval .max) zoom) (record { subFile = s; water = l .entry .water }) a e) e))
-      go (ok a e) = refl
-      go (no k v) = refl
+      rw (le-leb (l .interval .min) (l .interval .max) o, head-cut (l .empty) (t .debug) (rowsOfInterval (l .interval .min) (l .interval .max)) m (l .entry .absolute) small)
 
   module _ (g : PlaceRead) (grid : Grid) (number : ℕ) (q : placeRes g ≡ mapRes placeOf (locate (t .debug) i grid number m)) where
     pub open-no : (x y : Refusal) → g ≡ place.Refused x → y ≡ placeRefusal g → refused y ≡ openTile t i s grid number zoom m

@@ -1,33 +1,32 @@
 -- The stream as the code holds it, and its answers (document 01, visit.rs and "The stream and the collected tile"). The machine is
 -- `stream` of crate agreement; what it answers is stored features, and here is what is shown of them.
-use Prim.Native.Nat.{ℕ, _+_}
+use Prim.Native.Nat.{ℕ}
 use mathlib.Core.Bool.{Bool}
 use mathlib.Core.Path.{_≡_}
 use mathlib.Core.List.{List}
 use lib.Ieee.{Float}
-use lib.ListN.{take}
+use lib.ListN.{length}
 use Rattle.parsing.specs.Parse.{Res, andThen, Maybe}
 use Rattle.error.specs.Refusals as error
-use Rattle.error.specs.Refusals.{numberOf, valuesOf}
-use Rattle.arithmetic.specs.Cut.{cut}
+use Rattle.error.specs.Refusals.{numberOf, valuesOf, lentNumber, lentValues}
 use Rattle.format.specs.Header.{Interval}
-use Rattle.format.specs.Index.{answer, answered, Grid, locate}
-use Rattle.format.specs.Rows.{rowsOfInterval, rowsUpto, intervalHead, pointsOf, waysOf}
-use Rattle.format.specs.Streamed.{streamedPoint, streamedFields}
-use Rattle.format.specs.Tile.{TileHead, Point, Head, Body}
+use Rattle.format.specs.Index.{answer, answered, Grid, locate, tileAt}
+use Rattle.format.specs.Rows.{rowsUpto, locatedHead, intervalHead}
+use Rattle.format.specs.Streamed.{streamedMaybe, streamedPoint}
+use Rattle.format.specs.Tile.{Point, Head, Body}
+use Rattle.format.specs.WayData.{concat, nodeCount}
+use Rattle.types.specs.Types.{optionalSpan, optionalPosition}
 use Rattle.tagged.specs.TagIds.{tagIds, noTags}
 use Rattle.fields.specs.Fields.{streamedSpan}
 use Rattle.poi.specs.Poi.{poiOf, emptyPoi}
 use Rattle.poi.specs.declared.Poi.{Poi}
 use Rattle.tile_place.specs.declared.TilePlace.{TilePlace}
-use Rattle.way.specs.Way.{bodyOf}
 use Rattle.way.specs.declared.WayBody.{WayBody}
 use Rattle.way_data.specs.Reply.{lent}
 use Rattle.way_head.specs.declared.WayHead.{WayHead}
 use Rattle.agreement.specs.Calls.{Answer, gotPoint, gotHead, gotBody, declined, ended, refused, Step, plain, lending, mapAnswer}
 use Rattle.agreement.specs.Stream.{State, idle, waits, openStream}
 use Rattle.agreement.specs.TileFormat as tile
-use Rattle.tile_layout.specs.TileLayout.{formatOf}
 use Rattle.tile_layout.specs.declared.TileLayout.{TileLayout}
 use Rattle.visit.specs.declared.TileEnd.{TileEnd}
 use Rattle.visit.specs.declared.Turn.{Turn}
@@ -58,12 +57,12 @@ turnState (turn.Waits w) z = waits (w .ways) (w .past) (w .body) z
 abbrev pub stateOf : Stream → State tile.TileEnd
 stateOf s = turnState (s .turn) (endOf (s .end))
 
--- opening: sub file (8), grid (14), tile (8), entry (19), interval (13), then the tile's head
+-- opening: sub file (8), grid (14), tile (8), its entry and the next one (19), interval (13), then the tile's head
 unfoldable pub openTile : TileLayout → Maybe Interval → (subFile : ℕ) → Grid → (number zoom : ℕ) → List ℕ → Res (State tile.TileEnd)
 openTile l i s g t zoom m =
     andThen (locate (l .debug) i g t m) (λ a _.
-    answered (openStream (formatOf l (rowsOfInterval (a .interval .min) (a .interval .max)) m)
-    (rowsUpto (a .interval .min) (a .interval .max) zoom) (record { subFile = s; water = a .entry .water }) m (a .entry .absolute)))
+    answered (openStream (locatedHead (l .debug) a) (rowsUpto (a .interval .min) (a .interval .max) zoom)
+    (record { subFile = s; water = a .entry .water }) m (tileAt a)))
 
 abbrev pub openRes : OpenRead → Res (State tile.TileEnd)
 openRes (open-read.Stream s) = answer (stateOf s)
@@ -76,18 +75,15 @@ shownPoint p = poiOf (streamedPoint p)
 abbrev pub shownHead : Head → StreamedHead
 shownHead h = record { bitmap = h .bitmap; layer = h .tagged .layer; «tag_ids» = tagIds (h .tagged .ids) }
 
-abbrev pub bodyShown : WayBody → StreamedBody
-bodyShown b = record {
-  name = b .name;
-  «house_number» = b .«house_number»;
-  reference = b .reference;
-  «label_position» = b .«label_position»;
-  blocks = b .blocks;
-  nodes = b .nodes;
-}
-
 abbrev pub shownBody : Body → StreamedBody
-shownBody b = bodyShown (bodyOf (record { fields = streamedFields (b .fields); dataBlocks = b .dataBlocks }))
+shownBody b = record {
+  name = optionalSpan (streamedMaybe (b .fields .name));
+  «house_number» = optionalSpan (streamedMaybe (b .fields .houseNumber));
+  reference = optionalSpan (streamedMaybe (b .fields .reference));
+  «label_position» = optionalPosition (b .fields .label);
+  blocks = length (concat (b .dataBlocks));
+  nodes = nodeCount (concat (b .dataBlocks));
+}
 
 abbrev pub ShownAnswer : Type 0
 ShownAnswer = Answer Poi StreamedHead StreamedBody tile.TileEnd
@@ -133,12 +129,20 @@ pub record NextIs (step : Step ShownAnswer (State tile.TileEnd)) (r : NextStep) 
 -- accept, with the lists after the call
 abbrev pub acceptAnswer : AcceptAnswer → ShownAnswer
 acceptAnswer (accept-answer.Body b) = gotBody b
-acceptAnswer (accept-answer.Refused r) = refused (numberOf r) (valuesOf r)
+acceptAnswer (accept-answer.Refused r) = refused (lentNumber r) (lentValues r)
 
 abbrev pub acceptStep : Accepted → List ℕ → List Float → List Float → Step ShownAnswer (State tile.TileEnd)
 acceptStep r counts lats lons = lending (acceptAnswer (r .answer)) (lent counts lats lons) (stateOf (r .stream))
 
--- what is streamed of a body that is handed out with raw texts
+-- decline
+abbrev pub declineAnswer : DeclineAnswer → ShownAnswer
+declineAnswer decline-answer.Declined = declined
+declineAnswer (decline-answer.Refused r) = refused (numberOf r) (valuesOf r)
+
+abbrev pub declineStep : Declined → Step ShownAnswer (State tile.TileEnd)
+declineStep r = plain (declineAnswer (r .answer)) (stateOf (r .stream))
+
+-- What private functions make, which need not be believed: what is streamed of a body that is handed out with raw texts
 abbrev pub streamedBody : List ℕ → WayBody → StreamedBody
 streamedBody m b = record {
   name = streamedSpan m (b .name);
@@ -152,20 +156,8 @@ streamedBody m b = record {
 abbrev pub streamedHead : WayHead → StreamedHead
 streamedHead h = record { bitmap = h .bitmap; layer = h .layer; «tag_ids» = h .«tag_ids» }
 
--- decline
-abbrev pub declineAnswer : DeclineAnswer → ShownAnswer
-declineAnswer decline-answer.Declined = declined
-declineAnswer (decline-answer.Refused r) = refused (numberOf r) (valuesOf r)
-
-abbrev pub declineStep : Declined → Step ShownAnswer (State tile.TileEnd)
-declineStep r = plain (declineAnswer (r .answer)) (stateOf (r .stream))
-
 -- opening, from a tile's place on
-abbrev pub freshAt : (subFile zoom : ℕ) → TilePlace → TileHead → ℕ → State tile.TileEnd
-freshAt s zoom p h e =
-    idle (cut (pointsOf (take (rowsUpto (p .«min_zoom») (p .«max_zoom») zoom) (h .table))))
-    (cut (waysOf (take (rowsUpto (p .«min_zoom») (p .«max_zoom») zoom) (h .table)))) e (cut (e + h .offset))
-    (record { subFile = s; water = p .«is_water» })
-
 abbrev pub openedAt : Bool → (subFile zoom : ℕ) → TilePlace → List ℕ → Res (State tile.TileEnd)
-openedAt debug s zoom p m = andThen (intervalHead debug (p .«min_zoom») (p .«max_zoom») m (p .at)) (λ h e. answer (freshAt s zoom p h e))
+openedAt debug s zoom p m =
+    answered (openStream (intervalHead (p .empty) debug (p .«min_zoom») (p .«max_zoom»)) (rowsUpto (p .«min_zoom») (p .«max_zoom») zoom)
+    (record { subFile = s; water = p .«is_water» }) m (p .at))

@@ -1,5 +1,6 @@
 // visit.rs: a tile's stream, as a chain of calls. Each call takes the stream that the last one left and gives it back; a refused call
 // gives it back as it was.
+use error::LentRefusal;
 use error::Refusal;
 use index::IntervalRead;
 use poi::Poi;
@@ -13,17 +14,17 @@ use types::Grid;
 use types::OptionalPosition;
 use types::OptionalSpan;
 use way::WayBody;
-use way::WayBodyRead;
+use way::WayBodyWritten;
 use way_head::WayHead;
 ghost use mathlib.Core.Path.{_≡_};
-ghost use mathlib.Core.List.{List};
-ghost use Prim.Native.Nat.{ℕ, _≤_, _<_};
+ghost use Prim.Native.Nat.{_≤_, _<_};
 ghost use Rattle.types.specs.Types.{gridOf};
 ghost use Rattle.index.specs.Answers.{intervalFound};
 ghost use Rattle.poi.specs.Poi.{emptyPoi};
 ghost use Rattle.way_data.specs.Reply.{lent};
-ghost use Rattle.agreement.specs.Calls.{next as nextCall, accept as acceptCall, decline as declineCall};
-ghost use Rattle.agreement.specs.Stream.{idle, stream as machine};
+ghost use Rattle.format.specs.BodyLists.{bodyLists};
+ghost use Rattle.format.specs.Tile.{body};
+ghost use Rattle.agreement.specs.Stream.{idle, onNext, onAccept, onDecline};
 ghost use Rattle.tile_layout.specs.TileLayout.{formatOf};
 ghost use Rattle.visit.specs.Visit.{endOf, stateOf, openTile, openedAt, openRes, shownStep, noHead, NextIs, acceptStep, streamedBody, streamedHead, declineStep};
 
@@ -64,9 +65,9 @@ pub enum OpenRead {
 }
 
 pub struct StreamedHead {
+    pub tag_ids: TagIds,
     pub bitmap: u16,
     pub layer: i8,
-    pub tag_ids: TagIds,
 }
 
 // `blocks` node counts and `nodes` latitudes and longitudes went to the lists.
@@ -96,7 +97,7 @@ pub struct NextStep {
 
 pub enum AcceptAnswer {
     Body(StreamedBody),
-    Refused(Refusal),
+    Refused(LentRefusal),
 }
 
 pub struct Accepted {
@@ -171,7 +172,7 @@ fn streamed_body(map: &[u8], body: WayBody) -> StreamedBody
 
 fn next_point(map: &[u8], layout: TileLayout, rest: Remaining, end: TileEnd) -> NextStep
     requires { ⌜ 0 < rest .points ⌝ }
-    ensures { λ r. ⌜ ((rows : ℕ) → NextIs (shownStep (machine (formatOf layout rows (now (map .entry))) (now (map .entry)) (idle (rest .points) (rest .ways) (rest .at) (rest .way) (endOf end)) nextCall)) r) ⌝ }
+    ensures { λ r. ⌜ NextIs (shownStep (onNext (formatOf layout (now (map .entry))) (now (map .entry)) (idle (rest .points) (rest .ways) (rest .at) (rest .way) (endOf end)))) r ⌝ }
 {
     let table = layout.poi_tags;
     let got = poi::read_poi(map, rest.at, layout.debug, table);
@@ -197,7 +198,7 @@ fn next_point(map: &[u8], layout: TileLayout, rest: Remaining, end: TileEnd) -> 
 
 fn next_way(map: &[u8], layout: TileLayout, rest: Remaining, end: TileEnd) -> NextStep
     requires { ⌜ (rest .points ≤ 0) × (0 < rest .ways) ⌝ }
-    ensures { λ r. ⌜ ((rows : ℕ) → NextIs (shownStep (machine (formatOf layout rows (now (map .entry))) (now (map .entry)) (idle (rest .points) (rest .ways) (rest .at) (rest .way) (endOf end)) nextCall)) r) ⌝ }
+    ensures { λ r. ⌜ NextIs (shownStep (onNext (formatOf layout (now (map .entry))) (now (map .entry)) (idle (rest .points) (rest .ways) (rest .at) (rest .way) (endOf end)))) r ⌝ }
 {
     let table = layout.way_tags;
     let got = way_head::read_way_head(map, rest.way, layout.debug, table);
@@ -223,7 +224,7 @@ fn next_way(map: &[u8], layout: TileLayout, rest: Remaining, end: TileEnd) -> Ne
 
 // While no way waits: a point, then a way's head, at last the end.
 fn next_idle(map: &[u8], layout: TileLayout, rest: Remaining, end: TileEnd) -> NextStep
-    ensures { λ r. ⌜ ((rows : ℕ) → NextIs (shownStep (machine (formatOf layout rows (now (map .entry))) (now (map .entry)) (idle (rest .points) (rest .ways) (rest .at) (rest .way) (endOf end)) nextCall)) r) ⌝ }
+    ensures { λ r. ⌜ NextIs (shownStep (onNext (formatOf layout (now (map .entry))) (now (map .entry)) (idle (rest .points) (rest .ways) (rest .at) (rest .way) (endOf end)))) r ⌝ }
 {
     if 0 < rest.points {
         return next_point(map, layout, rest, end);
@@ -242,7 +243,7 @@ fn next_idle(map: &[u8], layout: TileLayout, rest: Remaining, end: TileEnd) -> N
 
 // The next point; after the last point the next way's head, which then waits; at last the end, again and again. 16 while a way waits.
 pub fn next(map: &[u8], layout: TileLayout, stream: Stream) -> NextStep
-    ensures { λ r. ⌜ ((rows : ℕ) → NextIs (shownStep (machine (formatOf layout rows (now (map .entry))) (now (map .entry)) (stateOf «stream») nextCall)) r) ⌝ }
+    ensures { λ r. ⌜ NextIs (shownStep (onNext (formatOf layout (now (map .entry))) (now (map .entry)) (stateOf «stream»))) r ⌝ }
 {
     let turn = stream.turn;
     let Turn::Idle(rest) = turn else {
@@ -252,7 +253,7 @@ pub fn next(map: &[u8], layout: TileLayout, stream: Stream) -> NextStep
     next_idle(map, layout, rest, end)
 }
 
-fn refused_accept(refusal: Refusal, stream: Stream) -> Accepted
+fn refused_accept(refusal: LentRefusal, stream: Stream) -> Accepted
     ensures { λ r. ⌜ (r .answer ≡ AcceptAnswer.Refused refusal) × (r .stream ≡ stream) ⌝ }
 {
     Accepted {
@@ -270,15 +271,15 @@ pub fn accept(
     latitudes: &mut [f64],
     longitudes: &mut [f64],
 ) -> Accepted
-    ensures { λ r. ⌜ ((layout : TileLayout) (rows : ℕ) → acceptStep r (now («node_counts» .exit)) (now (latitudes .exit)) (now (longitudes .exit)) ≡ shownStep (machine (formatOf layout rows (now (map .entry))) (now (map .entry)) (stateOf «stream») (acceptCall (lent (now («node_counts» .entry)) (now (latitudes .entry)) (now (longitudes .entry)))))) ⌝ }
+    ensures { λ r. ⌜ acceptStep r (now («node_counts» .exit)) (now (latitudes .exit)) (now (longitudes .exit)) ≡ shownStep (onAccept body bodyLists (now (map .entry)) (stateOf «stream») (lent (now («node_counts» .entry)) (now (latitudes .entry)) (now (longitudes .entry)))) ⌝ }
 {
     let turn = stream.turn;
     let Turn::Waits(way) = turn else {
-        return refused_accept(Refusal::OutOfTurn, stream);
+        return refused_accept(LentRefusal::Refused(Refusal::OutOfTurn), stream);
     };
     let got = way::read_way_body(map, way.body, node_counts, latitudes, longitudes);
-    let WayBodyRead::Value(stored, at) = got else {
-        return refused_accept(way::way_body_refusal(got), stream);
+    let WayBodyWritten::Value(stored, at) = got else {
+        return refused_accept(way::written_refusal(got), stream);
     };
     let turn = Turn::Idle(Remaining {
         points: 0,
@@ -296,7 +297,7 @@ pub fn accept(
 
 // Goes to the waiting way's data start plus stored size. 16 while no way waits.
 pub fn decline(stream: Stream) -> Declined
-    ensures { λ r. ⌜ ((layout : TileLayout) (rows : ℕ) (m : List ℕ) → declineStep r ≡ shownStep (machine (formatOf layout rows m) m (stateOf «stream») declineCall)) ⌝ }
+    ensures { λ r. ⌜ declineStep r ≡ shownStep (onDecline (stateOf «stream»)) ⌝ }
 {
     let turn = stream.turn;
     let Turn::Waits(way) = turn else {
@@ -325,6 +326,7 @@ fn open_at(map: &[u8], place: TilePlace, debug: bool, sub_file: usize, zoom: u8)
     let got = tile_head::read_tile_head(
         map,
         place.at as usize,
+        place.empty,
         debug,
         place.min_zoom,
         place.max_zoom,
@@ -349,7 +351,8 @@ fn open_at(map: &[u8], place: TilePlace, debug: bool, sub_file: usize, zoom: u8)
 }
 
 // A stream of a tile at a zoom, which is clamped into the sub file's interval. Refused in this order: sub file (8), grid (14), tile (8),
-// entry (19), interval (13), then as the tile's head is read.
+// its entry and the next one (19), interval (13), then as the tile's head is read. The stream of a tile that its index marks empty is at
+// its end.
 pub fn open(
     map: &[u8],
     layout: TileLayout,

@@ -7,8 +7,11 @@ use lib.Ieee.{Float}
 use borrow.Author.Needs.{needs}
 use Rattle.parsing.specs.Parse.{Res, ok, no, andThen, mapRes}
 use Rattle.parsing.specs.Good.{ok-val, ok-at, no-ok}
-use Rattle.error.specs.Refusals.{refused}
+use Rattle.error.specs.Refusals.{refused, lentRefused}
+use Rattle.error.specs.declared.LentRefusal.{LentRefusal}
+use Rattle.error.specs.declared.LentRefusal.the-variants as lent-refusal
 use Rattle.error.specs.declared.Refusal.{Refusal}
+use Rattle.error.specs.declared.Refusal.the-variants.{Source}
 use Rattle.byte_source.proofs.ReadLaws.{taken}
 use Rattle.format.specs.Lent.{LentLists, Reply, fits, written, needed, deliver}
 use Rattle.format.specs.WayData.{Node, wayData, concat}
@@ -24,14 +27,25 @@ use Rattle.way_measure.specs.Answers.{waySizes, wayDataRes, wayDataRefusal}
 use Rattle.way_measure.specs.declared.Sizes.{Sizes}
 use Rattle.way_measure.specs.declared.WayDataRead.{WayDataRead}
 use Rattle.way_measure.specs.declared.WayDataRead.the-variants as way-data
+use Rattle.way_data.specs.Reply as replies
 use Rattle.way_data.specs.Reply.{lent, reply, readWayData}
-use Rattle.way.specs.Way.{bodyOf, bodyWith, bodyRefusal}
+use Rattle.way_data.specs.declared.WayDataWritten.{WayDataWritten}
+use Rattle.way_data.specs.declared.WayDataWritten.the-variants as data-written
+use Rattle.way.specs.Way.{bodyOf, bodyWith, bodyRefusal, writtenRefusal}
 use Rattle.way.specs.declared.WayBody.{WayBody}
 use Rattle.way.specs.declared.WayBodyRead.{WayBodyRead}
 use Rattle.way.specs.declared.WayBodyRead.the-variants as body-read
+use Rattle.way.specs.declared.WayBodyWritten.{WayBodyWritten}
+use Rattle.way.specs.declared.WayBodyWritten.the-variants as body-written
 
 pub body-refused : (g : WayBodyRead) (e : Refusal) → g ≡ body-read.Refused e → e ≡ bodyRefusal g
 body-refused g e h = taken bodyRefusal h refl
+
+pub written-refused : (g : WayBodyWritten) (e : LentRefusal) → g ≡ body-written.Refused e → e ≡ writtenRefusal g
+written-refused g e h = ap writtenRefusal (sym h)
+
+pub written-none : (g : WayBodyWritten) (b : WayBody) (n : ℕ) → g ≡ body-written.Value b n → lent-refusal.Refused Source ≡ writtenRefusal g
+written-none g b n h = ap writtenRefusal (sym h)
 
 pub ruleset refusals = (needs, body-refused)
 
@@ -85,13 +99,14 @@ module _ (m : List ℕ) (at : ℕ) (g : WayFieldsRead) (q : wayFieldsRes g ≡ m
   pub read-no-fields : (x y : Refusal) (c : List ℕ) (la lo : List Float) → g ≡ fields-read.Refused x → y ≡ wayFieldsRefusal g → _≡_ {A = Reply (Res WayBody)} (record { answer = refused y; lists = lent c la lo }) (deliver bodyOf bodyLists (body m at) (lent c la lo))
   read-no-fields x y c la lo h w = rw (no-fields x y h w)
 
-  module _ (v : WayFields) (n : ℕ) (h : g ≡ fields-read.Value v n) (w : WayDataRead) where
+  module _ (v : WayFields) (n : ℕ) (h : g ≡ fields-read.Value v n) where
     body-from : From v m n (body m at)
     body-from = rw (body-by-head m at) (from v m n (bodyHead m at) (sym q ∙ ap wayFieldsRes h))
 
+  module _ (v : WayFields) (n : ℕ) (h : g ≡ fields-read.Value v n) (w : WayDataRead) where
     measured : wayDataRes w ≡ mapRes waySizes (wayData (v .«data_blocks») m n) → mapRes (bodyWith v) (wayDataRes w) ≡ mapRes bodyOf (body m at)
     measured p =
-        let f = body-from in
+        let f = body-from v n h in
         let s : wayDataRes w ≡ mapRes waySizes (wayData (f .head .dataBlocks) m n) = p ∙ ap (λ (x : WayFields). mapRes waySizes (wayData (x .«data_blocks») m n)) (f .shown) in
         ap (mapRes (bodyWith v)) s
         ∙ ap (λ a. mapRes (bodyWith a) (mapRes waySizes (wayData (f .head .dataBlocks) m n))) (f .shown)
@@ -104,23 +119,24 @@ module _ (m : List ℕ) (at : ℕ) (g : WayFieldsRead) (q : wayFieldsRes g ≡ m
     pub measure-ok : (s : Sizes) (e : ℕ) (x : WayBody) → wayDataRes w ≡ mapRes waySizes (wayData (v .«data_blocks») m n) → w ≡ way-data.Value s e → x ≡ bodyWith v s → ok x e ≡ mapRes bodyOf (body m at)
     measure-ok s e x p d z = ap (λ a. ok a e) z ∙ ap (λ a. mapRes (bodyWith v) (wayDataRes a)) (sym d) ∙ measured p
 
+  module _ (v : WayFields) (n : ℕ) (h : g ≡ fields-read.Value v n) (w : WayDataWritten) where
     module _ (c₀ c : List ℕ) (la₀ lo₀ la lo : List Float) where
       delivered : reply w c la lo ≡ readWayData (v .«double_delta») (wayData (v .«data_blocks») m n) c₀ la₀ lo₀ → mapReply (reply w c la lo) (bodyWith v) ≡ deliver bodyOf bodyLists (body m at) (lent c₀ la₀ lo₀)
       delivered p =
-          let f = body-from in
+          let f = body-from v n h in
           let s : reply w c la lo ≡ readWayData (doubleDelta (f .head .fields)) (wayData (f .head .dataBlocks) m n) c₀ la₀ lo₀ = p ∙ ap (λ (x : WayFields). readWayData (x .«double_delta») (wayData (x .«data_blocks») m n) c₀ la₀ lo₀) (f .shown) in
           ap (λ a. mapReply a (bodyWith v)) s
           ∙ ap (λ a. mapReply (readWayData (doubleDelta (f .head .fields)) (wayData (f .head .dataBlocks) m n) c₀ la₀ lo₀) (bodyWith a)) (f .shown)
           ∙ sym (deliver-behind (f .head) (wayData (f .head .dataBlocks) m n) (lent c₀ la₀ lo₀))
           ∙ ap (λ a. deliver bodyOf bodyLists a (lent c₀ la₀ lo₀)) (sym (f .same))
 
-      pub read-no-data : (x y : Refusal) → reply w c la lo ≡ readWayData (v .«double_delta») (wayData (v .«data_blocks») m n) c₀ la₀ lo₀ → w ≡ way-data.Refused x → y ≡ wayDataRefusal w → _≡_ {A = Reply (Res WayBody)} (record { answer = refused y; lists = lent c la lo }) (deliver bodyOf bodyLists (body m at) (lent c₀ la₀ lo₀))
+      pub read-no-data : (x y : LentRefusal) → reply w c la lo ≡ readWayData (v .«double_delta») (wayData (v .«data_blocks») m n) c₀ la₀ lo₀ → w ≡ data-written.Refused x → y ≡ replies.writtenRefusal w → _≡_ {A = Reply (Res WayBody)} (record { answer = lentRefused y; lists = lent c la lo }) (deliver bodyOf bodyLists (body m at) (lent c₀ la₀ lo₀))
       read-no-data x y p d z =
-          ap (λ a. record { answer = refused a; lists = lent c la lo }) (z ∙ ap wayDataRefusal d)
+          ap (λ a. record { answer = lentRefused a; lists = lent c la lo }) (z ∙ ap replies.writtenRefusal d)
           ∙ ap (λ a. mapReply (reply a c la lo) (bodyWith v)) (sym d)
           ∙ delivered p
 
-      pub read-ok : (s : Sizes) (e : ℕ) (x : WayBody) → reply w c la lo ≡ readWayData (v .«double_delta») (wayData (v .«data_blocks») m n) c₀ la₀ lo₀ → w ≡ way-data.Value s e → x ≡ bodyWith v s → _≡_ {A = Reply (Res WayBody)} (record { answer = ok x e; lists = lent c la lo }) (deliver bodyOf bodyLists (body m at) (lent c₀ la₀ lo₀))
+      pub read-ok : (s : Sizes) (e : ℕ) (x : WayBody) → reply w c la lo ≡ readWayData (v .«double_delta») (wayData (v .«data_blocks») m n) c₀ la₀ lo₀ → w ≡ data-written.Value s e → x ≡ bodyWith v s → _≡_ {A = Reply (Res WayBody)} (record { answer = ok x e; lists = lent c la lo }) (deliver bodyOf bodyLists (body m at) (lent c₀ la₀ lo₀))
       read-ok s e x p d z =
           ap (λ a. record { answer = ok a e; lists = lent c la lo }) z
           ∙ ap (λ a. mapReply (reply a c la lo) (bodyWith v)) (sym d)

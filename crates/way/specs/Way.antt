@@ -3,7 +3,9 @@ use Prim.Native.Nat.{ℕ}
 use mathlib.Core.List.{List}
 use lib.Ieee.{Float}
 use Rattle.parsing.specs.Parse.{Res, ok}
-use Rattle.error.specs.Refusals.{refused}
+use Rattle.error.specs.Refusals.{refused, lentRefused}
+use Rattle.error.specs.declared.LentRefusal.{LentRefusal}
+use Rattle.error.specs.declared.LentRefusal.the-variants as lent-refusal
 use Rattle.error.specs.declared.Refusal.{Refusal}
 use Rattle.error.specs.declared.Refusal.the-variants.{Source}
 use Rattle.format.specs.Lent.{Reply}
@@ -16,6 +18,8 @@ use Rattle.way_data.specs.Reply.{lent}
 use Rattle.way.specs.declared.WayBody.{WayBody}
 use Rattle.way.specs.declared.WayBodyRead.{WayBodyRead}
 use Rattle.way.specs.declared.WayBodyRead.the-variants as body
+use Rattle.way.specs.declared.WayBodyWritten.{WayBodyWritten}
+use Rattle.way.specs.declared.WayBodyWritten.the-variants as written
 
 -- a way's fields, with the sizes of its data
 abbrev pub bodyWith : WayFields → Sizes → WayBody
@@ -41,6 +45,15 @@ abbrev pub bodyRefusal : WayBodyRead → Refusal
 bodyRefusal (body.Value v n) = Source
 bodyRefusal (body.Refused r) = r
 
+-- with its nodes written
+abbrev pub writtenRes : WayBodyWritten → Res WayBody
+writtenRes (written.Value v n) = ok v n
+writtenRes (written.Refused r) = lentRefused r
+
+abbrev pub writtenRefusal : WayBodyWritten → LentRefusal
+writtenRefusal (written.Value v n) = lent-refusal.Refused Source
+writtenRefusal (written.Refused r) = r
+
 -- an answer of the code, with the lists after the call
-abbrev pub bodyReply : WayBodyRead → List ℕ → List Float → List Float → Reply (Res WayBody)
-bodyReply r counts lats lons = record { answer = bodyRes r; lists = lent counts lats lons }
+abbrev pub bodyReply : WayBodyWritten → List ℕ → List Float → List Float → Reply (Res WayBody)
+bodyReply r counts lats lons = record { answer = writtenRes r; lists = lent counts lats lons }

@@ -1,7 +1,9 @@
 // way.rs: a way behind its tag values, as one read.
+use error::LentRefusal;
 use error::Refusal;
 use types::OptionalPosition;
 use types::OptionalSpan;
+use way_data::WayDataWritten;
 use way_fields::WayFields;
 use way_fields::WayFieldsRead;
 use way_measure::Sizes;
@@ -12,7 +14,7 @@ ghost use Rattle.format.specs.Lent.{deliver};
 ghost use Rattle.format.specs.BodyLists.{bodyLists};
 ghost use Rattle.format.specs.Tile.{body};
 ghost use Rattle.way_data.specs.Reply.{lent};
-ghost use Rattle.way.specs.Way.{bodyOf, bodyWith, bodyRes, bodyRefusal, bodyReply};
+ghost use Rattle.way.specs.Way.{bodyOf, bodyWith, bodyRes, bodyRefusal, writtenRefusal, bodyReply};
 
 // Texts are raw parts of the map. `blocks` and `nodes` count its coordinate blocks and all their nodes.
 pub struct WayBody {
@@ -20,14 +22,20 @@ pub struct WayBody {
     pub house_number: OptionalSpan,
     pub reference: OptionalSpan,
     pub label_position: OptionalPosition,
-    pub double_delta: bool,
     pub blocks: u64,
     pub nodes: u64,
+    pub double_delta: bool,
 }
 
 pub enum WayBodyRead {
     Value(WayBody, usize),
     Refused(Refusal),
+}
+
+// The body of a way whose nodes were written, with the place behind it, or why they were not.
+pub enum WayBodyWritten {
+    Value(WayBody, usize),
+    Refused(LentRefusal),
 }
 
 pub fn way_body_refusal(got: WayBodyRead) -> Refusal
@@ -36,6 +44,15 @@ pub fn way_body_refusal(got: WayBodyRead) -> Refusal
     match got {
         WayBodyRead::Refused(r) => r,
         WayBodyRead::Value(_, _) => Refusal::Source,
+    }
+}
+
+pub fn written_refusal(got: WayBodyWritten) -> LentRefusal
+    ensures { λ r. ⌜ r ≡ writtenRefusal got ⌝ }
+{
+    match got {
+        WayBodyWritten::Refused(r) => r,
+        WayBodyWritten::Value(_, _) => LentRefusal::Refused(Refusal::Source),
     }
 }
 
@@ -79,12 +96,12 @@ pub fn read_way_body(
     node_counts: &mut [u64],
     latitudes: &mut [f64],
     longitudes: &mut [f64],
-) -> WayBodyRead
+) -> WayBodyWritten
     ensures { λ r. ⌜ bodyReply r (now («node_counts» .exit)) (now (latitudes .exit)) (now (longitudes .exit)) ≡ deliver bodyOf bodyLists (body (now (map .entry)) at) (lent (now («node_counts» .entry)) (now (latitudes .entry)) (now (longitudes .entry))) ⌝ }
 {
     let got = way_fields::read_way_fields(map, at);
     let WayFieldsRead::Value(fields, at) = got else {
-        return WayBodyRead::Refused(way_fields::way_fields_refusal(got));
+        return WayBodyWritten::Refused(LentRefusal::Refused(way_fields::way_fields_refusal(got)));
     };
     let got = way_data::read_way_data(
         map,
@@ -95,8 +112,8 @@ pub fn read_way_body(
         latitudes,
         longitudes,
     );
-    let WayDataRead::Value(sizes, at) = got else {
-        return WayBodyRead::Refused(way_measure::way_data_refusal(got));
+    let WayDataWritten::Value(sizes, at) = got else {
+        return WayBodyWritten::Refused(way_data::way_data_refusal(got));
     };
-    WayBodyRead::Value(body_with(fields, sizes), at)
+    WayBodyWritten::Value(body_with(fields, sizes), at)
 }

@@ -1,3 +1,4 @@
+pub mod CoordinateLaws
 pub mod NodeLaws
 pub mod BlockLaws
 pub mod ReplyLaws

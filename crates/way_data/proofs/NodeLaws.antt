@@ -10,18 +10,16 @@ use lib.Seq.{sets, length-sets}
 use lib.Ieee as Ieee
 use lib.Ieee.{Float, binary64}
 use borrow.Author.Needs.{needs}
-use Rattle.parsing.specs.Parse.{Res, ok, Parser, many, endOf, listOf}
-use Rattle.parsing.proofs.Loops.{rest, rest-no}
-use Rattle.error.specs.declared.Refusal.{Refusal}
+use Rattle.parsing.specs.Parse.{Res, ok, Parser, many, Fine, endOf, listOf}
+use Rattle.parsing.proofs.Loops.{rest}
 use Rattle.utils.specs.Degree.{degrees}
 use Rattle.format.specs.WayData.{Node, node}
 use Rattle.format.specs.Nodes.{zero64, nextDelta}
-use Rattle.way_measure.specs.Answers.{nodeRes}
 use Rattle.way_measure.specs.declared.Node.{Node as CodeNode}
-use Rattle.way_measure.specs.declared.NodeRead.{NodeRead}
-use Rattle.way_measure.specs.declared.NodeRead.the-variants as node-read
-use Rattle.way_data.specs.Writes.{startAt, movedBy, Coordinates, later, inBlock, NodesFit, NodesWritten}
+use Rattle.way_data.specs.Writes.{nodeRes, startAt, movedBy, Coordinates, later, inBlock, NodesFit, NodesWritten}
 use Rattle.way_data.specs.declared.Cursor.{Cursor}
+use Rattle.way_data.specs.declared.StoredNode.{StoredNode}
+use Rattle.way_data.proofs.CoordinateLaws.{fine-first}
 
 -- one node
 module _ (t : Bool) (d x : Float) where
@@ -53,17 +51,18 @@ none-left : {A : Type 0} (p : Parser A) (s : List ℕ) (left next : ℕ) → lef
 none-left p s zero next h = refl
 none-left p s (suc n) next h = absurd (omega arith)
 
+one-fine : (s : List ℕ) (left next : ℕ) → 0 < left → Fine (many node left s next) → Fine (node s next)
+one-fine s zero next h f = absurd (omega arith)
+one-fine s (suc n) next h f = fine-first (node s next) _ f
+
 module _ (t : Bool) (s : List ℕ) (next left : ℕ) (p : Cursor) (pos : ℕ) (la lo : List Float) (E : ℕ) (LA LO : List Float) (y : NodesLeft t s next left p pos la lo E LA LO) where
-  pub later-slot-lats : 0 < left → pos < length la
-  later-slot-lats b = omega (arith, y .fit .lats)
+  pub later-fine : 0 < left → Fine (node s next)
+  later-fine b = one-fine s left next b (y .fit .fine)
 
-  pub later-slot-lons : 0 < left → pos < length lo
-  later-slot-lons b = omega (arith, y .fit .lons)
-
-  pub later-more : (after : ℕ) (q : Cursor) (g : NodeRead) (v : CodeNode) → 0 < left → nodeRes g ≡ node s next → g ≡ node-read.Value v after → q ≡ movedBy t p v
-      → NodesLeft t s after (left - 1) q (pos + 1) (set la pos (q .latitude)) (set lo pos (q .longitude)) E LA LO
-  later-more after q g v b e h m =
-      let r = rest node s left next b (y .fit .fine) (sym e ∙ ap nodeRes h) in
+  pub later-more : (q : Cursor) (g : StoredNode) → 0 < left → nodeRes g ≡ node s next → q ≡ movedBy t p (g .node)
+      → NodesLeft t s (g .next) (left - 1) q (pos + 1) (set la pos (q .latitude)) (set lo pos (q .longitude)) E LA LO
+  later-more q g b e m =
+      let r = rest node s left next b (y .fit .fine) (sym e) in
       rw m record {
         fit = record {
           fine = r .fine;
@@ -74,10 +73,6 @@ module _ (t : Bool) (s : List ℕ) (next left : ℕ) (p : Cursor) (pos : ℕ) (l
         lats = rw add-one (rw (r .list) at (y .lats));
         lons = rw add-one (rw (r .list) at (y .lons));
       }
-
-  -- no read is refused
-  pub later-no : (f : List Node → Coordinates) (w : Res (List Node)) (from x : ℕ) (la₀ lo₀ : List Float) (g : NodeRead) (r : Refusal) → 0 < left → nodeRes g ≡ node s next → g ≡ node-read.Refused r → NodesWritten f w from la₀ lo₀ x la lo
-  later-no f w from x la₀ lo₀ g r b e h = rest-no node s left next b (y .fit .fine) (sym e ∙ ap nodeRes h)
 
 pub later-done : (t : Bool) (s : List ℕ) (next left : ℕ) (p : Cursor) (pos : ℕ) (la lo : List Float) (f : List Node → Coordinates) (w : Res (List Node)) (from : ℕ) (la₀ lo₀ : List Float)
     → NodesLeft t s next left p pos la lo (endOf w) (sets la₀ from (f (listOf w) .lats)) (sets lo₀ from (f (listOf w) .lons)) → left ≤ 0 → NodesWritten f w from la₀ lo₀ next la lo
@@ -91,29 +86,23 @@ nodes-none t s n at from la lo h =
     let e = none-left node s n at (omega arith) in
     rw e record { end = refl; lats = refl; lons = refl }
 
-module _ (s : List ℕ) (at n from : ℕ) (la lo : List Float) (g : NodeRead) (y : NodesFit s at n from la lo) (b : 1 ≤ n) (e : nodeRes g ≡ node s at) where
-  pub first-no : (r : Refusal) (f : List Node → Coordinates) (w : Res (List Node)) (x : ℕ) (la₀ lo₀ : List Float) → g ≡ node-read.Refused r → NodesWritten f w from la₀ lo₀ x la lo
-  first-no r f w x la₀ lo₀ h = rest-no node s n at b (y .fine) (sym e ∙ ap nodeRes h)
+module _ (s : List ℕ) (at n from : ℕ) (la lo : List Float) (y : NodesFit s at n from la lo) (b : 1 ≤ n) where
+  pub first-fine : Fine (node s at)
+  first-fine = one-fine s n at b (y .fine)
 
-  module _ (v : CodeNode) (next : ℕ) (h : g ≡ node-read.Value v next) where
-    pub first-slot-lats : from < length la
-    first-slot-lats = omega (arith, y .lats)
-
-    pub first-slot-lons : from < length lo
-    first-slot-lons = omega (arith, y .lons)
-
-    pub first-fit : (a o : Float) → NodesFit s next (n - 1) (from + 1) (set la from a) (set lo from o)
+  module _ (g : StoredNode) (e : nodeRes g ≡ node s at) where
+    pub first-fit : (a o : Float) → NodesFit s (g .next) (n - 1) (from + 1) (set la from a) (set lo from o)
     first-fit a o = record {
-      fine = rest node s n at b (y .fine) (sym e ∙ ap nodeRes h) .fine;
+      fine = rest node s n at b (y .fine) (sym e) .fine;
       lats = simp length-set (omega (arith, y .lats));
       lons = simp length-set (omega (arith, y .lons));
     }
 
-    pub first-more : (t : Bool) (r : ℕ) (p : Cursor) (la′ lo′ : List Float) → p ≡ startAt v
-        → NodesWritten (later t p) (many node (n - 1) s next) (from + 1) (set la from (p .latitude)) (set lo from (p .longitude)) r la′ lo′
+    pub first-more : (t : Bool) (r : ℕ) (p : Cursor) (la′ lo′ : List Float) → p ≡ startAt (g .node)
+        → NodesWritten (later t p) (many node (n - 1) s (g .next)) (from + 1) (set la from (p .latitude)) (set lo from (p .longitude)) r la′ lo′
         → NodesWritten (inBlock t) (many node n s at) from la lo r la′ lo′
     first-more t r p la′ lo′ i d =
-        let q = rest node s n at b (y .fine) (sym e ∙ ap nodeRes h) in
+        let q = rest node s n at b (y .fine) (sym e) in
         record {
           end = d .end ∙ q .end;
           lats = rw (q .list) (rw (add-one, i) at (d .lats));
@@ -127,4 +116,4 @@ module _ (f : List Node → Coordinates) (w : Res (List Node)) (from : ℕ) (la�
   pub written-lons : length lo ≡ length lo₀
   written-lons = ap length (d .lons) ∙ length-sets (set lo₀ i o) from (f (listOf w) .lons) ∙ length-set lo₀ i o
 
-pub ruleset nodes = (needs, double-yes, double-no, start-is, moved-is, later-start, later-slot-lats, later-slot-lons, later-more, later-no, later-done, nodes-none, first-no, first-slot-lats, first-slot-lons, first-fit, first-more, written-lats, written-lons)
+pub ruleset nodes = (needs, double-yes, double-no, start-is, moved-is, later-start, later-fine, later-more, later-done, nodes-none, first-fine, first-fit, first-more, written-lats, written-lons)

@@ -10,8 +10,11 @@ use lib.Ieee.{Float}
 use borrow.Author.Tests.{le-ltb, lt-ltb, ltb-true, ltb-false, le-leb, lt-leb}
 use Rattle.parsing.specs.Parse.{Res, ok, no, mapRes, listOf}
 use Rattle.parsing.specs.Good.{ok-val, ok-at, no-ok}
-use Rattle.error.specs.Refusals.{refused, valuesOf}
+use Rattle.error.specs.Refusals.{refused, lentRefused, lentValues}
+use Rattle.error.specs.declared.LentRefusal.{LentRefusal}
+use Rattle.error.specs.declared.LentRefusal.the-variants as lent-refusal
 use Rattle.error.specs.declared.Refusal.{Refusal}
+use Rattle.error.specs.declared.Refusal.the-variants.{Source}
 use Rattle.format.specs.Lent.{Reply, fits, written, needed, sets-front}
 use Rattle.format.specs.WayData.{Node, concat, nodeCount}
 use Rattle.format.specs.Nodes.{latitudeOf, longitudeOf, nodeCounts, latitudes, longitudes, wayLists}
@@ -19,13 +22,21 @@ use Rattle.way_measure.specs.Answers.{sizesOf, waySizes, wayDataRes, wayDataRef
 use Rattle.way_measure.specs.declared.Sizes.{Sizes}
 use Rattle.way_measure.specs.declared.WayDataRead.{WayDataRead}
 use Rattle.way_measure.specs.declared.WayDataRead.the-variants as way-data
-use Rattle.way_data.specs.Reply.{lent, readWayData}
+use Rattle.way_data.specs.Reply.{lent, writtenRefusal, readWayData}
 use Rattle.way_data.specs.Writes.{shorter, tooShort, BlocksFit, BlocksWritten}
 use Rattle.way_data.specs.declared.Progress.{Progress}
+use Rattle.way_data.specs.declared.WayDataWritten.{WayDataWritten}
+use Rattle.way_data.specs.declared.WayDataWritten.the-variants as data-written
 use Rattle.way_data.proofs.BlockLaws.{length-along}
 
 abbrev WayData : Type 0
 WayData = Res (List (List (List Node)))
+
+pub written-refused : (g : WayDataWritten) (e : LentRefusal) → g ≡ data-written.Refused e → e ≡ writtenRefusal g
+written-refused g e h = ap writtenRefusal (sym h)
+
+pub written-none : (g : WayDataWritten) (z : Sizes) (n : ℕ) → g ≡ data-written.Value z n → lent-refusal.Refused Source ≡ writtenRefusal g
+written-none g z n h = ap writtenRefusal (sym h)
 
 -- the test of the lengths
 module _ (z : Sizes) (c l o : ℕ) where
@@ -80,7 +91,7 @@ module _ (t : Bool) (c : List ℕ) (la lo : List Float) where
         flip (length lo) (nodeCount b),
       ) (none-shorter (ltb (length c) (length b)) (ltb (length la) (nodeCount b)) (ltb (length lo) (nodeCount b)))
 
-  needed-is : (b : List (List Node)) → needed (wayLists t b) ≡ valuesOf (tooShort (sizesOf b))
+  needed-is : (b : List (List Node)) → needed (wayLists t b) ≡ lentValues (tooShort (sizesOf b))
   needed-is b = rw (length-map b length, length-along t latitudeOf b, length-along t longitudeOf b) refl
 
   pub reply-no : (r : WayData) (g : WayDataRead) (x y : Refusal) → wayDataRes g ≡ mapRes waySizes r → g ≡ way-data.Refused x → y ≡ wayDataRefusal g → unchanged (refused y) ≡ readWayData t r c la lo
@@ -91,11 +102,11 @@ module _ (t : Bool) (c : List ℕ) (la lo : List Float) where
 
   module _ (z : Sizes) (e : ℕ) where
     -- what a caller that has measured gets
-    short-is : (r : WayData) → mapRes waySizes r ≡ ok z e → shorter z (length c) (length la) (length lo) ≡ true → readWayData t r c la lo ≡ unchanged (refused (tooShort z))
+    short-is : (r : WayData) → mapRes waySizes r ≡ ok z e → shorter z (length c) (length la) (length lo) ≡ true → readWayData t r c la lo ≡ unchanged (lentRefused (tooShort z))
     short-is (no n v) m f = no-ok m
     short-is (ok d i) m f =
         let f′ : shorter (waySizes d) (length c) (length la) (length lo) ≡ true = ap (λ s. shorter s (length c) (length la) (length lo)) (ok-val m) ∙ f in
-        rw (fits-is (concat d), f′) (ap (λ v. unchanged (no 15 v)) (needed-is (concat d) ∙ ap (λ s. valuesOf (tooShort s)) (ok-val m)))
+        rw (fits-is (concat d), f′) (ap (λ v. unchanged (no 15 v)) (needed-is (concat d) ∙ ap (λ s. lentValues (tooShort s)) (ok-val m)))
 
     delivered-is : (r : WayData) → mapRes waySizes r ≡ ok z e → shorter z (length c) (length la) (length lo) ≡ false → readWayData t r c la lo ≡ delivered (concat (listOf r)) e
     delivered-is (no n v) m f = no-ok m
@@ -136,7 +147,7 @@ module _ (t : Bool) (c : List ℕ) (la lo : List Float) where
 
     -- the same by the code's answer
     module _ (r : WayData) (g : WayDataRead) (q : wayDataRes g ≡ mapRes waySizes r) (h : g ≡ way-data.Value z e) (k : Bool) (i : k ≡ shorter z (length c) (length la) (length lo)) where
-      pub reply-short : (x : Refusal) → k ≡ true → x ≡ tooShort z → unchanged (refused x) ≡ readWayData t r c la lo
+      pub reply-short : (x : LentRefusal) → k ≡ true → x ≡ tooShort z → unchanged (lentRefused x) ≡ readWayData t r c la lo
       reply-short x j w = rw w (sym (short-is r (sym q ∙ ap wayDataRes h) (sym i ∙ j)))
 
       pub reply-fit : (at : ℕ) → k ≡ false → BlocksFit (mapRes concat r) (record { next = at; blocks = 0; nodes = 0 }) c la lo

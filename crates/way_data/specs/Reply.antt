@@ -4,13 +4,18 @@ use Prim.Native.Nat.{ℕ}
 use mathlib.Core.Bool.{Bool}
 use mathlib.Core.List.{List}
 use lib.Ieee.{Float}
-use Rattle.parsing.specs.Parse.{Res}
+use Rattle.parsing.specs.Parse.{Res, ok}
+use Rattle.error.specs.Refusals.{lentRefused}
+use Rattle.error.specs.declared.LentRefusal.{LentRefusal}
+use Rattle.error.specs.declared.LentRefusal.the-variants as lent-refusal
+use Rattle.error.specs.declared.Refusal.the-variants.{Source}
 use Rattle.format.specs.Lent.{LentLists, Reply, deliver}
 use Rattle.format.specs.WayData.{Node, concat}
 use Rattle.format.specs.Nodes.{wayLists}
-use Rattle.way_measure.specs.Answers.{waySizes, wayDataRes}
+use Rattle.way_measure.specs.Answers.{waySizes}
 use Rattle.way_measure.specs.declared.Sizes.{Sizes}
-use Rattle.way_measure.specs.declared.WayDataRead.{WayDataRead}
+use Rattle.way_data.specs.declared.WayDataWritten.{WayDataWritten}
+use Rattle.way_data.specs.declared.WayDataWritten.the-variants as way-data
 
 abbrev pub lent : List ℕ → List Float → List Float → LentLists
 lent counts lats lons = record { counts = counts; latitudes = lats; longitudes = lons }
@@ -19,6 +24,15 @@ lent counts lats lons = record { counts = counts; latitudes = lats; longitudes =
 abbrev pub readWayData : Bool → Res (List (List (List Node))) → List ℕ → List Float → List Float → Reply (Res Sizes)
 readWayData double r counts lats lons = deliver waySizes (λ d. wayLists double (concat d)) r (lent counts lats lons)
 
--- an answer of the code, with the lists after the call
-abbrev pub reply : WayDataRead → List ℕ → List Float → List Float → Reply (Res Sizes)
-reply r counts lats lons = record { answer = wayDataRes r; lists = lent counts lats lons }
+-- an answer of the code
+abbrev pub writtenRes : WayDataWritten → Res Sizes
+writtenRes (way-data.Value s n) = ok s n
+writtenRes (way-data.Refused r) = lentRefused r
+
+abbrev pub writtenRefusal : WayDataWritten → LentRefusal
+writtenRefusal (way-data.Value s n) = lent-refusal.Refused Source
+writtenRefusal (way-data.Refused r) = r
+
+-- with the lists after the call
+abbrev pub reply : WayDataWritten → List ℕ → List Float → List Float → Reply (Res Sizes)
+reply r counts lats lons = record { answer = writtenRes r; lists = lent counts lats lons }

@@ -1,32 +1,42 @@
--- What the private functions ask and leave: the test of the lists' lengths, and the second pass, over a way's data that is known to
--- be readable.
+-- What private functions ask and leave, which need not be believed: the test of the lists' lengths, and the second pass, over a way's
+-- data that is known to be readable.
 use Prim.Native.Nat.{ℕ, _+_, _≤_}
 use mathlib.Core.Bool.{Bool, _||_}
 use mathlib.Core.Path.{_≡_}
 use mathlib.Core.List.{List, [], _∷_, map}
 use lib.Dec.{ltb}
+use lib.IntN.{ℤ}
 use lib.ListN.{length}
 use lib.Seq.{sets}
 use lib.Ieee as Ieee
 use lib.Ieee.{Float, binary64}
-use Rattle.parsing.specs.Parse.{Res, Parser, _>>=_, return, many, Fine, endOf, listOf}
+use Rattle.parsing.specs.Parse.{Res, ok, Parser, _>>=_, return, many, Fine, endOf, listOf}
 use Rattle.utils.specs.Degree.{degrees}
 use Rattle.format.specs.WayData.{Node, node, block, nodeCount}
 use Rattle.format.specs.Nodes.{zero64, nextDelta, laterNodes, blockNodes, latitudeOf, longitudeOf, nodeCounts, latitudes, longitudes}
-use Rattle.error.specs.declared.Refusal.{Refusal}
-use Rattle.error.specs.declared.Refusal.the-variants.{TooShort}
+use Rattle.error.specs.declared.LentRefusal.{LentRefusal}
+use Rattle.error.specs.declared.LentRefusal.the-variants.{Short}
 use Rattle.way_measure.specs.declared.Node.{Node as CodeNode}
 use Rattle.way_measure.specs.declared.Sizes.{Sizes}
 use Rattle.way_data.specs.declared.Cursor.{Cursor}
 use Rattle.way_data.specs.declared.Progress.{Progress}
+use Rattle.way_data.specs.declared.StoredCoordinate.{StoredCoordinate}
+use Rattle.way_data.specs.declared.StoredNode.{StoredNode}
 
 -- whether a list is shorter than what goes to it, by the lists' lengths
 abbrev pub shorter : Sizes → ℕ → ℕ → ℕ → Bool
 shorter s counts lats lons = ltb counts (s .blocks) || ltb lats (s .nodes) || ltb lons (s .nodes)
 
 -- the lengths needed: a node count for each block, a latitude and a longitude for each node
-abbrev pub tooShort : Sizes → Refusal
-tooShort s = TooShort (record { list1 = s .blocks; list2 = s .nodes; list3 = s .nodes; list4 = 0; list5 = 0; buffer = 0 })
+abbrev pub tooShort : Sizes → LentRefusal
+tooShort s = Short (record { list1 = s .blocks; list2 = s .nodes; list3 = s .nodes; list4 = 0; list5 = 0; buffer = 0 })
+
+-- what the second pass read
+abbrev pub coordinateRes : StoredCoordinate → Res ℤ
+coordinateRes r = ok (r .value .0) (r .next)
+
+abbrev pub nodeRes : StoredNode → Res Node
+nodeRes r = ok (record { latitude = r .node .latitude .0; longitude = r .node .longitude .0 }) (r .next)
 
 -- a block's first node
 abbrev pub startAt : CodeNode → Cursor

@@ -2,17 +2,36 @@
 // leaves the lists as they were.
 use byte_source::NumberRead;
 use error::Lengths;
+use error::LentRefusal;
 use error::Refusal;
+use utils::MicroRead;
+use utils::Microdegrees;
 use way_measure::Node;
-use way_measure::NodeRead;
 use way_measure::Sizes;
 use way_measure::WayDataRead;
 ghost use mathlib.Core.Path.{_≡_};
-ghost use Rattle.parsing.specs.Parse.{mapRes, many};
+ghost use Prim.Native.Nat.{_<_, _^_};
+ghost use Rattle.parsing.specs.Parse.{mapRes, many, Fine};
+ghost use Rattle.utils.specs.Vbe.{signedOf, coordinate};
 ghost use Rattle.format.specs.WayData.{node, dataBlock, wayData, concat};
 ghost use Rattle.format.specs.Nodes.{nextDelta};
-ghost use Rattle.way_data.specs.Reply.{reply, readWayData};
-ghost use Rattle.way_data.specs.Writes.{shorter, tooShort, startAt, movedBy, later, inBlock, oneBlock, NodesFit, NodesWritten, BlocksFit, BlocksWritten};
+ghost use Rattle.way_data.specs.Reply.{writtenRefusal, reply, readWayData};
+ghost use Rattle.way_data.specs.Writes.{shorter, tooShort, coordinateRes, nodeRes, startAt, movedBy, later, inBlock, oneBlock, NodesFit, NodesWritten, BlocksFit, BlocksWritten};
+
+// The sizes of a way's data that was written, with the place behind it, or why none was.
+pub enum WayDataWritten {
+    Value(Sizes, usize),
+    Refused(LentRefusal),
+}
+
+pub fn way_data_refusal(got: WayDataWritten) -> LentRefusal
+    ensures { λ r. ⌜ r ≡ writtenRefusal got ⌝ }
+{
+    match got {
+        WayDataWritten::Refused(r) => r,
+        WayDataWritten::Value(_, _) => LentRefusal::Refused(Refusal::Source),
+    }
+}
 
 // The last node of a block in degrees, and the delta that led to it.
 struct Cursor {
@@ -20,6 +39,18 @@ struct Cursor {
     longitude: f64,
     dlat: f64,
     dlon: f64,
+}
+
+// A coordinate as stored, and the place behind it.
+struct StoredCoordinate {
+    value: Microdegrees,
+    next: usize,
+}
+
+// A node as stored, and the place behind it.
+struct StoredNode {
+    node: Node,
+    next: usize,
 }
 
 // Where the second pass is, in the map and in the lists of blocks and of nodes.
@@ -69,6 +100,85 @@ fn next_node(last: Cursor, double: bool, n: Node) -> Cursor
     }
 }
 
+fn wide(x: u8) -> u64
+    ensures { λ r. ⌜ r ≡ x ⌝ }
+{
+    x as u64
+}
+
+// The microdegrees of this magnitude, negative unless `sign` is 0.
+fn signed_of(v: u64, sign: u64) -> Microdegrees
+    requires { ⌜ v < 2 ^ 63 ⌝ }
+    ensures { λ r. ⌜ r .0 ≡ signedOf v sign ⌝ }
+{
+    let m = v as i64;
+    if sign == 0 {
+        return Microdegrees(m);
+    }
+    Microdegrees(0 - m)
+}
+
+// A coordinate of any length. The first pass has read it, so it is not refused.
+fn long_coordinate(map: &[u8], at: usize) -> StoredCoordinate
+    requires { ⌜ Fine (coordinate (now map) at) ⌝ }
+    ensures { λ r. ⌜ coordinateRes r ≡ coordinate (now (map .entry)) at ⌝ }
+{
+    let got = utils::read_microdegrees(map, at);
+    let MicroRead::Value(value, next) = got else {
+        return StoredCoordinate {
+            value: Microdegrees(0),
+            next: at,
+        };
+    };
+    StoredCoordinate { value, next }
+}
+
+// The same, read here where it has at most three bytes, as nearly all have.
+fn known_coordinate(map: &[u8], at: usize) -> StoredCoordinate
+    requires { ⌜ Fine (coordinate (now map) at) ⌝ }
+    ensures { λ r. ⌜ coordinateRes r ≡ coordinate (now (map .entry)) at ⌝ }
+{
+    let a = wide(map[at]);
+    if a < 128 {
+        return StoredCoordinate {
+            value: signed_of(a % 64, a / 64),
+            next: at + 1,
+        };
+    }
+    let b = wide(map[at + 1]);
+    if b < 128 {
+        return StoredCoordinate {
+            value: signed_of(a % 128 + 128 * (b % 64), b / 64),
+            next: at + 2,
+        };
+    }
+    let c = wide(map[at + 2]);
+    if c < 128 {
+        return StoredCoordinate {
+            value: signed_of(a % 128 + 128 * (b % 128) + 16384 * (c % 64), c / 64),
+            next: at + 3,
+        };
+    }
+    long_coordinate(map, at)
+}
+
+fn known_node(map: &[u8], at: usize) -> StoredNode
+    requires { ⌜ Fine (node (now map) at) ⌝ }
+    ensures { λ r. ⌜ nodeRes r ≡ node (now (map .entry)) at ⌝ }
+{
+    let lat = known_coordinate(map, at);
+    let lon = known_coordinate(map, lat.next);
+    let latitude = lat.value;
+    let longitude = lon.value;
+    StoredNode {
+        node: Node {
+            latitude,
+            longitude,
+        },
+        next: lon.next,
+    }
+}
+
 // The nodes behind the first.
 fn write_later(
     map: &[u8],
@@ -88,15 +198,12 @@ fn write_later(
     let mut left = n;
     let mut pos = from;
     while 0 < left {
-        let got = way_measure::read_node(map, next);
-        let NodeRead::Value(v, after) = got else {
-            return next;
-        };
-        last = next_node(last, double, v);
+        let got = known_node(map, next);
+        last = next_node(last, double, got.node);
         latitudes[pos] = last.latitude;
         longitudes[pos] = last.longitude;
         pos += 1;
-        next = after;
+        next = got.next;
         left -= 1;
     }
     next
@@ -118,16 +225,13 @@ fn write_nodes(
     if n < 1 {
         return at;
     }
-    let got = way_measure::read_node(map, at);
-    let NodeRead::Value(v, next) = got else {
-        return at;
-    };
-    let first = first_node(v);
+    let got = known_node(map, at);
+    let first = first_node(got.node);
     latitudes[from] = first.latitude;
     longitudes[from] = first.longitude;
     write_later(
         map,
-        next,
+        got.next,
         n - 1,
         double,
         first,
@@ -247,10 +351,10 @@ fn shorter(s: Sizes, counts: usize, latitudes: usize, longitudes: usize) -> bool
 }
 
 // The refusal that gives the lengths needed: of the node counts, the latitudes and the longitudes.
-fn too_short(s: Sizes) -> Refusal
+fn too_short(s: Sizes) -> LentRefusal
     ensures { λ r. ⌜ r ≡ tooShort s ⌝ }
 {
-    Refusal::TooShort(Lengths {
+    LentRefusal::Short(Lengths {
         list1: s.blocks,
         list2: s.nodes,
         list3: s.nodes,
@@ -269,15 +373,15 @@ pub fn read_way_data(
     node_counts: &mut [u64],
     latitudes: &mut [f64],
     longitudes: &mut [f64],
-) -> WayDataRead
+) -> WayDataWritten
     ensures { λ r. ⌜ reply r (now («node_counts» .exit)) (now (latitudes .exit)) (now (longitudes .exit)) ≡ readWayData double (wayData «data_blocks» (now (map .entry)) at) (now («node_counts» .entry)) (now (latitudes .entry)) (now (longitudes .entry)) ⌝ }
 {
     let got = way_measure::measure_way_data(map, at, data_blocks);
     let WayDataRead::Value(s, end) = got else {
-        return WayDataRead::Refused(way_measure::way_data_refusal(got));
+        return WayDataWritten::Refused(LentRefusal::Refused(way_measure::way_data_refusal(got)));
     };
     if shorter(s, node_counts.len(), latitudes.len(), longitudes.len()) {
-        return WayDataRead::Refused(too_short(s));
+        return WayDataWritten::Refused(too_short(s));
     }
     let from = Progress {
         next: at,
@@ -293,5 +397,5 @@ pub fn read_way_data(
         latitudes,
         longitudes,
     );
-    WayDataRead::Value(s, end)
+    WayDataWritten::Value(s, end)
 }

@@ -1,30 +1,24 @@
--- What the stream shows of a way's fields is told by what is handed out of them and the map; and a body is its fields, then its data.
+-- The texts of a way's fields are parts of the map; and a body is its fields, then its data.
 use Prim.Native.Nat.{ℕ}
 use mathlib.Core.Path.{_≡_, refl}
 use mathlib.Core.List.{List}
 use Rattle.parsing.specs.Parse.{Res, ok, no, andThen, mapRes, byte, optional}
 use Rattle.format.specs.Header.{bit}
 use Rattle.format.specs.WayData.{node, wayData}
-use Rattle.format.specs.Streamed.{streamedFields}
 use Rattle.format.specs.Tile.{WayFields, wayFields, dataBlockCount, Body, body}
-use Rattle.fields.proofs.StreamLaws.{Gives, any, gives-bind, gives-return, Within, optional-within, streamed-view}
-use Rattle.way_fields.specs.WayFields.{BodyHead, bodyHead, wayFieldsOf, streamedWayFields}
+use Rattle.fields.proofs.StreamLaws.{Gives, any, gives-bind, gives-return, Within, optional-within}
+use Rattle.way_fields.specs.WayFields.{BodyHead, bodyHead}
 
 -- the three texts are parts of the map
-record Texts (m : List ℕ) (f : WayFields) : Type 0 where
-  name : Within m (f .name)
-  houseNumber : Within m (f .houseNumber)
-  reference : Within m (f .reference)
+pub record Texts (m : List ℕ) (f : WayFields) : Type 0 where
+  pub name : Within m (f .name)
+  pub houseNumber : Within m (f .houseNumber)
+  pub reference : Within m (f .reference)
 
-fields-within : (m : List ℕ) → Gives m wayFields (Texts m)
+pub fields-within : (m : List ℕ) → Gives m wayFields (Texts m)
 unfolding wayFields
 fields-within m =
     gives-bind m (any m byte) λ f _. gives-bind m (optional-within m (bit 7 f)) λ n a. gives-bind m (optional-within m (bit 6 f)) λ h b. gives-bind m (optional-within m (bit 5 f)) λ r c. gives-bind m (any m (optional (bit 4 f) node)) λ l _. gives-return m _ (Texts m) (record { name = a; houseNumber = b; reference = c })
-
-pub fields-streamed : (m : List ℕ) (i : ℕ) (f : WayFields) (e k : ℕ) → wayFields m i ≡ ok f e → streamedWayFields m (wayFieldsOf (record { fields = f; dataBlocks = k })) ≡ wayFieldsOf (record { fields = streamedFields f; dataBlocks = k })
-fields-streamed m i f e k h =
-    let w = fields-within m .holds i f e h in
-    rw (streamed-view m (f .name) (w .name), streamed-view m (f .houseNumber) (w .houseNumber), streamed-view m (f .reference) (w .reference))
 
 -- a body from its fields and data
 abbrev pub withData : BodyHead → ℕ → List ℕ → Res Body

@@ -20,9 +20,8 @@ use Rattle.types.specs.declared.OptionalSpan.{OptionalSpan}
 use Rattle.types.specs.declared.Position.{Position}
 use Rattle.types.specs.declared.OptionalPosition.{OptionalPosition}
 use Rattle.types.specs.declared.OptionalPosition.the-variants.{At}
-use Rattle.fields.specs.Fields.{streamedSpan}
 use Rattle.fields.proofs.FieldLaws as fields
-use Rattle.way_fields.specs.WayFields.{labelRes, labelRefusal, announcedOf, announcedRes, announcedRefusal, wayFieldsOf, wayFieldsRes, wayFieldsRefusal, streamedWayFields}
+use Rattle.way_fields.specs.WayFields.{labelRes, labelRefusal, announcedOf, announcedRes, announcedRefusal, wayFieldsOf, wayFieldsRes, wayFieldsRefusal}
 use Rattle.way_fields.specs.declared.WayFields.{WayFields}
 use Rattle.way_fields.specs.declared.WayFieldsRead.the-variants as fields-read
 use Rattle.way_fields.specs.declared.LabelRead.the-variants as label
@@ -77,11 +76,6 @@ pub fields-made : (v : Announced) (a : format.WayFields) (k n : ℕ) → v ≡ a
 fields-made v a k n h = rw h
 
 pub ruleset bodies = (needs, then-then, announced-ok, announced-no, blocks-ok, blocks-no, fields-made)
-
-pub streamed-made : (m : List ℕ) (f : WayFields) (s t u : OptionalSpan) → s ≡ streamedSpan m (f .name) → t ≡ streamedSpan m (f .«house_number») → u ≡ streamedSpan m (f .reference) → _≡_ {A = WayFields} (record { name = s; «house_number» = t; reference = u; «label_position» = f .«label_position»; «double_delta» = f .«double_delta»; «data_blocks» = f .«data_blocks» }) (streamedWayFields m f)
-streamed-made m f s t u h k q = rw (h, k, q)
-
-pub ruleset streams = (needs, streamed-made)
 
 pub way-fields-ok : {B : Type 0} → ViewPasses B wayFieldsRes wayFieldsOf fields-read.Value
 way-fields-ok = view-passes _ wayFieldsRes wayFieldsOf fields-read.Value (λ v n. refl)

@@ -1,17 +1,13 @@
 -- The fields of a way behind its tag values as they are handed out (document 01, way.rs), from what is stored.
 use Prim.Native.Nat.{ℕ}
-use mathlib.Core.List.{List}
-use Rattle.parsing.specs.Parse.{Res, ok, Parser, _>>=_, return, Maybe, none, some}
+use Rattle.parsing.specs.Parse.{Res, ok, Parser, _>>=_, return}
 use Rattle.error.specs.Refusals.{refused}
 use Rattle.error.specs.declared.Refusal.{Refusal}
 use Rattle.error.specs.declared.Refusal.the-variants.{Source}
-use Rattle.format.specs.WayData.{Node}
 use Rattle.format.specs.Tile as format
 use Rattle.format.specs.Tile.{wayFields, dataBlockCount, doubleDelta}
 use Rattle.types.specs.Types.{optionalSpan, optionalPosition}
 use Rattle.types.specs.declared.OptionalPosition.{OptionalPosition}
-use Rattle.types.specs.declared.OptionalPosition.the-variants.{Absent, At}
-use Rattle.fields.specs.Fields.{streamedSpan}
 use Rattle.way_fields.specs.declared.WayFields.{WayFields}
 use Rattle.way_fields.specs.declared.WayFieldsRead.{WayFieldsRead}
 use Rattle.way_fields.specs.declared.WayFieldsRead.the-variants as fields
@@ -49,17 +45,6 @@ wayFieldsRes (fields.Refused r) = refused r
 abbrev pub wayFieldsRefusal : WayFieldsRead → Refusal
 wayFieldsRefusal (fields.Value v n) = Source
 wayFieldsRefusal (fields.Refused r) = r
-
--- as the stream shows them: each text that is not valid UTF-8 is empty
-abbrev pub streamedWayFields : List ℕ → WayFields → WayFields
-streamedWayFields m f = record {
-  name = streamedSpan m (f .name);
-  «house_number» = streamedSpan m (f .«house_number»);
-  reference = streamedSpan m (f .reference);
-  «label_position» = f .«label_position»;
-  «double_delta» = f .«double_delta»;
-  «data_blocks» = f .«data_blocks»;
-}
 
 -- the answers on the way
 abbrev pub labelRes : LabelRead → Res OptionalPosition

@@ -12,7 +12,7 @@ ghost use Rattle.format.specs.WayData.{node};
 ghost use Rattle.format.specs.Tile.{wayFields, dataBlockCount};
 ghost use Rattle.types.specs.Types.{optionalPosition};
 ghost use Rattle.byte_source.specs.Answers.{numberRes};
-ghost use Rattle.way_fields.specs.WayFields.{labelRes, labelRefusal, announcedOf, announcedRes, announcedRefusal, bodyHead, wayFieldsOf, wayFieldsRes, wayFieldsRefusal, streamedWayFields};
+ghost use Rattle.way_fields.specs.WayFields.{labelRes, labelRefusal, announcedOf, announcedRes, announcedRefusal, bodyHead, wayFieldsOf, wayFieldsRes, wayFieldsRefusal};
 
 // A way's texts are raw parts of the map. `data_blocks` data blocks follow.
 pub struct WayFields {
@@ -20,8 +20,8 @@ pub struct WayFields {
     pub house_number: OptionalSpan,
     pub reference: OptionalSpan,
     pub label_position: OptionalPosition,
-    pub double_delta: bool,
     pub data_blocks: u64,
+    pub double_delta: bool,
 }
 
 pub enum WayFieldsRead {
@@ -161,25 +161,4 @@ pub fn read_way_fields(map: &[u8], at: usize) -> WayFieldsRead
         },
         at,
     )
-}
-
-// The fields of a way as they are streamed.
-pub fn streamed_way_fields(map: &[u8], fields: WayFields) -> WayFields
-    ensures { λ r. ⌜ r ≡ streamedWayFields (now (map .entry)) fields ⌝ }
-{
-    let stored = fields.name;
-    let name = fields::streamed_span(map, stored);
-    let stored = fields.house_number;
-    let house_number = fields::streamed_span(map, stored);
-    let stored = fields.reference;
-    let reference = fields::streamed_span(map, stored);
-    let label_position = fields.label_position;
-    WayFields {
-        name,
-        house_number,
-        reference,
-        label_position,
-        double_delta: fields.double_delta,
-        data_blocks: fields.data_blocks,
-    }
 }

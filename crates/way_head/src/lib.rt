@@ -20,9 +20,9 @@ pub struct WayHead {
     pub signature: OptionalSpan,
     pub size: u64,
     pub start: usize,
+    pub tag_ids: TagIds,
     pub bitmap: u16,
     pub layer: i8,
-    pub tag_ids: TagIds,
 }
 
 // A head, and where the way's body starts.

@@ -15,7 +15,7 @@ use Rattle.format.specs.BodyLists.{bodyLists}
 use Rattle.format.specs.Tile.{body}
 use Rattle.way.specs.Way.{bodyOf, bodyReply}
 use Rattle.way.specs.declared.WayBody.{WayBody}
-use Rattle.way.specs.declared.WayBodyRead.{WayBodyRead}
+use Rattle.way.specs.declared.WayBodyWritten.{WayBodyWritten}
 use Rattle.way_data.specs.Reply.{lent}
 use Rattle.initial_positions.specs.Initial.{writeInitials}
 use Rattle.way_lists.specs.WayLists.{ListsWritten}
@@ -41,7 +41,7 @@ module _ (m : List ℕ) (p : ListPlan) (c : List ℕ) (la lo il io : List Float)
   pub nothing-written : p .present ≡ false → ListsWritten m p c la lo il io c la lo il io
   nothing-written h = record { nodes = rw h; latitudes = rw h; longitudes = rw h }
 
-  pub lists-written : (g : WayBodyRead) (n : ℕ) (c′ : List ℕ) (la′ lo′ il′ io′ : List Float) → p .present ≡ true → bodyReply g c′ la′ lo′ ≡ deliver bodyOf bodyLists (body m (p .start)) (lent c la lo) → n ≡ min (p .blocks) (length c′)
+  pub lists-written : (g : WayBodyWritten) (n : ℕ) (c′ : List ℕ) (la′ lo′ il′ io′ : List Float) → p .present ≡ true → bodyReply g c′ la′ lo′ ≡ deliver bodyOf bodyLists (body m (p .start)) (lent c la lo) → n ≡ min (p .blocks) (length c′)
       → il′ ≡ writeInitials (take n c′) la′ il → io′ ≡ writeInitials (take n c′) lo′ io → ListsWritten m p c la lo il io c′ la′ lo′ il′ io′
   lists-written g n c′ la′ lo′ il′ io′ h q e v w =
       let t : take n c′ ≡ take (p .blocks) c′ = ap (λ k. take k c′) e ∙ take-min c′ (p .blocks) in

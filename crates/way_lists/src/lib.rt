@@ -5,9 +5,9 @@ ghost use Rattle.way_lists.specs.WayLists.{ListsWritten};
 
 // Where a way's body starts and how many blocks it has. Of a way that is not present nothing is written.
 pub struct ListPlan {
-    pub present: bool,
     pub start: usize,
     pub blocks: usize,
+    pub present: bool,
 }
 
 fn shorter(a: usize, b: usize) -> usize

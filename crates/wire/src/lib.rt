@@ -1,15 +1,21 @@
 // Answers as words, for programs in other languages: refusals, and what may be absent. 1 stands in front of what is there; what is absent is
 // all 0.
 use error::Lengths;
+use error::LentRefusal;
 use error::Refusal;
+use poi::OptionalElevation;
 use types::OptionalPosition;
 use types::OptionalSpan;
 ghost use mathlib.Core.Path.{_≡_};
 ghost use mathlib.Core.Bool.{cond};
 ghost use Prim.Native.Nat.{_<_, _^_};
 ghost use lib.Signed.{mag};
+ghost use lib.ListN.{set};
+ghost use lib.Seq.{sets};
+ghost use Rattle.error.specs.Refusals.{numberOf, valuesOf, lentNumber, lentValues};
 ghost use Rattle.wire.specs.Wire.{truth};
-ghost use Rattle.wire.specs.Verdicts.{oneValue, noValues, valuesIn, spanWords, placeWords};
+ghost use Rattle.wire.specs.Elevation.{metreWords};
+ghost use Rattle.wire.specs.Verdicts.{valueList, spanWords, placeWords};
 
 pub struct SpanWords {
     pub present: u64,
@@ -23,57 +29,74 @@ pub struct PlaceWords {
     pub longitude: f64,
 }
 
-pub fn no_values() -> Lengths
-    ensures { λ r. ⌜ r ≡ noValues ⌝ }
-{
-    Lengths {
-        list1: 0,
-        list2: 0,
-        list3: 0,
-        list4: 0,
-        list5: 0,
-        buffer: 0,
-    }
+// 1 in front of an elevation in metres; 0 and 0 where it is absent.
+pub struct MetreWords {
+    pub present: u64,
+    pub metres: i64,
 }
 
-fn one_value(value: u64) -> Lengths
-    ensures { λ r. ⌜ r ≡ oneValue value ⌝ }
-{
-    Lengths {
-        list1: value,
-        list2: 0,
-        list3: 0,
-        list4: 0,
-        list5: 0,
-        buffer: 0,
-    }
+// A refusal's value, if it has one.
+enum OptionalValue {
+    Absent,
+    At(u64),
 }
 
-// The values of a refusal, zeros behind them.
-pub fn values_of(refusal: Refusal) -> Lengths
-    ensures { λ r. ⌜ r ≡ valuesIn refusal ⌝ }
+fn value_of(refusal: Refusal) -> OptionalValue
+    ensures { λ r. ⌜ valueList r ≡ valuesOf refusal ⌝ }
 {
     match refusal {
-        Refusal::UnsupportedVersion(version) => one_value(version as u64),
-        Refusal::InvalidTagId(id) => one_value(id),
-        Refusal::IndexCutOff(place) => one_value(place),
-        Refusal::TileHeadCutOff(place) => one_value(place),
-        Refusal::TooShort(lengths) => lengths,
-        Refusal::Source => no_values(),
-        Refusal::InvalidMagic => no_values(),
-        Refusal::InvalidBoundingBox => no_values(),
-        Refusal::InvalidHeaderSize => no_values(),
-        Refusal::InvalidIndexSignature => no_values(),
-        Refusal::InvalidTileIndex => no_values(),
-        Refusal::TextTooLong => no_values(),
-        Refusal::TooManyNodes => no_values(),
-        Refusal::NumberTooLong => no_values(),
-        Refusal::CoordinateTooLarge => no_values(),
-        Refusal::ReversedInterval => no_values(),
-        Refusal::InvalidGrid => no_values(),
-        Refusal::OutOfTurn => no_values(),
-        Refusal::InvalidFeature => no_values(),
-        Refusal::ZoomTooLarge => no_values(),
+        Refusal::UnsupportedVersion(version) => OptionalValue::At(version as u64),
+        Refusal::InvalidTagId(id) => OptionalValue::At(id),
+        Refusal::IndexCutOff(place) => OptionalValue::At(place),
+        Refusal::TileHeadCutOff(place) => OptionalValue::At(place),
+        _ => OptionalValue::Absent,
+    }
+}
+
+// A word, where there is one at that place.
+fn put(words: &mut [u64], at: usize, value: u64)
+    ensures { λ r. ⌜ now (words .exit) ≡ set (now (words .entry)) at value ⌝ }
+{
+    if at < words.len() {
+        words[at] = value;
+    }
+}
+
+// A refusal: its number, and its value to the first word. The other words keep their values.
+pub fn put_refusal(refusal: Refusal, words: &mut [u64]) -> u64
+    ensures { λ r. ⌜ (r ≡ numberOf refusal) × (now (words .exit) ≡ sets (now (words .entry)) 0 (valuesOf refusal)) ⌝ }
+{
+    let number = error::number_of(refusal) as u64;
+    let found = value_of(refusal);
+    let OptionalValue::At(value) = found else {
+        return number;
+    };
+    put(words, 0, value);
+    number
+}
+
+// The lengths needed, to the first six words.
+fn put_lengths(lengths: Lengths, words: &mut [u64])
+    ensures { λ r. ⌜ now (words .exit) ≡ sets (now (words .entry)) 0 (lentValues (LentRefusal.Short lengths)) ⌝ }
+{
+    put(words, 0, lengths.list1);
+    put(words, 1, lengths.list2);
+    put(words, 2, lengths.list3);
+    put(words, 3, lengths.list4);
+    put(words, 4, lengths.list5);
+    put(words, 5, lengths.buffer);
+}
+
+// The same of a call that is lent lists or a buffer.
+pub fn put_lent_refusal(refusal: LentRefusal, words: &mut [u64]) -> u64
+    ensures { λ r. ⌜ (r ≡ lentNumber refusal) × (now (words .exit) ≡ sets (now (words .entry)) 0 (lentValues refusal)) ⌝ }
+{
+    match refusal {
+        LentRefusal::Refused(r) => put_refusal(r, words),
+        LentRefusal::Short(lengths) => {
+            put_lengths(lengths, words);
+            15
+        }
     }
 }
 
@@ -107,6 +130,21 @@ pub fn place_words(place: OptionalPosition) -> PlaceWords
             present: 1,
             latitude: p.latitude,
             longitude: p.longitude,
+        },
+    }
+}
+
+pub fn metre_words(elevation: OptionalElevation) -> MetreWords
+    ensures { λ r. ⌜ r ≡ metreWords elevation ⌝ }
+{
+    match elevation {
+        OptionalElevation::Absent => MetreWords {
+            present: 0,
+            metres: 0,
+        },
+        OptionalElevation::At(m) => MetreWords {
+            present: 1,
+            metres: wide_i32(m),
         },
     }
 }

@@ -6,24 +6,34 @@ use mathlib.Core.Bool.{Bool, true, false}
 use mathlib.Core.List.{List, [], _∷_}
 use native.Mathlib.Omega.{arith}
 use lib.ListN.{getD}
-use Rattle.parsing.specs.Parse.{Res, ok, no, andThen, mapRes, Part, Maybe, none, some, nth}
-use Rattle.parsing.specs.Good.{ok-val, no-ok}
+use lib.Seq.{sets}
+use Rattle.parsing.specs.Parse.{Res, ok, no, mapRes, Part, Maybe, none, some, nth}
+use Rattle.parsing.specs.Good.{ok-val, ok-at, no-ok}
 use Rattle.error.specs.Refusals.{numberOf}
 use Rattle.error.specs.declared.Refusal.{Refusal}
-use Rattle.format.specs.Header.{Interval, Header, opened}
+use Rattle.format.specs.Header.{Interval, Header, bit, opened}
 use Rattle.format.specs.Index.{answer}
+use Rattle.format.specs.IntervalTable.{startBefore, rowAt}
 use Rattle.format.specs.Lent.{LentLists, Reply}
 use Rattle.format.proofs.TagLaws.{opened-header}
+use Rattle.format.proofs.IntervalLaws.{opened-row}
 use Rattle.types.specs.Types.{endRes, intervalsOf, gridOf}
 use Rattle.types.specs.declared.Grid.{Grid}
 use Rattle.types.specs.declared.MapHeader.{MapHeader}
+use Rattle.types.specs.declared.HeaderFields.{HeaderFields}
+use Rattle.types.specs.declared.IntervalTable.{IntervalTable}
 use Rattle.types.specs.declared.End.{End}
 use Rattle.types.specs.declared.End.the-variants as end
-use Rattle.header.specs.HeaderView.{mapHeader, HeaderIs}
+use Rattle.header.specs.HeaderView.{mapHeader, emptyHeader, HeaderIs, FieldsAre}
+use Rattle.header.specs.declared.FieldsRead.{FieldsRead}
+use Rattle.header.specs.declared.FieldsRead.the-variants as fields
 use Rattle.header.specs.declared.HeaderRead.{HeaderRead}
 use Rattle.header.proofs.HeaderLaws.{intervals-back}
 use Rattle.index.specs.Answers.{intervalFound}
+use Rattle.index.specs.declared.IntervalRead.{IntervalRead}
+use Rattle.index.specs.declared.IntervalRead.the-variants as interval-read
 use Rattle.tile_layout.specs.TileLayout.{layoutOf}
+use Rattle.tile_layout.specs.declared.TileLayout.{TileLayout}
 use Rattle.agreement.specs.Calls.{Call}
 use Rattle.visit.specs.Visit.{ShownAnswer, nextAnswer, acceptAnswer, declineAnswer}
 use Rattle.visit.specs.declared.Stream.{Stream}
@@ -35,30 +45,35 @@ use Rattle.visit.specs.declared.Accepted.{Accepted}
 use Rattle.visit.specs.declared.Declined.{Declined}
 use Rattle.visit.specs.declared.StreamedHead.{StreamedHead}
 use Rattle.poi.specs.declared.Poi.{Poi}
-use Rattle.tile.specs.declared.TileAnswer.{TileAnswer}
+use Rattle.types.specs.Beside.{viewOr}
+use Rattle.tile.specs.Tile.{shownTile, collectTile, TileIs, summaryOf, summaryRes, rowsOfTile, rowPoints, rowWays}
+use Rattle.tile.specs.declared.Tile.{Tile}
+use Rattle.tile.specs.declared.TileSummary.{TileSummary}
+use Rattle.tile.specs.declared.SummaryRead.{SummaryRead}
+use Rattle.tile.specs.declared.SummaryRead.the-variants as summary
 use Rattle.tile.specs.declared.TileAnswer.the-variants as tile-answer
-use Rattle.tile.specs.declared.TileRead.{TileRead}
-use Rattle.on_map.specs.OnMap.{asked, intervalRes}
-use Rattle.on_map.specs.declared.IntervalAnswer.{IntervalAnswer}
-use Rattle.on_map.specs.declared.IntervalAnswer.the-variants as interval
-use Rattle.wire.specs.Wire.{Wire, wire, received, there}
-use Rattle.wire.specs.Codecs.{settled}
-use Rattle.elevation_wire.specs.Elevation.{listOf}
-use Rattle.header_wire.specs.Header.{headerWire, layoutWords, layoutIn, endNumber}
-use Rattle.header_wire.specs.Codecs.{layout-back}
-use Rattle.index_wire.specs.Index.{intervalNumber, intervalRow, intervalIn, entryWire}
+use Rattle.zoom_intervals.specs.Rows.{tableBefore, rowRes}
+use Rattle.zoom_intervals.specs.declared.IntervalAnswer.{IntervalAnswer}
+use Rattle.zoom_intervals.specs.declared.IntervalAnswer.the-variants as interval
+use Rattle.wire.specs.Wire.{Wire, Crosses, lending, listOf, received, there}
+use Rattle.wire.specs.Codecs.{refusalIn, settled, truth-back}
+use Rattle.wire.specs.Spread.{spreadWire, spread-out}
+use Rattle.header_wire.specs.Header.{headerWire, layoutWords, layoutIn, intervalsIn}
+use Rattle.header_wire.specs.Codecs.{HeaderLent, headerIn, headerCodec}
+use Rattle.index_wire.specs.Index.{intervalWire, intervalIn, entryWire}
+use Rattle.index_wire.specs.Codecs.{entryIn, entryCodec}
 use Rattle.stream_wire.specs.Streams.{streamIn, openedWire, nextWire, acceptWire, declineWire}
-use Rattle.stream_wire.specs.Codecs.{stream-back, shownOf, seen, Seen, nextIn, nextDecoder, acceptIn, acceptSeen, acceptDecoder, declineIn, declineSeen, declineDecoder}
-use Rattle.feature_wire.specs.Features.{tileWire, tileNumber}
-use Rattle.feature_wire.specs.Codecs.{tileIn, tileCodec}
-use Rattle.exports.specs.Calls.{StreamOf, NextOf, AcceptOf, DeclineOf, TileOf}
+use Rattle.stream_wire.specs.Codecs.{OpenedLent, opened-back, shownOf, seen, Seen, nextIn, nextDecoder, acceptIn, acceptSeen, acceptDecoder, declineIn, declineSeen, declineDecoder}
+use Rattle.feature_wire.specs.Features.{tileWire}
+use Rattle.feature_wire.specs.Codecs.{summaryIn, tileIn, tileCodec}
+use Rattle.exports.specs.Calls.{LentRows, StreamOf, NextOf, AcceptOf, DeclineOf, EntryOf, TileOf}
 use Rattle.map_agreement.specs.Called.{Called}
 use Rattle.map_agreement.specs.Called as called
-use Rattle.map_agreement.specs.BookSays.{Collected, Opens, opens, Sees}
+use Rattle.map_agreement.specs.BookSays.{BookSays, Opens, opens, Sees}
 use Rattle.map_agreement.proofs.Theorem.{book-says}
 use Rattle.word_agreement.specs.WordCalls.{shownAnswer, WordCalled, no-call, call-next, call-accept, call-decline, WordStreams}
-use Rattle.word_agreement.specs.WordBook.{WordAnswers, WordCollected, WordSees, WordBook}
-use Rattle.word_agreement.proofs.ZoomBytes.{Zooms, zooms-at, header-zooms}
+use Rattle.word_agreement.specs.WordBook.{IntervalLent, TileLent, ShowsTile, WordAnswers, WordCollected, WordSees, WordBook}
+use Rattle.word_agreement.proofs.ZoomBytes.{Zooms, zooms-at, header-zooms, header-few}
 use Rattle.word_agreement.proofs.Kept.{next-kept, accept-kept, decline-kept}
 
 -- what a next shows is its answer
@@ -77,31 +92,31 @@ answered-as {m = m} {l = l} {s = s} {cs = cs} {v = v} {rs = rs} e c = subst (λ 
 
 pub word-called : (m layout s : List ℕ) (cs : List Call) (rs : List (Reply ShownAnswer)) → WordCalled m layout s cs rs → Called m (layoutIn layout) (streamIn s) cs rs
 word-called m layout s cs rs no-call = called.no-call
-word-called m layout s cs rs (call-next n words ids left signed degrees {cs = ds} {rs = qs} x c) =
+word-called m layout s cs rs (call-next words ids signed degrees after {cs = ds} {rs = qs} h x c) =
     let a = x .answer in
-    let w = wire n (words ∷ ids ∷ left ∷ []) signed degrees in
-    let q : nextIn w ≡ seen s a = received (nextWire s) (seen s) (nextDecoder s) (NextOf m (layoutIn layout) (streamIn s)) w x in
-    let e : streamIn left ≡ a .stream = ap (λ (y : Seen). y .stream) q ∙ next-kept m (layoutIn layout) (streamIn s) a (x .is) in
+    let w = lending (words ∷ ids ∷ s ∷ []) signed degrees in
+    let q : nextIn after ≡ seen w a = received (nextWire w) (seen w) (nextDecoder w h) (NextOf m (layoutIn layout) (streamIn s)) after x in
+    let e : streamIn (listOf after 2) ≡ a .stream = ap (λ (y : Seen). y .stream) q ∙ next-kept m (layoutIn layout) (streamIn s) a (x .is) in
     answered-as (sym (ap (λ (y : Seen). shownAnswer (y .shown)) q ∙ shown-next (a .answer) (a .poi) (a .head)))
-    (called.call-next a (x .is .each) (renamed e (word-called m layout left ds qs c)))
-word-called m layout s cs rs (call-accept n words left degrees before after {cs = ds} {rs = qs} x c) =
+    (called.call-next a (x .is) (renamed e (word-called m layout (listOf after 2) ds qs c)))
+word-called m layout s cs rs (call-accept words degrees after before left {cs = ds} {rs = qs} h x c) =
     let a = x .answer in
-    let w = wire n (words ∷ left ∷ []) [] degrees in
-    let q : acceptIn w ≡ acceptSeen s a = received (acceptWire s) (acceptSeen s) (acceptDecoder s) (AcceptOf m (streamIn s) before after) w x in
-    let e : streamIn left ≡ a .stream = ap (λ (y : Accepted). y .stream) q ∙ accept-kept m (layoutIn layout) (streamIn s) before after a (x .is) in
+    let w = lending (words ∷ s ∷ []) [] degrees in
+    let q : acceptIn after ≡ acceptSeen w a = received (acceptWire w) (acceptSeen w) (acceptDecoder w h) (AcceptOf m (streamIn s) before left) after x in
+    let e : streamIn (listOf after 1) ≡ a .stream = ap (λ (y : Accepted). y .stream) q ∙ accept-kept m (streamIn s) before left a (x .is) in
     answered-as (sym (ap (λ (y : Accepted). acceptAnswer (y .answer)) q))
-    (called.call-accept a (before .counts) (after .counts) (before .latitudes) (before .longitudes) (after .latitudes) (after .longitudes) (x .is .each) (renamed e (word-called m layout left ds qs c)))
-word-called m layout s cs rs (call-decline n words left {cs = ds} {rs = qs} x c) =
+    (called.call-accept a (before .counts) (left .counts) (before .latitudes) (before .longitudes) (left .latitudes) (left .longitudes) (x .is) (renamed e (word-called m layout (listOf after 1) ds qs c)))
+word-called m layout s cs rs (call-decline words after {cs = ds} {rs = qs} h x c) =
     let a = x .answer in
-    let w = wire n (words ∷ left ∷ []) [] [] in
-    let q : declineIn w ≡ declineSeen s a = received (declineWire s) (declineSeen s) (declineDecoder s) (DeclineOf (streamIn s)) w x in
-    let e : streamIn left ≡ a .stream = ap (λ (y : Declined). y .stream) q ∙ decline-kept m (layoutIn layout) (streamIn s) a (x .is) in
+    let w = lending (words ∷ s ∷ []) [] [] in
+    let q : declineIn after ≡ declineSeen w a = received (declineWire w) (declineSeen w) (declineDecoder w h) (DeclineOf (streamIn s)) after x in
+    let e : streamIn (listOf after 1) ≡ a .stream = ap (λ (y : Declined). y .stream) q ∙ decline-kept (streamIn s) a (x .is) in
     answered-as (sym (ap (λ (y : Declined). declineAnswer (y .answer)) q))
-    (called.call-decline a (x .is .each) (renamed e (word-called m layout left ds qs c)))
+    (called.call-decline a (x .is) (renamed e (word-called m layout (listOf after 1) ds qs c)))
 
 -- a refusal's number is not 0
 pub refusal-number : {C : Type 0} (r : Refusal) → 0 ≡ numberOf r → C
-refusal-number r q = absurd (told (ap (λ n. there n false true) q ∙ settled (λ _. true) false r))
+refusal-number r q = absurd (told (ap (λ n. there n false true) q ∙ settled (λ _. true) false 0 [] r))
   where
     isFalse : Bool → Type 0
     isFalse true = ⊥
@@ -110,158 +125,348 @@ refusal-number r q = absurd (told (ap (λ n. there n false true) q ∙ settled (
     told : false ≡ true → ⊥
     told e = subst isFalse e tt
 
--- an interval's words, by what is answered
-abbrev rowOf : Res (Maybe Interval) → List ℕ
-rowOf (ok none e) = 0 ∷ 0 ∷ 0 ∷ 0 ∷ 0 ∷ 0 ∷ []
-rowOf (ok (some z) e) = 1 ∷ z .base ∷ z .min ∷ z .max ∷ z .start ∷ z .size ∷ []
-rowOf (no k v) = 0 ∷ 0 ∷ 0 ∷ 0 ∷ 0 ∷ 0 ∷ []
+-- an interval as words say it, by what is answered
+abbrev readOf : Maybe Interval → IntervalRead
+readOf none = interval-read.Missing
+readOf (some z) = interval-read.At (record {
+  «base_zoom_level» = z .base % 256;
+  «min_zoom_level» = z .min % 256;
+  «max_zoom_level» = z .max % 256;
+  «sub_file_start» = z .start;
+  «sub_file_size» = z .size;
+})
 
-row-of : (a : IntervalAnswer) → intervalRow a ≡ rowOf (intervalRes a)
-row-of interval.Missing = refl
-row-of (interval.At z) = refl
-row-of (interval.Refused r) = refl
-
-row-taken : (i : Maybe Interval) → ((z : Interval) → i ≡ some z → Zooms z) → intervalFound (intervalIn (rowOf (answer i))) ≡ i
-row-taken none k = refl
-row-taken (some z) k =
+read-taken : (i : Maybe Interval) → ((z : Interval) → i ≡ some z → Zooms z) → intervalFound (readOf i) ≡ i
+read-taken none k = refl
+read-taken (some z) k =
     let t = k z refl in
     let a : z .base % 256 ≡ z .base = omega (arith, t .base) in
     let b : z .min % 256 ≡ z .min = omega (arith, t .min) in
     let c : z .max % 256 ≡ z .max = omega (arith, t .max) in
     rw (a, b, c) refl
 
--- and the call's number
-abbrev numberIn : Res (Maybe Interval) → ℕ
-numberIn (ok i e) = 0
-numberIn (no k v) = k
+-- an answer about a row that is there, or of which there is none
+module _ (w : Wire) (h : IntervalLent w) (i : Maybe Interval) where
+  row-number : (a : IntervalAnswer) → rowRes a ≡ answer i → intervalWire w a .number ≡ 0
+  row-number interval.Missing q = refl
+  row-number (interval.At z) q = refl
+  row-number (interval.Refused r) q = no-ok q
 
-number-in : (a : IntervalAnswer) → intervalNumber a ≡ numberIn (intervalRes a)
-number-in interval.Missing = refl
-number-in (interval.At z) = refl
-number-in (interval.Refused r) = refl
+  row-read : (a : IntervalAnswer) → rowRes a ≡ answer i → intervalIn (listOf (intervalWire w a) 1) ≡ readOf i
+  row-read a q = spread-out (6 ∷ 6 ∷ []) 0 0 w h (λ v. intervalIn (listOf (intervalWire v a) 1) ≡ readOf i) (go a q)
+    where
+      go : (a : IntervalAnswer) → rowRes a ≡ answer i → intervalIn (listOf (intervalWire (spreadWire (6 ∷ 6 ∷ []) 0 0 w) a) 1) ≡ readOf i
+      go interval.Missing q = ap readOf (ok-val q)
+      go (interval.At z) q = ap readOf (ok-val q)
+      go (interval.Refused r) q = no-ok q
 
--- the end of a header that was read, and what is asked of the header
-end-at : (x : End) → 0 ≡ endNumber x → (e : ℕ) × (x ≡ end.At e)
-end-at (end.At e) q = (e, refl)
-end-at (end.Refused r) q = refusal-number r q
+-- the header that is read with its intervals, by the one that crosses
+abbrev pub fieldsOf : MapHeader → HeaderFields
+fieldsOf h = record {
+  magic = h .magic;
+  «header_size» = h .«header_size»;
+  «file_version» = h .«file_version»;
+  «file_size» = h .«file_size»;
+  «creation_date» = h .«creation_date»;
+  «bounding_box» = h .«bounding_box»;
+  «tile_size» = h .«tile_size»;
+  projection = h .projection;
+  flags = h .flags;
+  «map_start_position» = h .«map_start_position»;
+  «start_zoom_level» = h .«start_zoom_level»;
+  «language_preference» = h .«language_preference»;
+  comment = h .comment;
+  «created_by» = h .«created_by»;
+  «poi_tags» = h .«poi_tags»;
+  «way_tags» = h .«way_tags»;
+  «num_zoom_intervals» = h .«num_zoom_intervals»;
+}
 
-asked-of : (x : List ℕ) (h : HeaderRead) (e : ℕ) (f : MapHeader → Maybe Interval) → HeaderIs (opened x) h → h .end ≡ end.At e → asked x f ≡ answer (f (h .header))
-unfolding asked
-asked-of x h e f b q = go (opened x) b (ap (endRes (h .header)) (sym q) ∙ b .answer)
+abbrev pub fieldsRead : MapHeader → End → FieldsRead
+fieldsRead h (end.At e) = fields.Value (fieldsOf h) e
+fieldsRead h (end.Refused r) = fields.Refused r
+
+pub record Whole (x : List ℕ) (f : FieldsRead) : Type 0 where
+  pub read : HeaderRead
+  pub is : HeaderIs (opened x) read
+  pub same : f ≡ fieldsRead (read .header) (read .end)
+
+-- a refusal is the same, whatever there would have been
+abbrev unread : {A B : Type 0} → Res A → Res B
+unread (ok a e) = no 0 []
+unread (no n v) = no n v
+
+retyped : {A B : Type 0} {n k : ℕ} {v w : List ℕ} → _≡_ {A = Res A} (no n v) (no k w) → _≡_ {A = Res B} (no n v) (no k w)
+retyped e = ap unread e
+
+whole : (x : List ℕ) (f : FieldsRead) → FieldsAre (opened x) f → Whole x f
+whole x f k = go (opened x) refl f k
   where
-    go : (r : Res Header) → HeaderIs r h → ok (h .header) e ≡ mapRes mapHeader r → andThen r (λ k _. answer (f (mapHeader k))) ≡ answer (f (h .header))
-    go (ok k y) c d = ap (λ v. answer (f v)) (sym (c .whole))
-    go (no k v) c d = no-ok (sym d)
+    go : (r : Res Header) → opened x ≡ r → (f : FieldsRead) → FieldsAre r f → Whole x f
+    go (ok h e) o (fields.Value g n) k = record {
+      read = record { header = mapHeader h; end = end.At e };
+      is = rw o (record { answer = refl; whole = refl });
+      same = value-as (ok-val k) (ok-at k);
+    }
+      where
+        value-as : {a b : HeaderFields} {m n : ℕ} → a ≡ b → m ≡ n → fields.Value a m ≡ fields.Value b n
+        value-as p q = rw (p, q) refl
+    go (ok h e) o (fields.Refused r) k = no-ok k
+    go (no n v) o (fields.Value g m) k = no-ok (sym k)
+    go (no n v) o (fields.Refused r) k = record {
+      read = record { header = emptyHeader; end = end.Refused r };
+      is = rw o (record { answer = retyped k; whole = refl });
+      same = refl;
+    }
 
-tile-number : (a : TileAnswer) → 0 ≡ tileNumber a → a ≡ tile-answer.Collected
-tile-number tile-answer.Collected q = refl
-tile-number (tile-answer.Refused r) q = refusal-number r q
+-- a header that crossed without a refusal
+ends-at : (w : Wire) (h : MapHeader) (x : End) → headerWire w (fieldsRead h x) .number ≡ 0 → (e : ℕ) × (x ≡ end.At e)
+ends-at w h (end.At e) q = (e, refl)
+ends-at w h (end.Refused r) q = refusal-number r (sym q)
 
--- the words of the layout and of the interval, by the header
-module _ (x : List ℕ) (s n k : ℕ) (layout interval : List ℕ) (c : WordAnswers x s n k layout interval) where
-  layout-of : layout ≡ layoutWords (layoutOf (c .header .answer .header))
-  layout-of = ap (λ (v : Wire). listOf v 1) (c .header .crossed)
+number-at : (w : Wire) (h : MapHeader) (x : End) (e : ℕ) → x ≡ end.At e → headerWire w (fieldsRead h x) .number ≡ 0
+number-at w h x e q = rw q refl
 
-  number-of : n ≡ endNumber (c .header .answer .end)
-  number-of = ap (λ (v : Wire). v .number) (c .header .crossed)
+layout-words : (w : Wire) → HeaderLent w → (h : MapHeader) (x : End) (e : ℕ) → x ≡ end.At e → listOf (headerWire w (fieldsRead h x)) 1 ≡ layoutWords (fieldsOf h) e
+layout-words w k h x e q = rw q (spread-out (34 ∷ 7 ∷ []) 0 6 w k (λ v. listOf (headerWire v (fields.Value (fieldsOf h) e)) 1 ≡ layoutWords (fieldsOf h) e) refl)
 
-  module _ (e : ℕ) (q : c .header .answer .end ≡ end.At e) where
-    found-is : intervalRes (c .found .answer) ≡ answer (nth (intervalsOf (c .header .answer .header)) s)
-    found-is = c .found .is ∙ asked-of x (c .header .answer) e (λ h. nth (intervalsOf h) s) (c .header .is) q
+layout-taken : (h : MapHeader) (e : ℕ) → layoutIn (layoutWords (fieldsOf h) e) ≡ layoutOf h
+layout-taken h e = ap (λ (b : Bool). record { debug = b; «poi_tags» = h .«poi_tags»; «way_tags» = h .«way_tags» }) (truth-back (bit 7 (h .flags)))
 
-    interval-of : interval ≡ rowOf (answer (nth (intervalsOf (c .header .answer .header)) s))
-    interval-of = ap (λ (v : Wire). listOf v 1) (c .found .crossed) ∙ row-of (c .found .answer) ∙ ap rowOf found-is
+table-taken : (h : MapHeader) (e : ℕ) → h .«num_zoom_intervals» < 256 → intervalsIn (layoutWords (fieldsOf h) e) ≡ tableBefore e (h .«num_zoom_intervals»)
+table-taken h e few = ap (λ n. record { start = startBefore e (h .«num_zoom_intervals»); count = n }) (few-kept (h .«num_zoom_intervals») few)
+  where
+    few-kept : (n : ℕ) → n < 256 → n % 256 ≡ n
+    few-kept n l = omega arith
 
-    interval-number : k ≡ 0
-    interval-number = ap (λ (v : Wire). v .number) (c .found .crossed) ∙ number-in (c .found .answer) ∙ ap numberIn found-is
+-- the rows of a map that opened are the header's intervals
+rows-are : (x : List ℕ) (g : HeaderRead) (e s : ℕ) → HeaderIs (opened x) g → g .end ≡ end.At e
+    → rowAt (startBefore e (g .header .«num_zoom_intervals»)) (g .header .«num_zoom_intervals») s x ≡ answer (nth (intervalsOf (g .header)) s)
+rows-are x g e s k q = go (opened x) refl k (ap (endRes (g .header)) (sym q) ∙ k .answer)
+  where
+    go : (r : Res Header) → opened x ≡ r → HeaderIs r g → ok (g .header) e ≡ mapRes mapHeader r
+        → rowAt (startBefore e (g .header .«num_zoom_intervals»)) (g .header .«num_zoom_intervals») s x ≡ answer (nth (intervalsOf (g .header)) s)
+    go (ok h n) o c d = rw (c .whole, ok-at d) (opened-row x h n o s ∙ ap (λ l. answer (nth l s)) (sym (intervals-back h)))
+    go (no n v) o c d = no-ok (sym d)
+
+-- what the words of a map's header and of a sub file's interval say
+module _ (x : List ℕ) (s : ℕ) (header interval : Wire) (c : WordAnswers x s header interval) where
+  pub whole-of : Whole x (c .opens .answer)
+  whole-of = whole x (c .opens .answer) (c .opens .is)
+
+  crossed-as : header ≡ headerWire (c .headerBefore) (fieldsRead (whole-of .read .header) (whole-of .read .end))
+  crossed-as = c .opens .crossed ∙ ap (headerWire (c .headerBefore)) (whole-of .same)
+
+  ended : header .number ≡ 0 → (e : ℕ) × (whole-of .read .end ≡ end.At e)
+  ended q = ends-at (c .headerBefore) (whole-of .read .header) (whole-of .read .end) (sym (ap (λ (v : Wire). v .number) crossed-as) ∙ q)
+
+  module _ (e : ℕ) (q : whole-of .read .end ≡ end.At e) where
+    header-number : header .number ≡ 0
+    header-number = ap (λ (v : Wire). v .number) crossed-as ∙ number-at (c .headerBefore) (whole-of .read .header) (whole-of .read .end) e q
+
+    layout-of : listOf header 1 ≡ layoutWords (fieldsOf (whole-of .read .header)) e
+    layout-of = ap (λ (v : Wire). listOf v 1) crossed-as ∙ layout-words (c .headerBefore) (c .headerLent) (whole-of .read .header) (whole-of .read .end) e q
+
+    module _ (few : whole-of .read .header .«num_zoom_intervals» < 256) where
+      found-is : rowRes (c .finds .answer) ≡ answer (nth (intervalsOf (whole-of .read .header)) s)
+      found-is =
+          c .finds .is
+          ∙ ap (λ (t : IntervalTable). rowAt (t .start) (t .count) s x) (ap intervalsIn layout-of ∙ table-taken (whole-of .read .header) e few)
+          ∙ rows-are x (whole-of .read) e s (whole-of .is) q
+
+      interval-number : interval .number ≡ 0
+      interval-number = ap (λ (v : Wire). v .number) (c .finds .crossed) ∙ row-number (c .intervalBefore) (c .intervalLent) _ (c .finds .answer) found-is
+
+      interval-read-as : intervalIn (listOf interval 1) ≡ readOf (nth (intervalsOf (whole-of .read .header)) s)
+      interval-read-as = ap (λ (v : Wire). intervalIn (listOf v 1)) (c .finds .crossed) ∙ row-read (c .intervalBefore) (c .intervalLent) _ (c .finds .answer) found-is
+
+abbrev stream-in : OpenRead → Stream → Stream
+stream-in (open-read.Stream s) t = s
+stream-in (open-read.Refused r) t = t
+
+pub opened-stream : {s t : Stream} → open-read.Stream s ≡ open-read.Stream t → s ≡ t
+opened-stream {s} e = ap (λ o. stream-in o s) e
 
 -- a stream that opens, by words
 module _ (x : List ℕ) (s : ℕ) (grid : Grid) (number zoom : ℕ) (layout interval : List ℕ) (cs : List Call) (replied : List (Reply ShownAnswer))
     (streams : (o : OpenRead) → StreamOf x s number zoom (layoutIn layout) (intervalIn interval) grid o → Opens o)
     (replies : (st : Stream) → StreamOf x s number zoom (layoutIn layout) (intervalIn interval) grid (open-read.Stream st)
     → (rs : List (Reply ShownAnswer)) → Called x (layoutIn layout) st cs rs → rs ≡ replied) where
-  opens-at : (o : OpenRead) → Opens o → (n : ℕ) (before words state : List ℕ) → wire n (words ∷ state ∷ []) [] [] ≡ openedWire before o → n ≡ 0
-  opens-at o (opens st) n before words state q = ap (λ (v : Wire). v .number) q
+  opens-at : (before : Wire) (o : OpenRead) → Opens o → openedWire before o .number ≡ 0
+  opens-at before o (opens st) = refl
 
-  runs-on : (o : OpenRead) → Opens o → StreamOf x s number zoom (layoutIn layout) (intervalIn interval) grid o
-      → (n : ℕ) (before words state : List ℕ) → wire n (words ∷ state ∷ []) [] [] ≡ openedWire before o
-      → (rs : List (Reply ShownAnswer)) → WordCalled x layout state cs rs → rs ≡ replied
-  runs-on o (opens st) r n before words state q rs c =
-      replies st r rs (renamed (ap (λ (v : Wire). streamIn (listOf v 1)) q ∙ stream-back st) (word-called x layout state cs rs c))
+  runs-on : (before : Wire) → OpenedLent before → (o : OpenRead) → Opens o → StreamOf x s number zoom (layoutIn layout) (intervalIn interval) grid o
+      → (rs : List (Reply ShownAnswer)) → WordCalled x layout (listOf (openedWire before o) 1) cs rs → rs ≡ replied
+  runs-on before h o (opens st) r rs c =
+      replies st r rs (renamed (opened-stream (opened-back before h (open-read.Stream st))) (word-called x layout (listOf (openedWire before (open-read.Stream st)) 1) cs rs c))
 
   pub word-streams : WordStreams x s grid number zoom layout interval cs replied
   word-streams = record {
-    opens = λ n before words state c. opens-at (c .answer) (streams (c .answer) (c .is)) n before words state (c .crossed);
-    replies = λ n before words state c. runs-on (c .answer) (streams (c .answer) (c .is)) (c .is) n before words state (c .crossed);
+    opens = λ before after h c. ap (λ (v : Wire). v .number) (c .crossed) ∙ opens-at before (c .answer) (streams (c .answer) (c .is));
+    replies = λ before after h c rs k. runs-on before h (c .answer) (streams (c .answer) (c .is)) (c .is) rs (subst (λ (v : Wire). WordCalled x layout (listOf v 1) cs rs) (c .crossed) k);
   }
 
 -- what a program sees of a map, by words
-module _ (s : ℕ) (grid : Grid) (number : ℕ) (layout interval : List ℕ) (h : HeaderRead) (e : ℕ) (ends : h .end ≡ end.At e)
-    (a : layout ≡ layoutWords (layoutOf (h .header))) (b : interval ≡ rowOf (answer (nth (intervalsOf (h .header)) s))) where
+module _ (s : ℕ) (grid : Grid) (number : ℕ) (layout interval : List ℕ) (h : HeaderRead) (e : ℕ) (ends : h .end ≡ end.At e) (few : h .header .«num_zoom_intervals» < 256)
+    (a : layout ≡ layoutWords (fieldsOf (h .header)) e) (b : intervalIn interval ≡ readOf (nth (intervalsOf (h .header)) s)) where
   module _ (x : List ℕ) (zoom : ℕ) (cs : List Call) (replied : List (Reply ShownAnswer)) (spelled : List (List (Maybe Part)))
       (S : Sees x s (gridOf grid) number zoom h (layoutIn layout) (intervalFound (intervalIn interval)) cs replied spelled) where
     same-header : (g : HeaderRead) → HeaderIs (opened x) g → g ≡ h
     same-header g k = S .answers g (layoutOf (g .header)) (nth (intervalsOf (g .header)) s) (record { header = k; layout = refl; interval = refl }) .0
 
-    pub word-sees : WordSees x s grid number zoom h layout interval cs replied spelled
+    module _ (header found : Wire) (c : WordAnswers x s header found) where
+      abbrev g : HeaderRead
+      g = whole-of x s header found c .read
+
+      same : g ≡ h
+      same = same-header g (whole-of x s header found c .is)
+
+      g-ends : g .end ≡ end.At e
+      g-ends = ap (λ (y : HeaderRead). y .end) same ∙ ends
+
+      g-few : g .header .«num_zoom_intervals» < 256
+      g-few = subst (λ (y : HeaderRead). y .header .«num_zoom_intervals» < 256) (sym same) few
+
+      reads : headerIn header ≡ fieldsRead (h .header) (h .end)
+      reads =
+          received (headerWire (c .headerBefore)) (λ y. y) (headerCodec (c .headerBefore) (c .headerLent)) (FieldsAre (opened x)) header (c .opens)
+          ∙ whole-of x s header found c .same
+          ∙ ap (λ (y : HeaderRead). fieldsRead (y .header) (y .end)) same
+
+      agrees : (header .number ≡ 0) × (found .number ≡ 0) × (listOf header 1 ≡ layout) × (intervalIn (listOf found 1) ≡ intervalIn interval)
+      agrees = (
+        header-number x s header found c e g-ends,
+        interval-number x s header found c e g-ends g-few,
+        layout-of x s header found c e g-ends ∙ ap (λ (y : HeaderRead). layoutWords (fieldsOf (y .header)) e) same ∙ sym a,
+        interval-read-as x s header found c e g-ends g-few ∙ ap (λ (y : HeaderRead). readOf (nth (intervalsOf (y .header)) s)) same ∙ sym b,
+      )
+
+    pub word-sees : WordSees x s grid number zoom (fieldsRead (h .header) (h .end)) layout interval cs replied spelled
     word-sees = record {
-      opened = λ n k layout′ interval′ c. c .header .crossed ∙ ap headerWire (same-header (c .header .answer) (c .header .is));
-      answers = λ n k layout′ interval′ c.
-          let g = c .header .answer in
-          let q : g ≡ h = same-header g (c .header .is) in (
-            number-of x s n k layout′ interval′ c ∙ ap (λ (y : HeaderRead). endNumber (y .end)) q ∙ ap endNumber ends,
-            interval-number x s n k layout′ interval′ c e (ap (λ (y : HeaderRead). y .end) q ∙ ends),
-            layout-of x s n k layout′ interval′ c ∙ ap (λ (y : HeaderRead). layoutWords (layoutOf (y .header))) q ∙ sym a,
-            interval-of x s n k layout′ interval′ c e (ap (λ (y : HeaderRead). y .end) q ∙ ends) ∙ ap (λ (y : HeaderRead). rowOf (answer (nth (intervalsOf (y .header)) s))) q ∙ sym b,
-          );
+      opened = reads;
+      answers = agrees;
       streams = word-streams x s grid number zoom layout interval cs replied (S .streams) (S .replies);
       texts = S .texts;
     }
 
--- the interval that the words say is the header's
-interval-is : (m : List ℕ) (h : HeaderRead) (e s : ℕ) (interval : List ℕ) → ((j : ℕ) → getD m j 0 < 256) → HeaderIs (opened m) h → h .end ≡ end.At e
-    → interval ≡ rowOf (answer (nth (intervalsOf (h .header)) s)) → intervalFound (intervalIn interval) ≡ nth (intervalsOf (h .header)) s
-interval-is m h e s interval bytes k ends b =
-    ap (λ v. intervalFound (intervalIn v)) b
-    ∙ row-taken (nth (intervalsOf (h .header)) s) (go (opened m) refl (ap (endRes (h .header)) (sym ends) ∙ k .answer))
+-- the zooms of each interval of a map of bytes are bytes, and so is their number
+zooms-of : (m : List ℕ) (g : HeaderRead) (e s : ℕ) → ((j : ℕ) → getD m j 0 < 256) → HeaderIs (opened m) g → g .end ≡ end.At e → (z : Interval) → nth (intervalsOf (g .header)) s ≡ some z → Zooms z
+zooms-of m g e s bytes k q = go (opened m) refl (ap (endRes (g .header)) (sym q) ∙ k .answer)
   where
-    go : (r : Res Header) → opened m ≡ r → ok (h .header) e ≡ mapRes mapHeader r → (z : Interval) → nth (intervalsOf (h .header)) s ≡ some z → Zooms z
-    go (ok g y) o d z q = zooms-at (header-zooms m bytes 0 g y (opened-header m g y o)) s z (ap (λ l. nth l s) (sym (ap intervalsOf (ok-val d) ∙ intervals-back g)) ∙ q)
-    go (no n v) o d z q = no-ok (sym d)
+    go : (r : Res Header) → opened m ≡ r → ok (g .header) e ≡ mapRes mapHeader r → (z : Interval) → nth (intervalsOf (g .header)) s ≡ some z → Zooms z
+    go (ok h y) o d z p = zooms-at (header-zooms m bytes 0 h y (opened-header m h y o)) s z (ap (λ l. nth l s) (sym (ap intervalsOf (ok-val d) ∙ intervals-back h)) ∙ p)
+    go (no n v) o d z p = no-ok (sym d)
+
+few-of : (m : List ℕ) (g : HeaderRead) (e : ℕ) → ((j : ℕ) → getD m j 0 < 256) → HeaderIs (opened m) g → g .end ≡ end.At e → g .header .«num_zoom_intervals» < 256
+few-of m g e bytes k q = go (opened m) refl (ap (endRes (g .header)) (sym q) ∙ k .answer)
+  where
+    go : (r : Res Header) → opened m ≡ r → ok (g .header) e ≡ mapRes mapHeader r → g .header .«num_zoom_intervals» < 256
+    go (ok h y) o d = subst (λ (x : MapHeader). x .«num_zoom_intervals» < 256) (sym (ok-val d)) (header-few m bytes 0 h y (opened-header m h y o))
+    go (no n v) o d = no-ok (sym d)
+
+-- a tile that collects, by its words
+tile-value : (w : Wire) (r : SummaryRead) → tileWire w r .number ≡ 0 → (t : TileSummary) × (r ≡ summary.Value t)
+tile-value w (summary.Value t) q = (t, refl)
+tile-value w (summary.Refused r) q = refusal-number r (sym q)
+
+abbrev value-of : SummaryRead → TileSummary → TileSummary
+value-of (summary.Value t) d = t
+value-of (summary.Refused r) d = d
+
+read-as : (after : Wire) (t : TileSummary) → after .number ≡ 0 → tileIn after ≡ summary.Value t → summaryIn after ≡ t
+read-as after t n q =
+    let p : there 0 (summary.Value (summaryIn after)) (summary.Refused (refusalIn 0 (listOf after 0))) ≡ summary.Value t = subst (λ (k : ℕ). there k (summary.Value (summaryIn after)) (summary.Refused (refusalIn k (listOf after 0))) ≡ summary.Value t) n q in
+    ap (λ r. value-of r t) p
+
+-- the tile that was collected
+pub record Taken (stored : Res Tile) (t : TileSummary) : Type 0 where
+  pub tile : Tile
+  pub is : stored ≡ answer tile
+  pub same : t ≡ summaryOf tile
+
+taken : (stored : Res Tile) (t : TileSummary) → answer t ≡ mapRes summaryOf stored → Taken stored t
+taken (ok x e) t q = record { tile = x; is = ap (ok x) (sym (ok-at q)); same = ok-val q }
+taken (no n v) t q = no-ok (sym q)
+
+tile-is : (stored : Res Tile) (x : Tile) → stored ≡ answer x → TileIs stored (record { tile = x; answer = tile-answer.Collected })
+tile-is stored x q = rw q (record { answer = refl; whole = refl })
+
+rows-written : (stored : Res Tile) (f : Tile → List ℕ) (l k : List ℕ) (x : Tile) → stored ≡ answer x → k ≡ viewOr (λ t. sets l 0 (f t)) l stored → k ≡ sets l 0 (f x)
+rows-written stored f l k x q p = p ∙ ap (viewOr (λ t. sets l 0 (f t)) l) q
+
+module _ (m : List ℕ) (number : ℕ) (layout : TileLayout) (i : IntervalRead) (grid : Grid) (rows left : LentRows) (before after : Wire) (h : TileLent before)
+    (x : Crosses (tileWire before) (TileOf m number rows left layout i grid) after) where
+  tile-read : tileIn after ≡ x .answer
+  tile-read = received (tileWire before) (λ y. y) (tileCodec before h) (TileOf m number rows left layout i grid) after x
+
+  module _ (t : TileSummary) (v : x .answer ≡ summary.Value t) where
+    pub tile-of : Taken (collectTile layout (intervalFound i) (gridOf grid) number m) t
+    tile-of = taken _ t (sym (ap summaryRes v) ∙ x .is .answer)
+
+    pub shows-tile : ShowsTile (tile-of .tile) rows left after
+    shows-tile = record {
+      words = tile-read ∙ v ∙ ap summary.Value (tile-of .same);
+      points = rows-written _ (λ y. rowPoints (rowsOfTile y)) (rows .points) (left .points) (tile-of .tile) (tile-of .is) (x .is .points);
+      ways = rows-written _ (λ y. rowWays (rowsOfTile y)) (rows .ways) (left .ways) (tile-of .tile) (tile-of .is) (x .is .ways);
+    }
 
 -- Demand 3, from the contracts of the exported functions
-pub word-book : (m : List ℕ) (subFile : ℕ) (grid : Grid) (number : ℕ) (layout interval : List ℕ) → WordCollected m subFile grid number layout interval → WordBook m subFile grid number layout interval
-word-book m s grid number layout interval c =
+pub word-book : (m : List ℕ) (subFile : ℕ) (grid : Grid) (number : ℕ) (header interval : Wire) → WordCollected m subFile grid number header interval → WordBook m subFile grid number (listOf header 1) (listOf interval 1)
+word-book m s grid number header interval c =
     let n = c .answers in
-    let h = n .header .answer in
-    let t = c .tile .answer in
-    let ends = end-at (h .end) (number-of m s 0 0 layout interval n) in
-    let a = layout-of m s 0 0 layout interval n in
-    let b = interval-of m s 0 0 layout interval n (ends .0) (ends .1) in
-    let q : tileIn (wire 0 (c .words ∷ c .points ∷ c .ways ∷ []) [] []) ≡ t = received tileWire (λ y. y) tileCodec (TileOf m number (layoutIn layout) (intervalIn interval) grid) _ (c .tile) in
-    let says = book-says m s (gridOf grid) number h (layoutIn layout) (intervalIn interval) t (record {
+    let k = whole-of m s header interval n in
+    let h = k .read in
+    let layout = listOf header 1 in
+    let i = intervalIn (listOf interval 1) in
+    let ends = ended m s header interval n (c .opened) in
+    let few = few-of m h (ends .0) (c .bytes) (k .is) (ends .1) in
+    let a = layout-of m s header interval n (ends .0) (ends .1) in
+    let b = interval-read-as m s header interval n (ends .0) (ends .1) few in
+    let v = tile-value (c .before) (c .tile .answer) (sym (ap (λ (w : Wire). w .number) (c .tile .crossed)) ∙ c .collects) in
+    let t = tile-of m number (layoutIn layout) i grid (c .rows) (c .left) (c .before) (c .after) (c .lent) (c .tile) (v .0) (v .1) in
+    let read = tile-read m number (layoutIn layout) i grid (c .rows) (c .left) (c .before) (c .after) (c .lent) (c .tile) in
+    let says = book-says m s (gridOf grid) number h (layoutIn layout) i (record { tile = t .tile; answer = tile-answer.Collected }) (record {
       small = c .small;
       answers = record {
-        header = n .header .is;
-        layout = ap layoutIn a ∙ layout-back (layoutOf (h .header));
-        interval = interval-is m h (ends .0) s interval (c .bytes) (n .header .is) (ends .1) b;
+        header = k .is;
+        layout = ap layoutIn a ∙ layout-taken (h .header) (ends .0);
+        interval = ap intervalFound b ∙ read-taken (nth (intervalsOf (h .header)) s) (zooms-of m h (ends .0) s (c .bytes) (k .is) (ends .1));
       };
       headerEnd = ends .0;
       opens = ends .1;
-      tile = c .tile .is;
-      collects = tile-number (t .answer) (ap (λ (v : Wire). v .number) (c .tile .crossed));
-      exact = ap (λ (y : TileRead). y .tile .exact) (sym q) ∙ c .exact;
+      tile = tile-is _ (t .tile) (t .is);
+      collects = refl;
+      exact = ap (λ (y : TileSummary). y .exact) (sym (read-as (c .after) (v .0) (c .collects) (read ∙ v .1) ∙ t .same)) ∙ c .exact;
     }) in
-    let crosses = word-sees s grid number layout interval h (ends .0) (ends .1) a b in
+    let crosses = word-sees s grid number layout (listOf interval 1) h (ends .0) (ends .1) few a b in
     record {
       header = h;
+      fields = fieldsRead (h .header) (h .end);
       says = says;
-      shows = λ w x.
-          ap (λ (y : TileRead). y .tile) (received tileWire (λ y. y) tileCodec (TileOf m number (layoutIn layout) (intervalIn interval) grid) w x)
-          ∙ says .shows (x .answer) (x .is);
-      entry = λ w x. x .crossed ∙ ap entryWire (says .entry (x .answer) (x .is));
-      fetches = λ k lent left w x. record { answer = x .answer; is = says .fetches k lent left (x .answer) (x .is); crossed = x .crossed };
+      shows = λ rows left before after l x. shown-as m s grid number layout (listOf interval 1) h says t rows left before after l x;
+      entry = λ before after l x.
+          received (entryWire before) (λ y. y) (entryCodec before l) (EntryOf m number (layoutIn layout) i grid) after x
+          ∙ says .entry (x .answer) (x .is);
+      fetches = λ k lent left before after x. record { answer = x .answer; is = says .fetches k lent left (x .answer) (x .is); crossed = x .crossed };
       sees = λ zoom cs. crosses m zoom cs _ _ (says .sees zoom cs);
       altered = λ zoom cs m′ d. crosses m′ zoom cs _ _ (says .altered zoom cs m′ d);
       literal = λ zoom cs m′ w d. crosses m′ zoom cs _ _ (says .literal zoom cs m′ w d);
     }
+  where
+    -- whatever was lent, the tile that was collected is the one that the book is fed
+    shown-as : (m : List ℕ) (s : ℕ) (grid : Grid) (number : ℕ) (layout interval : List ℕ) (h : HeaderRead) (says : BookSays m s (gridOf grid) number h (layoutIn layout) (intervalFound (intervalIn interval)))
+        {u : TileSummary} → Taken (collectTile (layoutIn layout) (intervalFound (intervalIn interval)) (gridOf grid) number m) u
+        → (rows left : LentRows) (before after : Wire) → TileLent before → (x : Crosses (tileWire before) (TileOf m number rows left (layoutIn layout) (intervalIn interval) grid) after)
+        → ShowsTile (shownTile (says .tile)) rows left after
+    shown-as m s grid number layout interval h says {u} t rows left before after l x =
+        go (x .answer) refl
+      where
+        stored : Res Tile
+        stored = collectTile (layoutIn layout) (intervalFound (intervalIn interval)) (gridOf grid) number m
+
+        go : (r : SummaryRead) → x .answer ≡ r → ShowsTile (shownTile (says .tile)) rows left after
+        go (summary.Value y) v =
+            let k = tile-of m number (layoutIn layout) (intervalIn interval) grid rows left before after l x y v in
+            subst (λ (z : Tile). ShowsTile z rows left after) (says .shows (record { tile = k .tile; answer = tile-answer.Collected }) (tile-is _ (k .tile) (k .is)))
+            (shows-tile m number (layoutIn layout) (intervalIn interval) grid rows left before after l x y v)
+        go (summary.Refused r) v = no-ok (sym (ap summaryRes v) ∙ x .is .answer ∙ ap (mapRes summaryOf) (t .is))

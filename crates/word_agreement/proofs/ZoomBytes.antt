@@ -1,6 +1,6 @@
 -- In a map of bytes the zooms of each interval are bytes, so that an interval's words are taken as what they were handed out for.
 use Prim.Native.Nat.{ℕ, zero, suc, _+_, _<_}
-use mathlib.Core.Path.{_≡_, sym, ap, subst}
+use mathlib.Core.Path.{_≡_, sym, ap, subst, _∙_}
 use mathlib.Core.Bool.{Bool, true, false, cond}
 use mathlib.Core.List.{List, [], _∷_}
 use lib.Dec.{ltb, eqb}
@@ -84,3 +84,31 @@ module _ (m : List ℕ) (bytes : (j : ℕ) → getD m j 0 < 256) where
       kept : (c : Bool) (a : Header) (x : ℕ) → AllZooms (a .intervals) → cond c (no 5 []) (ok a x) ≡ ok h e → AllZooms (h .intervals)
       kept true a x k d = no-ok d
       kept false a x k d = subst (λ (y : Header). AllZooms (y .intervals)) (ok-val d) k
+
+  -- how many there are is a byte too
+  many-length : (n i : ℕ) (l : List Interval) (e : ℕ) → many interval n m i ≡ ok l e → length l ≡ n
+  many-length zero i l e h = ap length (sym (ok-val h))
+  many-length (suc n) i l e h =
+      let s = split (interval m i) (λ a x. andThen (many interval n m x) (λ r y. ok (a ∷ r) y)) l e h in
+      let t = split (many interval n m (s .mid)) (λ r y. ok (s .val ∷ r) y) l e (s .second) in
+      ap length (sym (ok-val (t .second))) ∙ ap suc (many-length n (s .mid) (t .val) (t .mid) (t .first))
+
+  intervals-few : (i : ℕ) (l : List Interval) (e : ℕ) → intervals m i ≡ ok l e → length l < 256
+  unfolding intervals
+  intervals-few i l e h =
+      let s = split (byte m i) (λ n x. many interval n m x) l e h in
+      subst (λ (n : ℕ). n < 256) (sym (many-length (s .val) (s .mid) l e (s .second))) (byte-below i (s .val) (s .mid) (s .first))
+
+  pub header-few : (i : ℕ) (h : Header) (e : ℕ) → header m i ≡ ok h e → length (h .intervals) < 256
+  unfolding header tables
+  header-few i h e q =
+      let f = split (front m i) _ h e q in
+      let o = split (options (f .val .flags) m (f .mid)) _ h e (f .second) in
+      let p = split (tags m (o .mid)) _ h e (o .second) in
+      let w = split (tags m (p .mid)) _ h e (p .second) in
+      let z = split (intervals m (w .mid)) _ h e (w .second) in
+      kept (eqb (f .val .preamble .size) 0) _ (z .mid) (intervals-few (w .mid) (z .val) (z .mid) (z .first)) (z .second)
+    where
+      kept : (c : Bool) (a : Header) (x : ℕ) → length (a .intervals) < 256 → cond c (no 5 []) (ok a x) ≡ ok h e → length (h .intervals) < 256
+      kept true a x k d = no-ok d
+      kept false a x k d = subst (λ (y : Header). length (y .intervals) < 256) (ok-val d) k

@@ -1,8 +1,8 @@
 -- Zooming in only adds, by words (specs/WordZooming.antt): what was seen by words was seen of the inner functions, and back.
 use Prim.Native.Nat.{ℕ}
-use mathlib.Core.Path.{_≡_, ap, _∙_}
+use mathlib.Core.Path.{_≡_, sym, ap, _∙_}
 use mathlib.Core.Bool.{Bool}
-use mathlib.Core.List.{List, [], _∷_}
+use mathlib.Core.List.{List}
 use Rattle.format.specs.Lent.{LentLists}
 use Rattle.types.specs.Types.{gridOf}
 use Rattle.types.specs.declared.Grid.{Grid}
@@ -12,24 +12,23 @@ use Rattle.index.specs.Answers.{intervalFound}
 use Rattle.agreement.specs.TileFormat.{TileEnd}
 use Rattle.visit.specs.declared.OpenRead.{OpenRead}
 use Rattle.visit.specs.declared.OpenRead.the-variants as open-read
-use Rattle.wire.specs.Wire.{Wire, wire}
-use Rattle.elevation_wire.specs.Elevation.{listOf}
+use Rattle.wire.specs.Wire.{Wire, listOf}
 use Rattle.header_wire.specs.Header.{layoutIn}
 use Rattle.index_wire.specs.Index.{intervalIn}
 use Rattle.stream_wire.specs.Streams.{streamIn, openedWire}
-use Rattle.stream_wire.specs.Codecs.{stream-back}
+use Rattle.stream_wire.specs.Codecs.{opened-back}
 use Rattle.exports.specs.Calls.{StreamOf}
 use Rattle.map_agreement.specs.ZoomingIn.{SeenWay, callsOf, repliesOf, Saw}
 use Rattle.map_agreement.proofs.ZoomingLaws.{zooming-says}
 use Rattle.word_agreement.specs.WordZooming.{WordSaw, WordZooming}
-use Rattle.word_agreement.proofs.Words.{renamed, refusal-number, word-called, word-streams}
+use Rattle.word_agreement.proofs.Words.{renamed, refusal-number, opened-stream, word-called, word-streams}
 
 module _ (m : List ℕ) (s : ℕ) (grid : Grid) (number zoom : ℕ) (layout interval : List ℕ) (rule : (bitmap : ℕ) → TagIds → Bool) (lists : List LentLists) (points : List Poi) (ways : List SeenWay) (z : TileEnd)
     (w : WordSaw m s grid number zoom layout interval rule lists points ways z) where
   saw : Saw m (layoutIn layout) (intervalFound (intervalIn interval)) s (gridOf grid) number zoom rule lists points ways z
   saw = go (w .opens .answer) (w .opens .is) (w .opens .crossed)
     where
-      go : (o : OpenRead) → StreamOf m s number zoom (layoutIn layout) (intervalIn interval) grid o → wire 0 (w .words ∷ w .state ∷ []) [] [] ≡ openedWire (w .before) o
+      go : (o : OpenRead) → StreamOf m s number zoom (layoutIn layout) (intervalIn interval) grid o → w .after ≡ openedWire (w .before) o
           → Saw m (layoutIn layout) (intervalFound (intervalIn interval)) s (gridOf grid) number zoom rule lists points ways z
       go (open-read.Stream st) i q = record {
         small = w .small;
@@ -37,10 +36,10 @@ module _ (m : List ℕ) (s : ℕ) (grid : Grid) (number zoom : ℕ) (layout inte
         opens = i;
         decides = w .decides;
         calls =
-            renamed (ap (λ (v : Wire). streamIn (listOf v 1)) q ∙ stream-back st)
-            (word-called m layout (w .state) (callsOf points ways) (repliesOf points ways z) (w .calls));
+            renamed (ap (λ (v : Wire). streamIn (listOf v 1)) q ∙ opened-stream (opened-back (w .before) (w .lent) (open-read.Stream st)))
+            (word-called m layout (listOf (w .after) 1) (callsOf points ways) (repliesOf points ways z) (w .calls));
       }
-      go (open-read.Refused r) i q = refusal-number r (ap (λ (v : Wire). v .number) q)
+      go (open-read.Refused r) i q = refusal-number r (sym (w .opened) ∙ ap (λ (v : Wire). v .number) q)
 
   pub word-zooming : WordZooming m s grid number zoom layout interval rule lists points ways z
   word-zooming =

@@ -4,14 +4,15 @@ use Prim.Native.Nat.{ℕ, _^_, _<_}
 use mathlib.Core.Path.{_≡_}
 use mathlib.Core.Bool.{true}
 use mathlib.Core.List.{List, [], _∷_}
-use lib.Ieee.{Float}
 use lib.ListN.{length, getD}
-use Rattle.parsing.specs.Parse.{Part, Maybe, nth}
+use lib.Seq.{sets}
+use Rattle.parsing.specs.Parse.{Part, Maybe}
 use Rattle.format.specs.Header.{opened}
 use Rattle.format.specs.Lent.{Reply}
-use Rattle.types.specs.Types.{intervalsOf, gridOf}
+use Rattle.types.specs.Types.{gridOf}
 use Rattle.types.specs.declared.Grid.{Grid}
-use Rattle.header.specs.HeaderView.{HeaderIs}
+use Rattle.header.specs.HeaderView.{FieldsAre}
+use Rattle.header.specs.declared.FieldsRead.{FieldsRead}
 use Rattle.header.specs.declared.HeaderRead.{HeaderRead}
 use Rattle.index.specs.Answers.{intervalFound, heldEntry}
 use Rattle.index.specs.declared.EntryRead.the-variants as entry-read
@@ -23,47 +24,72 @@ use Rattle.agreement.specs.Demand3.{mapReplies, WaysBehind, OnlyDeclined, MapAl
 use Rattle.visit.specs.Visit.{ShownAnswer}
 use Rattle.fetched.specs.Fetched.{FetchLists}
 use Rattle.fetch.specs.Fetch.{FeatureIs}
-use Rattle.on_map.specs.OnMap.{asked, intervalRes}
-use Rattle.wire.specs.Wire.{Wire, wire, Crosses}
-use Rattle.header_wire.specs.Header.{headerWire, layoutIn}
+use Rattle.wire.specs.Wire.{Wire, Lent, listOf, Crosses}
+use Rattle.header_wire.specs.Header.{headerWire, layoutIn, intervalsIn}
+use Rattle.header_wire.specs.Codecs.{HeaderLent, headerIn}
 use Rattle.index_wire.specs.Index.{intervalWire, intervalIn, entryWire}
+use Rattle.index_wire.specs.Codecs.{entryIn}
 use Rattle.feature_wire.specs.Features.{tileWire, fetchWire}
-use Rattle.feature_wire.specs.Codecs.{tileIn}
-use Rattle.exports.specs.Calls.{EntryOf, TileOf, FeatureOf}
+use Rattle.feature_wire.specs.Codecs.{summaryIn, tileIn}
+use Rattle.tile.specs.Tile.{shownTile, summaryOf, rowsOfTile, rowPoints, rowWays}
+use Rattle.tile.specs.declared.Tile.{Tile}
+use Rattle.tile.specs.declared.SummaryRead.the-variants as summary
+use Rattle.exports.specs.Calls.{LentRows, RowOf, EntryOf, TileOf, FeatureOf}
 use Rattle.map_agreement.specs.Texts.{textsFound}
 use Rattle.map_agreement.specs.TileView.{fetchGives}
-use Rattle.map_agreement.specs.MapsforgeMap.{shownIn, mapsforge}
+use Rattle.map_agreement.specs.MapsforgeMap.{mapsforge}
 use Rattle.map_agreement.specs.BookSays.{BookSays, fedTile, bookAt, textsAt}
 use Rattle.word_agreement.specs.WordCalls.{WordStreams}
 
--- the contracts of `mapsforge_open` and `mapsforge_interval` on the map x, which returned n and k: the layout's five words, the
--- interval's six
-pub record WordAnswers (x : List ℕ) (subFile n k : ℕ) (layout interval : List ℕ) : Type 0 where
-  pub words : List ℕ
-  pub degrees : List Float
-  pub header : Crosses headerWire (HeaderIs (opened x)) (wire n (words ∷ layout ∷ []) [] degrees)
-  pub verdict : List ℕ
-  pub found : Crosses intervalWire (λ a. intervalRes a ≡ asked x (λ h. nth (intervalsOf h) subFile)) (wire k (verdict ∷ interval ∷ []) [] [])
+abbrev pub IntervalLent : Wire → Type 0
+IntervalLent = Lent (6 ∷ 6 ∷ []) 0 0
+
+abbrev pub EntryLent : Wire → Type 0
+EntryLent = Lent (9 ∷ []) 0 0
+
+abbrev pub TileLent : Wire → Type 0
+TileLent = Lent (14 ∷ []) 0 0
+
+-- what `mapsforge_collect` left says this tile: its words, and its rows in front of the two lists
+pub record ShowsTile (t : Tile) (rows left : LentRows) (after : Wire) : Type 0 where
+  pub words : tileIn after ≡ summary.Value (summaryOf t)
+  pub points : left .points ≡ sets (rows .points) 0 (rowPoints (rowsOfTile t))
+  pub ways : left .ways ≡ sets (rows .ways) 0 (rowWays (rowsOfTile t))
+
+-- the contracts of `mapsforge_open` and `mapsforge_interval` on the map x, whatever words were lent to them: what they left there
+pub record WordAnswers (x : List ℕ) (subFile : ℕ) (header interval : Wire) : Type 0 where
+  pub headerBefore : Wire
+  pub headerLent : HeaderLent headerBefore
+  pub opens : Crosses (headerWire headerBefore) (FieldsAre (opened x)) header
+  pub intervalBefore : Wire
+  pub intervalLent : IntervalLent intervalBefore
+  pub finds : Crosses (intervalWire intervalBefore) (RowOf x subFile (intervalsIn (listOf header 1))) interval
 
 -- and that of `mapsforge_collect`: nothing was refused, and collecting said that every stored size is the decoded length. (A map is a
 -- list of bytes, and no lent map has 2 ^ 64 of them.)
-pub record WordCollected (m : List ℕ) (subFile : ℕ) (grid : Grid) (number : ℕ) (layout interval : List ℕ) : Type 0 where
+pub record WordCollected (m : List ℕ) (subFile : ℕ) (grid : Grid) (number : ℕ) (header interval : Wire) : Type 0 where
   pub small : length m < 2 ^ 64
   pub bytes : (j : ℕ) → getD m j 0 < 256
-  pub answers : WordAnswers m subFile 0 0 layout interval
-  pub words : List ℕ
-  pub points : List ℕ
-  pub ways : List ℕ
-  pub tile : Crosses tileWire (TileOf m number (layoutIn layout) (intervalIn interval) grid) (wire 0 (words ∷ points ∷ ways ∷ []) [] [])
-  pub exact : tileIn (wire 0 (words ∷ points ∷ ways ∷ []) [] []) .tile .exact ≡ true
+  pub answers : WordAnswers m subFile header interval
+  pub opened : header .number ≡ 0
+  pub found : interval .number ≡ 0
+  pub before : Wire
+  pub after : Wire
+  pub rows : LentRows
+  pub left : LentRows
+  pub lent : TileLent before
+  pub tile : Crosses (tileWire before) (TileOf m number rows left (layoutIn (listOf header 1)) (intervalIn (listOf interval 1)) grid) after
+  pub collects : after .number ≡ 0
+  pub exact : summaryIn after .exact ≡ true
 
 -- What such a program sees of a map at a zoom, when it makes the calls cs (compare `Sees` of map_agreement): however it opens the map, it
--- gets the words and degrees of header h, these layout words, and these interval words, and neither call is refused; the tile's stream
--- opens, and the calls get these replies
-pub record WordSees (x : List ℕ) (subFile : ℕ) (grid : Grid) (number zoom : ℕ) (h : HeaderRead) (layout interval : List ℕ) (cs : List Call)
+-- reads the header h, gets these layout words, and reads this interval, and neither call is refused; the tile's stream opens, and the
+-- calls get these replies
+pub record WordSees (x : List ℕ) (subFile : ℕ) (grid : Grid) (number zoom : ℕ) (h : FieldsRead) (layout interval : List ℕ) (cs : List Call)
     (replied : List (Reply ShownAnswer)) (spelled : List (List (Maybe Part))) : Type 0 where
-  pub opened : (n k : ℕ) (layout′ interval′ : List ℕ) (a : WordAnswers x subFile n k layout′ interval′) → wire n (a .words ∷ layout′ ∷ []) [] (a .degrees) ≡ headerWire h
-  pub answers : (n k : ℕ) (layout′ interval′ : List ℕ) → WordAnswers x subFile n k layout′ interval′ → (n ≡ 0) × (k ≡ 0) × (layout′ ≡ layout) × (interval′ ≡ interval)
+  pub opened : (header interval′ : Wire) → WordAnswers x subFile header interval′ → headerIn header ≡ h
+  pub answers : (header interval′ : Wire) → WordAnswers x subFile header interval′
+      → (header .number ≡ 0) × (interval′ .number ≡ 0) × (listOf header 1 ≡ layout) × (intervalIn (listOf interval′ 1) ≡ intervalIn interval)
   pub streams : WordStreams x subFile grid number zoom layout interval cs replied
   pub texts : textsFound x replied ≡ spelled
 
@@ -72,17 +98,20 @@ pub record WordSees (x : List ℕ) (subFile : ℕ) (grid : Grid) (number zoom : 
 -- its words such a program sees the book's replies, on this map, and on one of the same length that is altered in ways declined untried
 pub record WordBook (m : List ℕ) (subFile : ℕ) (grid : Grid) (number : ℕ) (layout interval : List ℕ) : Type 0 where
   pub header : HeaderRead
+  pub fields : FieldsRead
   pub says : BookSays m subFile (gridOf grid) number header (layoutIn layout) (intervalFound (intervalIn interval))
-  pub shows : (w : Wire) → Crosses tileWire (TileOf m number (layoutIn layout) (intervalIn interval) grid) w → tileIn w .tile ≡ shownIn subFile (gridOf grid) number (says .stored) (says .tile)
-  pub entry : (w : Wire) → Crosses entryWire (EntryOf m number (layoutIn layout) (intervalIn interval) grid) w → w ≡ entryWire (entry-read.Entry (heldEntry (says .place .entry)))
-  pub fetches : (k : ℕ) (lent left : FetchLists) (w : Wire) → Crosses fetchWire (FeatureOf m number k lent left (layoutIn layout) (intervalIn interval) grid) w
-      → Crosses fetchWire (λ r. FeatureIs (fetchGives (fetch (fedTile subFile (gridOf grid) number (says .stored) (says .place) (says .tile)) k)) lent r left) w
+  pub shows : (rows left : LentRows) (before after : Wire) → TileLent before → Crosses (tileWire before) (TileOf m number rows left (layoutIn layout) (intervalIn interval) grid) after
+      → ShowsTile (shownTile (says .tile)) rows left after
+  pub entry : (before after : Wire) → EntryLent before → Crosses (entryWire before) (EntryOf m number (layoutIn layout) (intervalIn interval) grid) after
+      → entryIn after ≡ entry-read.Entry (heldEntry (says .place .entry))
+  pub fetches : (k : ℕ) (lent left : FetchLists) (before after : Wire) → Crosses (fetchWire before) (FeatureOf m number k lent left (layoutIn layout) (intervalIn interval) grid) after
+      → Crosses (fetchWire before) (λ r. FeatureIs (fetchGives (fetch (fedTile subFile (gridOf grid) number (says .stored) (says .place) (says .tile)) k)) lent r left) after
   pub sees : (zoom : ℕ) (cs : List Call)
-      → WordSees m subFile grid number zoom header layout interval cs (bookAt subFile (gridOf grid) number (says .stored) (says .place) (says .tile) zoom cs) (textsAt subFile (gridOf grid) number (says .stored) (says .place) (says .tile) zoom cs)
+      → WordSees m subFile grid number zoom fields layout interval cs (bookAt subFile (gridOf grid) number (says .stored) (says .place) (says .tile) zoom cs) (textsAt subFile (gridOf grid) number (says .stored) (says .place) (says .tile) zoom cs)
   pub altered : (zoom : ℕ) (cs : List Call) (m′ : List ℕ)
       → DifferOnly m m′ (MapAlterable (mapsforge subFile (gridOf grid) number) m (says .stored) (says .tile) zoom cs (mapReplies (mapsforge subFile (gridOf grid) number) (says .stored) (says .place) (says .tile) zoom cs))
-      → WordSees m′ subFile grid number zoom header layout interval cs (bookAt subFile (gridOf grid) number (says .stored) (says .place) (says .tile) zoom cs) (textsAt subFile (gridOf grid) number (says .stored) (says .place) (says .tile) zoom cs)
+      → WordSees m′ subFile grid number zoom fields layout interval cs (bookAt subFile (gridOf grid) number (says .stored) (says .place) (says .tile) zoom cs) (textsAt subFile (gridOf grid) number (says .stored) (says .place) (says .tile) zoom cs)
   pub literal : (zoom : ℕ) (cs : List Call) (m′ : List ℕ)
       → WaysBehind (mapsforge subFile (gridOf grid) number .format (says .stored)) m (says .tile) (rowsAt (mapsforge subFile (gridOf grid) number) (says .stored) zoom)
       → DifferOnly m m′ (OnlyDeclined (mapsforge subFile (gridOf grid) number) m (says .stored) cs (mapReplies (mapsforge subFile (gridOf grid) number) (says .stored) (says .place) (says .tile) zoom cs))
-      → WordSees m′ subFile grid number zoom header layout interval cs (bookAt subFile (gridOf grid) number (says .stored) (says .place) (says .tile) zoom cs) (textsAt subFile (gridOf grid) number (says .stored) (says .place) (says .tile) zoom cs)
+      → WordSees m′ subFile grid number zoom fields layout interval cs (bookAt subFile (gridOf grid) number (says .stored) (says .place) (says .tile) zoom cs) (textsAt subFile (gridOf grid) number (says .stored) (says .place) (says .tile) zoom cs)

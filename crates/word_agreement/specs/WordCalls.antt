@@ -11,11 +11,11 @@ use Rattle.format.specs.Lent.{LentLists, Reply}
 use Rattle.types.specs.declared.Grid.{Grid}
 use Rattle.agreement.specs.Calls.{Call, next, accept, decline, gotPoint, gotHead, ended, refused, noLists}
 use Rattle.visit.specs.Visit.{ShownAnswer, endOf, acceptAnswer, declineAnswer}
-use Rattle.wire.specs.Wire.{wire, Crosses}
+use Rattle.wire.specs.Wire.{Wire, lending, listOf, Crosses}
 use Rattle.header_wire.specs.Header.{layoutIn}
 use Rattle.index_wire.specs.Index.{intervalIn}
 use Rattle.stream_wire.specs.Streams.{streamIn, openedWire, nextWire, acceptWire, declineWire}
-use Rattle.stream_wire.specs.Codecs.{Shown, aPoint, aWay, theEnd, aRefusal, nextIn, acceptIn, declineIn}
+use Rattle.stream_wire.specs.Codecs.{Shown, aPoint, aWay, theEnd, aRefusal, OpenedLent, NextLent, nextIn, AcceptLent, acceptIn, DeclineLent, declineIn}
 use Rattle.exports.specs.Calls.{StreamOf, NextOf, AcceptOf, DeclineOf}
 
 -- what a next shows, as an answer
@@ -25,26 +25,29 @@ shownAnswer (aWay h) = gotHead h
 shownAnswer (theEnd z) = ended (endOf z)
 shownAnswer (aRefusal r) = refused (numberOf r) (valuesOf r)
 
--- calls on the map m with these layout words, from these state words on, and the replies that the program read
+-- calls on the map m with these layout words, from these state words on, whatever other words were lent, and the replies that the program read
 pub data WordCalled (m layout : List ℕ) : List ℕ → List Call → List (Reply ShownAnswer) → Type 0 where
   no-call : {s : List ℕ} → WordCalled m layout s [] []
-  call-next : (n : ℕ) (words ids left : List ℕ) (signed : List ℤ) (degrees : List Float) {s : List ℕ} {cs : List Call} {rs : List (Reply ShownAnswer)}
-      → Crosses (nextWire s) (NextOf m (layoutIn layout) (streamIn s)) (wire n (words ∷ ids ∷ left ∷ []) signed degrees)
-      → WordCalled m layout left cs rs
-      → WordCalled m layout s (next ∷ cs) (record { answer = shownAnswer (nextIn (wire n (words ∷ ids ∷ left ∷ []) signed degrees) .shown); lists = noLists } ∷ rs)
-  call-accept : (n : ℕ) (words left : List ℕ) (degrees : List Float) (before after : LentLists) {s : List ℕ} {cs : List Call} {rs : List (Reply ShownAnswer)}
-      → Crosses (acceptWire s) (AcceptOf m (streamIn s) before after) (wire n (words ∷ left ∷ []) [] degrees)
-      → WordCalled m layout left cs rs
-      → WordCalled m layout s (accept before ∷ cs) (record { answer = acceptAnswer (acceptIn (wire n (words ∷ left ∷ []) [] degrees) .answer); lists = after } ∷ rs)
-  call-decline : (n : ℕ) (words left : List ℕ) {s : List ℕ} {cs : List Call} {rs : List (Reply ShownAnswer)}
-      → Crosses (declineWire s) (DeclineOf (streamIn s)) (wire n (words ∷ left ∷ []) [] [])
-      → WordCalled m layout left cs rs
-      → WordCalled m layout s (decline ∷ cs) (record { answer = declineAnswer (declineIn (wire n (words ∷ left ∷ []) [] []) .answer); lists = noLists } ∷ rs)
+  call-next : (words ids : List ℕ) (signed : List ℤ) (degrees : List Float) (after : Wire) {s : List ℕ} {cs : List Call} {rs : List (Reply ShownAnswer)}
+      → NextLent (lending (words ∷ ids ∷ s ∷ []) signed degrees)
+      → Crosses (nextWire (lending (words ∷ ids ∷ s ∷ []) signed degrees)) (NextOf m (layoutIn layout) (streamIn s)) after
+      → WordCalled m layout (listOf after 2) cs rs
+      → WordCalled m layout s (next ∷ cs) (record { answer = shownAnswer (nextIn after .shown); lists = noLists } ∷ rs)
+  call-accept : (words : List ℕ) (degrees : List Float) (after : Wire) (lists left : LentLists) {s : List ℕ} {cs : List Call} {rs : List (Reply ShownAnswer)}
+      → AcceptLent (lending (words ∷ s ∷ []) [] degrees)
+      → Crosses (acceptWire (lending (words ∷ s ∷ []) [] degrees)) (AcceptOf m (streamIn s) lists left) after
+      → WordCalled m layout (listOf after 1) cs rs
+      → WordCalled m layout s (accept lists ∷ cs) (record { answer = acceptAnswer (acceptIn after .answer); lists = left } ∷ rs)
+  call-decline : (words : List ℕ) (after : Wire) {s : List ℕ} {cs : List Call} {rs : List (Reply ShownAnswer)}
+      → DeclineLent (lending (words ∷ s ∷ []) [] [])
+      → Crosses (declineWire (lending (words ∷ s ∷ []) [] [])) (DeclineOf (streamIn s)) after
+      → WordCalled m layout (listOf after 1) cs rs
+      → WordCalled m layout s (decline ∷ cs) (record { answer = declineAnswer (declineIn after .answer); lists = noLists } ∷ rs)
 
--- Whatever words the state held before: `mapsforge_stream_open` returns 0, and from the state's words on the calls cs get these replies.
+-- Whatever words were lent: `mapsforge_stream_open` returns 0, and from the state's words on the calls cs get these replies.
 pub record WordStreams (m : List ℕ) (subFile : ℕ) (grid : Grid) (number zoom : ℕ) (layout interval : List ℕ) (cs : List Call) (replied : List (Reply ShownAnswer)) : Type 0 where
-  pub opens : (n : ℕ) (before words state : List ℕ)
-      → Crosses (openedWire before) (StreamOf m subFile number zoom (layoutIn layout) (intervalIn interval) grid) (wire n (words ∷ state ∷ []) [] []) → n ≡ 0
-  pub replies : (n : ℕ) (before words state : List ℕ)
-      → Crosses (openedWire before) (StreamOf m subFile number zoom (layoutIn layout) (intervalIn interval) grid) (wire n (words ∷ state ∷ []) [] [])
-      → (rs : List (Reply ShownAnswer)) → WordCalled m layout state cs rs → rs ≡ replied
+  pub opens : (before after : Wire) → OpenedLent before
+      → Crosses (openedWire before) (StreamOf m subFile number zoom (layoutIn layout) (intervalIn interval) grid) after → after .number ≡ 0
+  pub replies : (before after : Wire) → OpenedLent before
+      → Crosses (openedWire before) (StreamOf m subFile number zoom (layoutIn layout) (intervalIn interval) grid) after
+      → (rs : List (Reply ShownAnswer)) → WordCalled m layout (listOf after 1) cs rs → rs ≡ replied

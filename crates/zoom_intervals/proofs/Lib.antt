@@ -1,1 +1,2 @@
 pub mod IntervalLaws
+pub mod RowLaws

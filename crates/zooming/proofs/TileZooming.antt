@@ -24,9 +24,9 @@ rest-start kinds g n a m i h e k =
     let z = t .second in
     cc
 
-pub tile-advances : (debug : Bool) (rows : ℕ) (poiKinds wayKinds : List Kind) → Advances (tileFormat debug rows poiKinds wayKinds)
+pub tile-advances : (debug : Bool) (poiKinds wayKinds : List Kind) → Advances (tileFormat debug poiKinds wayKinds)
 unfolding head
-tile-advances debug rows poiKinds wayKinds = record {
+tile-advances debug poiKinds wayKinds = record {
   starts = λ m i h e k.
       let s = split (debugSignature debug m i) (λ g x. andThen (unsigned m x) (λ n y. headRest wayKinds g n y m y)) h e k in
       let t = split (unsigned m (s .mid)) (λ n y. headRest wayKinds (s .val) n y m y) h e (s .second) in

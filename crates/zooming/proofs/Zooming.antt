@@ -10,15 +10,18 @@ use borrow.Author.Tests.{ltb-true, ltb-false}
 use lib.Dec.{ltb}
 use lib.ListN.{length, take}
 use lib.Seq.{length-take-le}
-use Rattle.parsing.specs.Parse.{Res, ok, no}
+use Rattle.parsing.specs.Parse.{Res, ok, no, Parser}
 use Rattle.parsing.specs.Good.{split, ok-val, total}
 use Rattle.arithmetic.specs.Cut.{cut}
 use Rattle.arithmetic.proofs.CutLaws.{cut-fits, cut-over}
-use Rattle.format.specs.Lent.{LentLists, fits, written, needed}
+use Rattle.format.specs.Lent.{LentLists, fits, written, deliver}
+use Rattle.format.specs.Tile.{TileHead}
 use Rattle.agreement.specs.Calls.{Call, next, accept, decline, Answer, gotPoint, gotHead, gotBody, declined, ended, refused, Step, plain, lending}
-use Rattle.agreement.specs.Format.{Format, Laws, dataEnd, pointsUpTo, waysUpTo}
+use Rattle.agreement.specs.Format.{Format, Laws, dataEnd}
+use Rattle.agreement.specs.Heads.{HeadCounts, pointsUpTo, waysUpTo}
 use Rattle.agreement.specs.Stream.{StreamAnswer, State, idle, waits, stream, onPoint, onHead, onBody, freshStream, openStream}
-use Rattle.agreement.proofs.Chain.{Chain, stop, link, front, bound}
+use Rattle.agreement.proofs.Chain.{Chain, stop, link, front, bound, total-take}
+use Rattle.agreement.proofs.Remaining.{lentReply}
 use Rattle.zooming.specs.Zooming.{Way, byHead, whole, EndsWell, at-end, on-point, on-declined, on-accepted, Advances, Fewer, OnlyAdds}
 
 -- two answers of other kinds, told apart by a number
@@ -84,8 +87,7 @@ module _ (F : Format) (m : List ℕ) (rule : ℕ → F .Head → Bool) where
 
   body-fits : (w x b e : ℕ) (z : F .End) (l : LentLists) (q d : F .Body) (l′ : LentLists) (s : State (F .End)) (c : Bool) → fits (F .lists q) l ≡ c
       → F .body m b ≡ ok q e
-      → _≡_ {A = Step (StreamAnswer F) (State (F .End))} (cond c (lending (gotBody q) (written (F .lists q) l) (idle 0 w e e z)) (lending (refused 15 (needed (F .lists q))) l (waits w x b z))) (lending (gotBody d) l′ s)
-      → BodyStep w x b z l d l′ s
+      → (let r = lentReply q e (F .lists q) l c in onBody w x b z (r .lists) (r .answer)) ≡ lending {A = StreamAnswer F} (gotBody d) l′ s → BodyStep w x b z l d l′ s
   body-fits w x b e z l q d l′ s true g f h =
       let a = answer-is h in
       let c : q ≡ d = cc in
@@ -99,7 +101,7 @@ module _ (F : Format) (m : List ℕ) (rule : ℕ → F .Head → Bool) where
   body-fits w x b e z l q d l′ s false g f h = other h (λ e. omega arith)
 
   body-step : (w x b : ℕ) (z : F .End) (l : LentLists) (d : F .Body) (l′ : LentLists) (s : State (F .End)) (r : Res (F .Body)) → F .body m b ≡ r
-      → onBody F w x b z l r ≡ lending (gotBody d) l′ s → BodyStep w x b z l d l′ s
+      → (let a = deliver (λ y. y) (F .lists) r l in onBody w x b z (a .lists) (a .answer)) ≡ lending {A = StreamAnswer F} (gotBody d) l′ s → BodyStep w x b z l d l′ s
   body-step w x b z l d l′ s (ok q e) f h = body-fits w x b e z l q d l′ s (fits (F .lists q) l) refl f h
   body-step w x b z l d l′ s (no k y) f h = other h (λ e. omega arith)
 
@@ -244,7 +246,7 @@ module _ (F : Format) (m : List ℕ) (rule : ℕ → F .Head → Bool) where
         let s = L .point-strict .more m i p x r in let t = few-points c (omega arith) in omega arith
 
     -- so a count that was met was not cut
-    uncut : (n k i : ℕ) → k ≡ cut n → 0 < i → (0 < k → i + k ≤ length m) → k ≡ n
+    uncut : (n k i : ℕ) → k ≡ cut n → (0 < n → 0 < i) → (0 < k → i + k ≤ length m) → k ≡ n
     uncut n k i e h f = go (ltb n (2 ^ 64)) refl
       where
         go : (b : Bool) → ltb n (2 ^ 64) ≡ b → k ≡ n
@@ -252,7 +254,7 @@ module _ (F : Format) (m : List ℕ) (rule : ℕ → F .Head → Bool) where
         go false t =
             let l : 2 ^ 64 ≤ n = ltb-false n (2 ^ 64) t in
             let c : k ≡ 2 ^ 64 - 1 = e ∙ cut-over n (omega arith) in
-            absurd (let g = f (omega arith) in omega arith)
+            absurd (let g = f (omega arith) in let i = h (omega arith) in omega arith)
 
 -- fewer rows count no more
 fewer-rows : {A : Type 0} (f : A → ℕ) (j k : ℕ) (l : List A) → j ≤ k → total f (take j l) ≤ total f (take k l)
@@ -272,43 +274,44 @@ above-zero x h = go (ltb x (2 ^ 64)) refl
     go true e = h
     go false e = omega arith
 
-module _ (F : Format) (L : Laws F) (A : Advances F) (m : List ℕ) (small : length m < 2 ^ 64) (rule : ℕ → F .Head → Bool) (i : ℕ) (z : F .End) where
+module _ (H : Parser TileHead) (LH : HeadCounts H) (F : Format) (L : Laws F) (A : Advances F) (m : List ℕ) (small : length m < 2 ^ 64) (rule : ℕ → F .Head → Bool) (i : ℕ) (z : F .End) where
   -- from the tile's head on
-  module _ (h : F .TileHead) (e : ℕ) (read : F .tileHead m i ≡ ok h e) (rows rows′ : ℕ) (le : rows′ ≤ rows)
-      {ls : List LentLists} {ps : List (F .Point)} {ws : List (Way F)} {y : F .End} (t : EndsWell F m rule 0 (freshStream F rows z h e) ls ps ws y) where
-    pub fewer-from : Fewer F m rule i z h rows′ ls ps ws y
+  module _ (h : TileHead) (e : ℕ) (read : H m i ≡ ok h e) (rows rows′ : ℕ) (le : rows′ ≤ rows)
+      {ls : List LentLists} {ps : List (F .Point)} {ws : List (Way F)} {y : F .End} (t : EndsWell F m rule 0 (freshStream rows z h e) ls ps ws y) where
+    pub fewer-from : Fewer H F m rule i z h rows′ ls ps ws y
     fewer-from =
-        let u = L .tileHead-strict .more m i h e read in
-        let g = passed F m rule t (cut (pointsUpTo (F .table h) rows)) (cut (waysUpTo (F .table h) rows)) e (cut (e + F .offset h)) z refl in
+        let tp = total-take (λ r. r .points) rows (h .table) in
+        let tw = total-take (λ r. r .ways) rows (h .table) in
+        let g = passed F m rule t (cut (pointsUpTo (h .table) rows)) (cut (waysUpTo (h .table) rows)) e (cut (e + h .offset)) z refl in
         let q = g .0 in
-        let p = uncut F m rule L A small (pointsUpTo (F .table h) rows) (length ps) e (q .point-count) (omega arith) (few-points F m rule L A small (q .points)) in
-        let w = uncut F m rule L A small (waysUpTo (F .table h) rows) (length ws) (cut (e + F .offset h)) (q .way-count) (above-zero (e + F .offset h) (omega arith)) (few-ways F m rule L A small (q .ways)) in
-        let lp = fewer-rows (λ r. r .points) rows′ rows (F .table h) le in
-        let lw = fewer-rows (λ r. r .ways) rows′ rows (F .table h) le in
-        let fw = first-ways F m rule (waysUpTo (F .table h) rows′) (q .ways) in
-        let fp = front (L .point-good) (pointsUpTo (F .table h) rows′) (omega arith) (q .points) in
-        let cp = length-take-le (pointsUpTo (F .table h) rows′) ps (omega arith) in
-        let cw = length-take-le (waysUpTo (F .table h) rows′) ws (omega arith) in
+        let p = uncut F m rule L A small (pointsUpTo (h .table) rows) (length ps) e (q .point-count) (λ k. let u = LH .passes m i h e read (omega arith) in omega arith) (few-points F m rule L A small (q .points)) in
+        let w = uncut F m rule L A small (waysUpTo (h .table) rows) (length ws) (cut (e + h .offset)) (q .way-count) (λ k. let u = LH .passes m i h e read (omega arith) in above-zero (e + h .offset) (omega arith)) (few-ways F m rule L A small (q .ways)) in
+        let lp = fewer-rows (λ r. r .points) rows′ rows (h .table) le in
+        let lw = fewer-rows (λ r. r .ways) rows′ rows (h .table) le in
+        let fw = first-ways F m rule (waysUpTo (h .table) rows′) (q .ways) in
+        let fp = front (L .point-good) (pointsUpTo (h .table) rows′) (omega arith) (q .points) in
+        let cp = length-take-le (pointsUpTo (h .table) rows′) ps (omega arith) in
+        let cw = length-take-le (waysUpTo (h .table) rows′) ws (omega arith) in
         let sp = at-most (length ps) e (few-points F m rule L A small (q .points)) in
-        let sw = at-most (length ws) (cut (e + F .offset h)) (few-ways F m rule L A small (q .ways)) in
+        let sw = at-most (length ws) (cut (e + h .offset)) (few-ways F m rule L A small (q .ways)) in
         record {
-          start = freshStream F rows′ z h e;
+          start = freshStream rows′ z h e;
           behind = e;
           opens = rw read;
           first = fw .kept;
           rest = fw .rest;
           lists = fw .lists;
-          ends = through-by F m rule (fp .chain) (fw .ways) (cp ∙ sym (cut-fits (pointsUpTo (F .table h) rows′) (omega arith))) (cw ∙ sym (cut-fits (waysUpTo (F .table h) rows′) (omega arith))) (g .1);
+          ends = through-by F m rule (fp .chain) (fw .ways) (cp ∙ sym (cut-fits (pointsUpTo (h .table) rows′) (omega arith))) (cw ∙ sym (cut-fits (waysUpTo (h .table) rows′) (omega arith))) (g .1);
           point-count = cp;
           way-count = cw;
         }
 
   -- the tile's stream of these rows, where it opened and ended well
-  pub zooming-in : (rows : ℕ) {s : State (F .End)} {e : ℕ} → openStream F rows z m i ≡ ok s e
+  pub zooming-in : (rows : ℕ) {s : State (F .End)} {e : ℕ} → openStream H rows z m i ≡ ok s e
       → {ls : List LentLists} {ps : List (F .Point)} {ws : List (Way F)} {y : F .End} → EndsWell F m rule 0 s ls ps ws y
-      → OnlyAdds F m rule i z rows ls ps ws y
+      → OnlyAdds H F m rule i z rows ls ps ws y
   zooming-in rows {s} {e} o {ls} {ps} {ws} {y} t =
-      let a = split (F .tileHead m i) (λ h x. ok (freshStream F rows z h x) x) s e o in
+      let a = split (H m i) (λ h x. ok (freshStream rows z h x) x) s e o in
       record {
         head = a .val;
         behind = a .mid;

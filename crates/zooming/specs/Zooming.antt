@@ -5,10 +5,12 @@ use mathlib.Core.Bool.{Bool, true, false}
 use mathlib.Core.List.{List, [], _∷_, _++_}
 use Prim.Native.Nat.{ℕ, suc, _≤_, _<_}
 use lib.ListN.{length, take}
-use Rattle.parsing.specs.Parse.{ok}
+use Rattle.parsing.specs.Parse.{ok, Parser}
 use Rattle.format.specs.Lent.{LentLists}
+use Rattle.format.specs.Tile.{TileHead}
 use Rattle.agreement.specs.Calls.{next, accept, decline, gotPoint, gotHead, gotBody, declined, ended, plain, lending}
-use Rattle.agreement.specs.Format.{Format, pointsUpTo, waysUpTo}
+use Rattle.agreement.specs.Format.{Format}
+use Rattle.agreement.specs.Heads.{pointsUpTo, waysUpTo}
 use Rattle.agreement.specs.Stream.{State, stream, openStream}
 
 -- a way that a stream delivered: by its head alone if it was declined; else with the lists that its accept was lent, the body that accept
@@ -41,20 +43,20 @@ pub record Advances (F : Format) : Type 0 where
 
 -- The stream of fewer rows of the tile at place i, whose head is h: it opens, ends well by the same rule with the first of the same
 -- lists, says the same at its end, and delivers the first points and the first ways, just as many as its rows count.
-pub record Fewer (F : Format) (m : List ℕ) (rule : ℕ → F .Head → Bool) (i : ℕ) (z : F .End) (h : F .TileHead) (rows : ℕ) (lent : List LentLists) (points : List (F .Point)) (ways : List (Way F)) (y : F .End) : Type 0 where
+pub record Fewer (tileHead : Parser TileHead) (F : Format) (m : List ℕ) (rule : ℕ → F .Head → Bool) (i : ℕ) (z : F .End) (h : TileHead) (rows : ℕ) (lent : List LentLists) (points : List (F .Point)) (ways : List (Way F)) (y : F .End) : Type 0 where
   pub start : State (F .End)
   pub behind : ℕ
-  pub opens : openStream F rows z m i ≡ ok start behind
+  pub opens : openStream tileHead rows z m i ≡ ok start behind
   pub first : List LentLists
   pub rest : List LentLists
   pub lists : lent ≡ first ++ rest
-  pub ends : EndsWell F m rule 0 start first (take (pointsUpTo (F .table h) rows) points) (take (waysUpTo (F .table h) rows) ways) y
-  pub point-count : length (take (pointsUpTo (F .table h) rows) points) ≡ pointsUpTo (F .table h) rows
-  pub way-count : length (take (waysUpTo (F .table h) rows) ways) ≡ waysUpTo (F .table h) rows
+  pub ends : EndsWell F m rule 0 start first (take (pointsUpTo (h .table) rows) points) (take (waysUpTo (h .table) rows) ways) y
+  pub point-count : length (take (pointsUpTo (h .table) rows) points) ≡ pointsUpTo (h .table) rows
+  pub way-count : length (take (waysUpTo (h .table) rows) ways) ≡ waysUpTo (h .table) rows
 
 -- So it is of every smaller number of rows: the tile has a head, by whose zoom table they are counted.
-pub record OnlyAdds (F : Format) (m : List ℕ) (rule : ℕ → F .Head → Bool) (i : ℕ) (z : F .End) (rows : ℕ) (lent : List LentLists) (points : List (F .Point)) (ways : List (Way F)) (y : F .End) : Type 0 where
-  pub head : F .TileHead
+pub record OnlyAdds (tileHead : Parser TileHead) (F : Format) (m : List ℕ) (rule : ℕ → F .Head → Bool) (i : ℕ) (z : F .End) (rows : ℕ) (lent : List LentLists) (points : List (F .Point)) (ways : List (Way F)) (y : F .End) : Type 0 where
+  pub head : TileHead
   pub behind : ℕ
-  pub read : F .tileHead m i ≡ ok head behind
-  pub fewer : (rows′ : ℕ) → rows′ ≤ rows → Fewer F m rule i z head rows′ lent points ways y
+  pub read : tileHead m i ≡ ok head behind
+  pub fewer : (rows′ : ℕ) → rows′ ≤ rows → Fewer tileHead F m rule i z head rows′ lent points ways y

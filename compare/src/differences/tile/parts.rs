@@ -2,13 +2,16 @@
 
 use std::ops::Range;
 
+use super::super::ENTRY_BYTES;
 use super::reader::{Read, Reader};
 use crate::tiles::feature::{Text, Way};
 use crate::tiles::Address;
 
-/// The places of a tile's entry, and of its points and ways up to a zoom.
+/// The places of a tile's entry and the next one, and of its points and ways up to a zoom.
 pub struct StreamParts {
     pub entry: Range<usize>,
+    /// None of the last tile.
+    pub next_entry: Option<Range<usize>>,
     pub points: Vec<PointParts>,
     pub ways: Vec<WayParts>,
 }
@@ -38,11 +41,14 @@ impl Reader<'_> {
     pub fn stream_parts(&mut self, address: &Address, zoom: u8) -> Read<StreamParts> {
         let head = self.head(address)?;
         let [points, ways] = self.counts(head.rows(zoom));
-        let entry = self.entry_start.expect("the head is behind the entry") as usize;
+        let entries = self.entries.clone().expect("the head is behind the entry");
+        let (start, end) = (entries.start as usize, entries.end as usize);
+        let entry = start..start + ENTRY_BYTES as usize;
+        let next_entry = (entry.end < end).then_some(entry.end..end);
         let points = (0..points).map(|_| self.point_parts()).collect::<Read<_>>()?;
         self.seek(head.ways);
         let ways = (0..ways).map(|_| self.way_parts()).collect::<Read<_>>()?;
-        Ok(StreamParts { entry: entry..entry + 5, points, ways })
+        Ok(StreamParts { entry, next_entry, points, ways })
     }
 
     fn point_parts(&mut self) -> Read<PointParts> {

@@ -40,8 +40,12 @@ pub enum Cause {
     Grid,
     /// An index entry past all places.
     Entry,
+    /// The next index entry is cut off.
+    NextEntry,
     /// A reversed interval.
     Interval,
+    /// A tile that is marked empty.
+    Empty,
 }
 
 /// "2^64 − 1 stands for any larger position".
@@ -62,8 +66,9 @@ pub fn cut_off(refusal: Answer, number: u64, place: u128) -> Answer {
 pub struct Reader<'a> {
     pub opened: Opened<'a>,
     pub parting: Option<Parting>,
-    /// Where the tile's entry starts, once its place is known, and its bytes, once the entry is read.
-    pub entry_start: Option<u128>,
+    /// Where the tile's entry stands, with the next one once that is looked for; and where its bytes start, if it has
+    /// some.
+    pub entries: Option<Range<u128>>,
     pub tile_start: Option<u128>,
     /// The places of the signatures and of the texts that were read, in their order.
     pub signatures: Vec<u64>,
@@ -82,7 +87,7 @@ impl<'a> Reader<'a> {
         Reader {
             opened,
             parting: None,
-            entry_start: None,
+            entries: None,
             tile_start: None,
             signatures: Vec::new(),
             texts: Vec::new(),

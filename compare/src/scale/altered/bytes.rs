@@ -12,6 +12,9 @@ use crate::differences::tile::StreamParts;
 use crate::maps::writer::INDEX_SIGNATURE;
 use crate::random::Random;
 
+/// The water mark in an entry's first byte.
+const WATER: u8 = 0x80;
+
 /// A stretch of the map.
 pub type Bytes = Range<usize>;
 
@@ -25,11 +28,13 @@ pub fn opening(map: &[u8], header: &MapHeader) -> Vec<Bytes> {
 }
 
 /// "A byte lies only in such ways if it is behind one's tag ids and values, before its data start plus stored
-/// size, and outside the header as opening reads it, index signatures and the tile's entry." A byte that is also
-/// one of a point up to the zoom is not among them, since the first-way offset may lead into the points.
+/// size, and outside the header as opening reads it, index signatures and the tile's entry." Wish 5: "the next entry
+/// too must lie outside them". A byte that is also one of a point up to the zoom is not among them, since the
+/// first-way offset may lead into the points.
 pub fn only_in_untried(parts: &StreamParts, list: &List, opening: &[Bytes]) -> Vec<Bytes> {
     let points = parts.points.iter().map(|point| &point.bytes);
-    let kept: Vec<&Bytes> = opening.iter().chain([&parts.entry]).chain(points).collect();
+    let entries = [&parts.entry].into_iter().chain(&parts.next_entry);
+    let kept: Vec<&Bytes> = opening.iter().chain(entries).chain(points).collect();
     let untried = list.untried.iter().map(|&way| &parts.ways[way].rest);
     untried.flat_map(|rest| outside(rest, &kept)).collect()
 }
@@ -66,6 +71,17 @@ impl Random {
     pub fn one_bit(&mut self, map: &[u8], stretches: &[Bytes]) -> Option<Damage> {
         let at = (!stretches.is_empty()).then(|| self.place_in_some(stretches))?;
         Some(Damage { edits: vec![Edit { at, taken: 1, put: vec![map[at] ^ 1] }], cut: None })
+    }
+
+    /// The tile's own offset for that of the next entry, with any water mark; none if it is the same already.
+    pub fn marked(&mut self, map: &[u8], own: &Bytes, next: &Bytes) -> Option<Damage> {
+        let mut put = map[own.clone()].to_vec();
+        let [first, rest @ ..] = &map[next.clone()] else { return None };
+        if (first ^ put[0]) & !WATER == 0 && *rest == put[1..] {
+            return None;
+        }
+        put[0] ^= [0, WATER][self.below(2)];
+        Some(Damage { edits: vec![Edit { at: next.start, taken: put.len(), put }], cut: None })
     }
 
     fn other_byte(&mut self, map: &[u8], stretches: &[Bytes]) -> Edit {

@@ -1,14 +1,18 @@
 //! Bytes that are looked at, so that a change of them should show. Some of them show in one kind of answer alone: if
 //! that is not compared, no such control shows.
 
+use super::super::damage::Damage;
 use super::bytes::Bytes;
 use super::calls::List;
 use crate::differences::tile::{StreamParts, WayParts};
 use crate::maps::writer::PROJECTION;
+use crate::random::Random;
 
 #[derive(Clone, Copy)]
 pub enum Control {
     Entry,
+    /// The tile's own offset in it: the tile is then marked empty.
+    NextEntry,
     /// Of features that came.
     Point,
     Head,
@@ -28,8 +32,9 @@ pub enum Control {
 }
 
 /// In the order of their numbers.
-pub const CONTROLS: [Control; 11] = [
+pub const CONTROLS: [Control; 12] = [
     Control::Entry,
+    Control::NextEntry,
     Control::Point,
     Control::Head,
     Control::Accepted,
@@ -43,13 +48,28 @@ pub const CONTROLS: [Control; 11] = [
 ];
 
 impl Control {
+    /// A change of its bytes, if there are such after a list of calls.
+    pub fn damage(
+        self,
+        map: &[u8],
+        parts: &StreamParts,
+        list: &List,
+        random: &mut Random,
+    ) -> Option<Damage> {
+        match self {
+            Control::NextEntry => random.marked(map, &parts.entry, parts.next_entry.as_ref()?),
+            _ => random.one_bit(map, &self.stretches(parts, list)),
+        }
+    }
+
     /// Where its bytes are, after a list of calls.
-    pub fn stretches(self, parts: &StreamParts, list: &List) -> Vec<Bytes> {
+    fn stretches(self, parts: &StreamParts, list: &List) -> Vec<Bytes> {
         let (points, heads) = (&parts.points[..list.points], &parts.ways[..list.heads]);
         let of = |numbers: &[usize]| numbers.iter().map(|&k| &parts.ways[k]).collect::<Vec<_>>();
         let (accepted, tried) = (of(&list.accepted), of(&list.tried));
         let all: Vec<Bytes> = match self {
             Control::Entry => vec![parts.entry.clone()],
+            Control::NextEntry => parts.next_entry.iter().cloned().collect(),
             Control::Point => points.iter().map(|point| point.bytes.clone()).collect(),
             Control::Head => heads.iter().map(|way| way.head.clone()).collect(),
             Control::Accepted => accepted.iter().map(|way| way.rest.clone()).collect(),
@@ -76,6 +96,7 @@ impl Control {
     pub fn name(self) -> &'static str {
         match self {
             Control::Entry => "the tile's entry",
+            Control::NextEntry => "the next entry (the tile is marked empty)",
             Control::Point => "a point",
             Control::Head => "a way's head",
             Control::Accepted => "behind the head of an accepted way",

@@ -7,7 +7,7 @@ use crate::maps::writer::{entry, text, Header, Interval, DEBUG, INDEX_SIGNATURE,
 use crate::tiles::Address;
 
 pub fn bases() -> Vec<Base> {
-    vec![over_entry(), over_signature(), over_header()]
+    vec![over_entry(), over_next_entry(), over_signature(), over_header()]
 }
 
 fn base(over: &str, map: Vec<u8>, tile: Address) -> Base {
@@ -22,10 +22,25 @@ fn named(name: &[u8], debug: bool) -> Vec<u8> {
 
 /// The sub file starts with the tile. An entry in the zeros of the name leads there.
 fn over_entry() -> Base {
+    let (tile, number) = over_entries();
+    base("its tile's entry", header(&[[0; 3]]).before_all(&[tile]), at(0, number, number + 1))
+}
+
+/// The same, and the next entry is in the name too: it leads elsewhere.
+fn over_next_entry() -> Base {
+    let (mut tile, number) = over_entries();
+    let size = entry(false, 0).len();
+    let next = (number + 1) * size;
+    tile[next..next + size].copy_from_slice(&entry(false, 1));
+    base("the next tile's entry", header(&[[0; 3]]).before_all(&[tile]), at(0, number, number + 2))
+}
+
+/// The tile with a name of zeros, and the number of an entry in it.
+fn over_entries() -> (Vec<u8>, usize) {
     let tile = named(&[0; 40], false);
     let zeros = tile.windows(40).position(|bytes| bytes == [0; 40]).expect("the name is there");
     let number = zeros.div_ceil(entry(false, 0).len()) + 1;
-    base("its tile's entry", header(&[[0; 3]]).before_all(&[tile]), at(0, number, number + 1))
+    (tile, number)
 }
 
 /// The second sub file starts in the name.

@@ -34,7 +34,7 @@ impl Pair<'_> {
         check.got(Kind::Open, &copied.got, open.got.number, &open.got.words)?;
         check.floats("degrees", &copied.degrees, &open.degrees)?;
         check.words("layout", &copied.layout, &open.layout)?;
-        let interval = |map| library::interval(map, self.ask.at.sub_file as usize);
+        let interval = |map| library::interval(map, &open.layout, self.ask.at.sub_file as usize);
         let [copied, given] = [self.copy, self.ask.map].map(interval);
         check.got(Kind::Interval, &copied.got, given.got.number, &given.got.words)?;
         check.words("interval", &copied.interval, &given.interval)

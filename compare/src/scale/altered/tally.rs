@@ -14,6 +14,8 @@ pub struct Tally {
     refused: u64,
     inexact: u64,
     exact: u64,
+    /// Those of the theorem that are marked empty; they have no way to alter.
+    pub empty: u64,
     /// Maps with tiles that are, and those of the tiles of which altered copies were compared.
     pub maps: u64,
     pub tiles: u64,
@@ -80,6 +82,7 @@ impl Tally {
     pub fn print(&self) {
         println!("tiles in the theorem: {}, of {} maps", self.exact, self.maps);
         println!("  with altered copies             {:>12}", self.tiles);
+        println!("  marked empty, so without a way  {:>12}", self.empty);
         println!("tiles skipped: {}", self.refused + self.inexact);
         println!("  they do not collect             {:>12}", self.refused);
         println!("  they have a wrong stored size   {:>12}", self.inexact);

@@ -27,6 +27,8 @@ pub struct Collected<'a> {
     water: u64,
     lowest: u8,
     highest: u8,
+    /// Whether the tile is marked empty, by the model.
+    empty: bool,
 }
 
 /// A tile's book at a zoom.
@@ -51,6 +53,7 @@ impl<'a> Collected<'a> {
             return Ok(None);
         }
         let file = opening.as_ref().map_err(|_| "collects although it does not open")?;
+        let empty = Opened::of(file).is_empty(&ask.at);
         let stored = Opened::of(file).streamed_tile(&ask.at);
         let stored = stored.map_err(|refusal| format!("collects, but document 01: {refusal:?}"))?;
         let features =
@@ -64,7 +67,12 @@ impl<'a> Collected<'a> {
             water: library::index_entry(&ask).words[6],
             lowest: ask.interval[2] as u8,
             highest: ask.interval[3] as u8,
+            empty,
         }))
+    }
+
+    pub fn is_empty(&self) -> bool {
+        self.empty
     }
 
     pub fn features(&self) -> usize {

@@ -1,9 +1,10 @@
 //! Lists of calls. Each call is made of the stream, and its answer held to what the book says to it.
 
-use super::super::check::{front, Call as Kind, Check, Checked};
+use super::super::check::{Call as Kind, Check, Checked};
 use super::super::collected::stored_part;
 use super::super::lent::{suffice, Fronts, Lengths, Lent};
-use super::super::library::{self, Next, State};
+use super::super::library::{self, degrees, kept_but, Next, State, SIGNED};
+use super::super::streamed::nothing;
 use super::collected::{Book, Fetched};
 use crate::random::Random;
 
@@ -119,7 +120,7 @@ impl Run<'_> {
         let page = &mut both.page;
         if page.waits {
             self.check.refused(Kind::StreamNext, &ours.got, &[16])?;
-            self.nothing(&ours)?;
+            nothing(self.check, &ours)?;
             return self.check.words("the state behind 16", &both.stream, &before);
         }
         if page.k < points {
@@ -132,10 +133,10 @@ impl Run<'_> {
             page.waits = true;
             return Ok(());
         }
-        let mut words = [0; 21];
-        (words[6], words[19], words[20]) = (2, tile.ask.at.sub_file, tile.water());
+        let mut words: [u64; 21] = kept_but(19, &[tile.ask.at.sub_file, tile.water()]);
+        words[6] = 2;
         self.check.got(Kind::StreamNext, &ours.got, 0, &words)?;
-        self.nothing(&ours)
+        nothing(self.check, &ours)
     }
 
     /// "Accept: 16 if none waits; 15 with the way's counts of blocks, nodes and nodes if a list is shorter;
@@ -152,7 +153,7 @@ impl Run<'_> {
         let refusal = match waiting {
             None => vec![16],
             Some(_) if !suffice(&lengths, &needed) => {
-                vec![15, needed[0] as u64, needed[1] as u64, needed[2] as u64]
+                [&[15][..], &needed.map(|length| length as u64)].concat()
             }
             Some(way) => {
                 let words = self.body(&ours.got.words, way)?;
@@ -163,7 +164,7 @@ impl Run<'_> {
             }
         };
         self.check.refused(Kind::StreamAccept, &ours.got, &refusal)?;
-        self.check.floats("no label", &ours.degrees, &[0.0; 2])?;
+        self.check.floats("no label", &ours.degrees, &degrees::<2>())?;
         self.check.words("the state behind a refusal", &both.stream, &before)?;
         self.lent.check(self.check, lengths, &Fronts::default())
     }
@@ -183,7 +184,7 @@ impl Run<'_> {
 
     fn point(&mut self, ours: &Next, point: &Fetched) -> Checked {
         let fetched = &point.fetch;
-        let mut words = [0; 21];
+        let mut words: [u64; 21] = kept_but(6, &[0; 12]);
         words[7] = fetched.got.words[7];
         self.part(&ours.got.words, &mut words, 11, point, 0)?;
         self.part(&ours.got.words, &mut words, 14, point, 1)?;
@@ -197,19 +198,19 @@ impl Run<'_> {
 
     fn head(&mut self, ours: &Next, way: &Fetched) -> Checked {
         let fetched = &way.fetch;
-        let mut words = [0; 21];
-        (words[6], words[7], words[18]) = (1, fetched.got.words[7], fetched.got.words[30]);
+        let mut words: [u64; 21] = kept_but(6, &[1, fetched.got.words[7]]);
+        words[18] = fetched.got.words[30];
         self.check.same("a way", fetched.got.words[6], 1)?;
         self.check.got(Kind::StreamNext, &ours.got, 0, &words)?;
-        self.check.same("a layer", ours.signed, fetched.signed)?;
-        self.check.floats("no position", &ours.degrees, &[0.0; 2])?;
+        self.check.same("a layer", ours.signed, [fetched.signed[0], SIGNED[1]])?;
+        self.check.floats("no position", &ours.degrees, &degrees::<2>())?;
         self.check.words("ids", &ours.ids, &fetched.ids)
     }
 
     /// The words of a body.
     fn body(&mut self, ours: &[u64; 18], way: &Fetched) -> Checked<[u64; 18]> {
         let fetched = &way.fetch.got.words;
-        let mut words = front(&[0, 0, 0, 0, 0, 0, fetched[32], fetched[33]]);
+        let mut words: [u64; 18] = kept_but(6, &fetched[32..34]);
         self.part(ours, &mut words, 8, way, 0)?;
         self.part(ours, &mut words, 11, way, 1)?;
         self.part(ours, &mut words, 14, way, 2)?;
@@ -233,12 +234,6 @@ impl Run<'_> {
         let part = stored_part(self.check, self.book.tile.ask.map, &ours[at..at + 3], text)?;
         words[at..at + 3].copy_from_slice(&part);
         Ok(())
-    }
-
-    fn nothing(&mut self, ours: &Next) -> Checked {
-        self.check.same("no layer", ours.signed, [0; 2])?;
-        self.check.floats("no position", &ours.degrees, &[0.0; 2])?;
-        self.check.words("no ids", &ours.ids, &[0; 15])
     }
 }
 

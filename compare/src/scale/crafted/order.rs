@@ -1,5 +1,5 @@
-//! The order of refusals: sub file (8), grid (14), tile (8), entry (19), interval (13), then bytes in
-//! file order (20 in the head).
+//! The order of refusals: sub file (8), grid (14), tile (8), entry (19), next entry (19), interval (13), then bytes
+//! in file order (20 in the head).
 
 use mapsforge_rs::grid::Grid;
 

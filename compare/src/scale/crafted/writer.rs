@@ -299,12 +299,18 @@ impl Tile {
     }
 }
 
-/// The index and the tiles behind it; every second entry has the water mark.
+/// The index and the tiles behind it; every second entry has the water mark. A tile without bytes is marked empty: the
+/// next entry has the same offset, or the sub file ends there.
 pub fn sub_file(debug: bool, tiles: &[Vec<u8>]) -> Vec<u8> {
+    with_water(debug, tiles, |k| k % 2 == 1)
+}
+
+/// The same with the water marks given.
+pub fn with_water(debug: bool, tiles: &[Vec<u8>], water: impl Fn(usize) -> bool) -> Vec<u8> {
     let mut bytes = if debug { INDEX_SIGNATURE.to_vec() } else { Vec::new() };
     let mut offset = bytes.len() + tiles.len() * entry(false, 0).len();
     for (k, tile) in tiles.iter().enumerate() {
-        bytes.extend(entry(k % 2 == 1, offset as u64));
+        bytes.extend(entry(water(k), offset as u64));
         offset += tile.len();
     }
     bytes.extend(tiles.concat());

@@ -44,7 +44,7 @@ impl<'a> Copies<'a> {
             let Ok(file) = opening::of(&mut Check::default(), &base.map)? else { continue };
             let mut starts = BTreeSet::new();
             let of_base = base.tiles.iter().filter_map(|at| target(base, Opened::of(&file), at));
-            // an empty tile may have the place of the next one
+            // two entries may lead to the same tile
             targets.extend(of_base.filter(|target| starts.insert(target.parts.bytes.start)));
         }
         targets.sort_by_key(|target| !target.is_small);

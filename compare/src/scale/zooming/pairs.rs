@@ -33,7 +33,7 @@ pub fn of_tile(tally: &mut Tally, opened: Opened, ask: &Ask, random: &mut Random
         streams.iter().zip(&all).for_each(|(stream, all)| tally.beside_all(stream, all));
     }
     if tally.pairs() > before {
-        tally.tile(ask);
+        tally.tile(ask, opened.is_empty(&ask.at));
     }
     Ok(())
 }

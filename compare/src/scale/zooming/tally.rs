@@ -10,10 +10,11 @@ use super::streams::{Ended, Refusal};
 #[derive(Default)]
 pub struct Tally {
     pub check: Check,
-    /// Tiles of which a pair was compared, and of them those of debug maps, those with a wrong stored size
-    /// and those that do not collect.
+    /// Tiles of which a pair was compared, and of them those of debug maps, those that are marked empty, those with
+    /// a wrong stored size and those that do not collect.
     tiles: u64,
     debug: u64,
+    empty: u64,
     inexact: u64,
     uncollected: u64,
     /// Pairs of zooms, and of them those of which the zoom table counts more at the richer zoom.
@@ -38,12 +39,13 @@ impl Tally {
         self.pairs
     }
 
-    /// A tile of which a pair was compared.
-    pub fn tile(&mut self, ask: &Ask) {
+    /// A tile of which a pair was compared; whether it is marked empty, the model says.
+    pub fn tile(&mut self, ask: &Ask, empty: bool) {
         let collected = library::collect(ask).got;
         let collects = collected.number == 0;
         self.tiles += 1;
         self.debug += u64::from(ask.layout[0] != 0);
+        self.empty += u64::from(empty);
         self.uncollected += u64::from(!collects);
         self.inexact += u64::from(collects && collected.words[13] == 0);
     }
@@ -84,6 +86,7 @@ impl Tally {
         println!("rules: {}", 1 + RULES.len());
         println!("tiles of which pairs of zooms are compared: {}", self.tiles);
         println!("  of debug maps                   {:>12}", self.debug);
+        println!("  marked empty                    {:>12}", self.empty);
         println!("  with a wrong stored size        {:>12}", self.inexact);
         println!("  that do not collect             {:>12}", self.uncollected);
         println!("pairs of zooms compared: {}", self.pairs);

@@ -25,8 +25,6 @@ number-of-spec =
     (search refusals)
     (search refusals)
     (search refusals)
-    (search refusals)
-    (λ c. search refusals)
     (λ c. search refusals)
     (λ c. search refusals)
     (λ c. search refusals)

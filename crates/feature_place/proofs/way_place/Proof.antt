@@ -10,5 +10,5 @@ way-place-spec =
     (λ c. c .match .keys1)
     (λ c. c .match .keys2)
     (λ c κs. tt)
-    (λ c. ways-stop _ _ _ _ _ (c .before .before .before .measure-ways .ensures) _ _ (c .before .enum-told .given .1) (c .ways-refusal .ensures))
-    (λ c. ways-end _ _ _ _ _ (c .before .before .before .measure-ways .ensures) _ _ (c .before .got .given .1)))
+    (λ c. let a = c .before .before .before .before .before .args in ways-stop (a .layout) (a .map .now) (a .at) (a .n) _ (c .before .before .before .measure-ways .ensures) _ _ (c .before .enum-told .given .1) (c .ways-refusal .ensures))
+    (λ c. let a = c .before .before .before .before .before .args in ways-end (a .layout) (a .map .now) (a .at) (a .n) _ (c .before .before .before .measure-ways .ensures) _ _ (c .before .got .given .1)))

@@ -1,6 +1,6 @@
 use borrow.Author.Needs.{needs}
 use Rattle.header_wire.specs.Header.{byteWords}
-use Rattle.wire.proofs.CaseLaws.{values-behind, by-case}
+use Rattle.wire.proofs.CaseLaws.{by-case}
 use Rattle.header_wire.proofs.byte_words.Statement.{statement}
 use Rattle.header_wire.proofs.byte_words.Tie as tie
 
@@ -8,8 +8,8 @@ pub byte-words-spec : {M : Type 1} → statement M
 byte-words-spec =
     tie.close
     (tie.spec
-    (λ c. search (needs, values-behind, by-case byteWords))
-    (λ c. search (needs, values-behind, by-case byteWords))
-    (λ c. search (needs, values-behind, by-case byteWords))
-    (λ c. search (needs, values-behind, by-case byteWords))
-    (λ c. search (needs, values-behind, by-case byteWords)))
+    (λ c. search (needs, by-case byteWords))
+    (λ c. search (needs, by-case byteWords))
+    (λ c. search (needs, by-case byteWords))
+    (λ c. search (needs, by-case byteWords))
+    (λ c. search (needs, by-case byteWords)))

@@ -1,8 +1,7 @@
 use Prim.Native.Nat.{_≤_, _-_}
 use mathlib.Core.Path.{_≡_}
-use Rattle.parsing.specs.Parse.{ok, many}
+use Rattle.parsing.specs.Parse.{ok, many, passed}
 use Rattle.utils.specs.Vbe.{text}
-use Rattle.tag_table.specs.Tables.{passed}
 use Rattle.tag_table.proofs.TableLaws.{walks}
 use Rattle.tag_table.proofs.skip_texts.Statement.{statement}
 use Rattle.tag_table.proofs.skip_texts.Tie as tie

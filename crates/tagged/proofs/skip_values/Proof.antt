@@ -3,7 +3,8 @@ use mathlib.Core.Path.{_≡_}
 use lib.ListN.{length, drop}
 use Rattle.format.specs.Kinds.{tagKinds}
 use Rattle.format.specs.Tile.{values}
-use Rattle.tag_table.specs.Tables.{tableIn, passed}
+use Rattle.parsing.specs.Parse.{passed}
+use Rattle.tag_table.specs.Tables.{tableIn}
 use Rattle.tagged.proofs.TaggedLaws.{skips}
 use Rattle.tagged.proofs.skip_values.Statement.{statement}
 use Rattle.tagged.proofs.skip_values.Tie as tie

@@ -10,6 +10,8 @@ read-tile-head-spec =
     (tie.spec
     (λ c. search heads depth 12)
     (search heads)
+    (λ c. search heads depth 12)
+    (search heads)
     (search heads)
     (search heads)
     (search heads)

@@ -1,14 +1,15 @@
 use Prim.Native.Nat.{_≤_, _-_}
+use mathlib.Core.Path.{_≡_}
 use Rattle.parsing.specs.Parse.{ok}
-use Rattle.tile_walk.specs.TileWalk.{exactWays, ForAllRows}
+use Rattle.tile_walk.specs.TileWalk.{exactWays}
 use native.Mathlib.Omega.{arith}
-use Rattle.tile_walk.proofs.WalkLaws.{ways-start, ways-more, ways-no, ways-done, way-loops}
+use Rattle.tile_walk.proofs.WalkLaws.{ways-more, ways-no, ways-done, way-loops}
 use Rattle.tile_walk.proofs.measure_ways.Statement.{statement}
 use Rattle.tile_walk.proofs.measure_ways.Tie as tie
 
 abbrev Inv-loop : tie.InvT-loop
 Inv-loop map at n layout all₀ next₀ i₀ all next i =
-    (i ≤ n) × ForAllRows (exactWays layout map i at) (ok all next)
+    (i ≤ n) × (ok all next ≡ exactWays layout map i at)
 
 abbrev μ-loop : tie.MeasureT-loop
 μ-loop map at n layout all₀ next₀ i₀ all next i = n - i

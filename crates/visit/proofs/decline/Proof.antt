@@ -8,5 +8,5 @@ decline-spec =
     (tie.spec
     (λ c. c .match .keys1)
     (λ c. c .match .keys2)
-    (λ c l rows m. decline-idle l rows m _ (c .enum-told .given .0 .0) (c .enum-told .given .1))
-    (λ c l rows m. let t = c .before .before .turn in decline-waits l rows m _ (t .given .0 .0) (t .given .1)))
+    (λ c. decline-idle _ (c .enum-told .given .0 .0) (c .enum-told .given .1))
+    (λ c. let t = c .before .before .turn in decline-waits _ (t .given .0 .0) (t .given .1)))

@@ -1,10 +1,10 @@
-use mathlib.Core.Path.{_≡_, refl}
+use mathlib.Core.Path.{_≡_}
 use lib.ListN.{length}
 use lib.Seq.{sets}
 use Rattle.parsing.specs.Parse.{many, endOf, listOf}
 use Rattle.format.specs.WayData.{node}
 use Rattle.way_data.specs.Writes.{later}
-use Rattle.way_data.proofs.NodeLaws.{NodesLeft, nodes, later-start, later-slot-lats, later-slot-lons, later-no, later-done}
+use Rattle.way_data.proofs.NodeLaws.{NodesLeft, nodes}
 use Rattle.way_data.proofs.write_later.Statement.{statement}
 use Rattle.way_data.proofs.write_later.Tie as tie
 
@@ -24,22 +24,17 @@ write-later-spec =
     (tie.spec
     Inv-loop
     μ-loop
-    (λ c. (refl, refl, later-start _ _ _ _ _ _ _ _ (c .before .before .before .pre)))
-    (λ c κs. tt)
-    (λ c. c .match .keys1)
-    (λ c. c .match .keys2)
-    (λ c. c .before .before .before .before .loop .inv .0)
-    (λ c. c .before .before .before .before .loop .inv .1)
-    (λ c. later-no _ _ _ _ _ _ _ _ _ _ _ (c .before .before .before .before .loop .inv .2) _ _ _ _ _ _ _ (c .enum-told .given .0 .0) (c .before .before .before .loop-test .taken) (c .before .before .read-node .ensures) (c .enum-told .given .1))
+    (λ c. search nodes)
+    (λ c κs. search nodes)
     (λ c κs. tt)
     (λ c. search nodes)
-    (λ c. later-slot-lats _ _ _ _ _ _ _ _ _ _ _ (c .before .before .before .before .before .before .loop .inv .2) (c .before .before .before .before .before .loop-test .taken))
-    (λ c. search nodes)
-    (λ c. later-slot-lons _ _ _ _ _ _ _ _ _ _ _ (c .before .before .before .before .before .before .loop .inv .2) (c .before .before .before .before .before .loop-test .taken))
     (λ c. search nodes)
     (λ c. search nodes)
     (λ c. search nodes)
     (λ c. search nodes)
-    (λ c. c .before .loop .inv .0)
-    (λ c. c .before .loop .inv .1)
-    (λ c. later-done _ _ _ _ _ _ _ _ _ _ _ _ _ (c .before .loop .inv .2) (c .loop-test .left)))
+    (λ c. search nodes)
+    (λ c. search nodes)
+    (λ c. search nodes)
+    (λ c. search nodes)
+    (λ c. search nodes)
+    (λ c. search nodes))

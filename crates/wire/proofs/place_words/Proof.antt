@@ -1,7 +1,7 @@
 use lib.Ieee.{ofBits}
 use borrow.Author.Needs.{needs}
 use Rattle.wire.specs.Verdicts.{placeWords}
-use Rattle.wire.proofs.CaseLaws.{values-behind, by-case}
+use Rattle.wire.proofs.CaseLaws.{by-case}
 use Rattle.wire.proofs.place_words.Statement.{statement}
 use Rattle.wire.proofs.place_words.Tie as tie
 
@@ -10,7 +10,7 @@ unfolding ofBits
 place-words-spec =
     tie.close
     (tie.spec
-    (λ c. search (needs, values-behind, by-case placeWords))
-    (λ c. search (needs, values-behind, by-case placeWords))
-    (λ c. search (needs, values-behind, by-case placeWords))
-    (λ c. search (needs, values-behind, by-case placeWords)))
+    (λ c. search (needs, by-case placeWords))
+    (λ c. search (needs, by-case placeWords))
+    (λ c. search (needs, by-case placeWords))
+    (λ c. search (needs, by-case placeWords)))

@@ -1,6 +1,6 @@
 use borrow.Author.Needs.{needs}
 use Rattle.wire.specs.Verdicts.{spanWords}
-use Rattle.wire.proofs.CaseLaws.{values-behind, by-case}
+use Rattle.wire.proofs.CaseLaws.{by-case}
 use Rattle.wire.proofs.span_words.Statement.{statement}
 use Rattle.wire.proofs.span_words.Tie as tie
 
@@ -8,7 +8,7 @@ pub span-words-spec : {M : Type 1} → statement M
 span-words-spec =
     tie.close
     (tie.spec
-    (λ c. search (needs, values-behind, by-case spanWords))
-    (λ c. search (needs, values-behind, by-case spanWords))
-    (λ c. search (needs, values-behind, by-case spanWords))
-    (λ c. search (needs, values-behind, by-case spanWords)))
+    (λ c. search (needs, by-case spanWords))
+    (λ c. search (needs, by-case spanWords))
+    (λ c. search (needs, by-case spanWords))
+    (λ c. search (needs, by-case spanWords)))

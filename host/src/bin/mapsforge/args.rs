@@ -1,6 +1,7 @@
 //! The words behind a command.
 
 use crate::Failure;
+use mapsforge::{NoKey, Position, TagFilter};
 use std::str::FromStr;
 
 /// An option: its names, and whether a value follows it.
@@ -13,7 +14,7 @@ pub struct Choice {
 /// The words behind a command, sorted.
 pub struct Args {
     command: &'static str,
-    help: Option<&'static str>,
+    help: bool,
     plain: Vec<String>,
     chosen: Vec<(&'static str, String)>,
 }
@@ -22,18 +23,17 @@ impl Args {
     /// Sorts the words. An option that the command does not have is a mistake, unless help is asked for.
     pub fn parse(
         command: &'static str,
-        help: &'static str,
         choices: &'static [Choice],
         words: impl Iterator<Item = String>,
     ) -> Result<Args, Failure> {
         let words: Vec<String> = words.collect();
-        let mut args = Args { command, help: None, plain: Vec::new(), chosen: Vec::new() };
+        let mut args = Args { command, help: false, plain: Vec::new(), chosen: Vec::new() };
         if words
             .iter()
             .take_while(|word| *word != "--")
             .any(|word| word == "--help" || word == "-h")
         {
-            args.help = Some(help);
+            args.help = true;
             return Ok(args);
         }
         let mut words = words.into_iter();
@@ -42,7 +42,7 @@ impl Args {
                 args.plain.extend(words);
                 break;
             }
-            if word == "-" || !word.starts_with('-') {
+            if !is_option(&word) {
                 args.plain.push(word);
                 continue;
             }
@@ -67,8 +67,8 @@ impl Args {
         Ok(args)
     }
 
-    /// The help text, if it was asked for.
-    pub fn help(&self) -> Option<&'static str> {
+    /// Whether help was asked for.
+    pub fn help(&self) -> bool {
         self.help
     }
 
@@ -82,6 +82,14 @@ impl Args {
             return Err(self.mistake(&text));
         }
         Ok(std::array::from_fn(|k| self.plain[k].as_str()))
+    }
+
+    /// All plain words, at least one.
+    pub fn some(&self, name: &str) -> Result<&[String], Failure> {
+        if self.plain.is_empty() {
+            return Err(self.mistake(&format!("needs {name}")));
+        }
+        Ok(&self.plain)
     }
 
     /// Whether an option was given.
@@ -105,8 +113,78 @@ impl Args {
         Ok(Some(number))
     }
 
-    fn mistake(&self, text: &str) -> Failure {
+    /// The last value of an option as numbers with commas between them.
+    pub fn numbers<const N: usize>(
+        &self,
+        long: &str,
+        what: &str,
+    ) -> Result<Option<[f64; N]>, Failure> {
+        let Some(value) = self.value(long) else {
+            return Ok(None);
+        };
+        let numbers = numbers(value)
+            .ok_or_else(|| self.mistake(&format!("takes {what} behind {long}, not {value:?}")))?;
+        Ok(Some(numbers))
+    }
+
+    /// The tags that all values of an option name, with commas between them.
+    pub fn tags(&self, long: &str) -> Result<Vec<TagFilter>, Failure> {
+        let values = self.chosen.iter().filter(|(name, _)| *name == long);
+        let words = values.flat_map(|(_, value)| value.split(','));
+        let tags = words.map(|word| {
+            word.trim().parse().map_err(|NoKey| {
+                self.mistake(&format!("takes KEY or KEY=VALUE behind {long}, not {word:?}"))
+            })
+        });
+        tags.collect()
+    }
+
+    pub fn mistake(&self, text: &str) -> Failure {
         let command = self.command;
         Failure::Mistake(format!("{command} {text}: see `mapsforge {command} --help`"))
+    }
+}
+
+/// Whether a word is an option: `-` is standard input, and a number may be below 0.
+fn is_option(word: &str) -> bool {
+    let Some(rest) = word.strip_prefix('-') else {
+        return false;
+    };
+    !rest.is_empty() && !rest.starts_with(|letter: char| letter.is_ascii_digit() || letter == '.')
+}
+
+/// So many numbers with commas between them.
+fn numbers<const N: usize>(text: &str) -> Option<[f64; N]> {
+    let numbers: Vec<f64> =
+        text.split(',').map(|word| word.trim().parse().ok()).collect::<Option<_>>()?;
+    let numbers: [f64; N] = numbers.try_into().ok()?;
+    numbers.iter().all(|number| number.is_finite()).then_some(numbers)
+}
+
+/// A place on earth: LAT,LON in degrees.
+pub fn position(text: &str) -> Option<Position> {
+    let [latitude, longitude] = numbers(text)?;
+    let on_earth = latitude.abs() <= 90.0 && longitude.abs() <= 180.0;
+    on_earth.then_some(Position { latitude, longitude })
+}
+
+#[cfg(test)]
+mod tests {
+    use super::{is_option, position};
+
+    #[test]
+    fn options() {
+        let options = ["-o", "--at", "-z", "--"].map(is_option);
+        assert_eq!(options, [true; 4]);
+        assert_eq!(["-", "-33.9,18.4", "-.5,1", "a-b", ""].map(is_option), [false; 5]);
+    }
+
+    #[test]
+    fn positions() {
+        let at = position("62.5, -0.25").expect("it is one");
+        assert_eq!((at.latitude, at.longitude), (62.5, -0.25));
+        for text in ["", "62", "62;1", "91,0", "0,181", "1,2,3", "nan,0", "inf,0"] {
+            assert!(position(text).is_none(), "{text}");
+        }
     }
 }

@@ -1,204 +1,356 @@
 //! `mapsforge check`
 
 use crate::args::{Args, Choice};
-use crate::output::{count, tile as named};
-use crate::{open, open_map, Failure, Outcome};
-use mapsforge::check::{self, MapFinding, Report};
-use mapsforge::{Map, SubFile};
-use std::collections::HashSet;
+use crate::input::{self, Source};
+use crate::json::Value;
+use crate::output::{clean, count, position, position_value, tags, Unheard};
+use crate::{Failure, Outcome, Status};
+use mapsforge::check::{every_tile, FeatureNote, Finding, Sum, Watch};
+use mapsforge::Map;
 use std::io::{self, IsTerminal, Write};
+use std::thread;
 use std::time::{Duration, Instant};
 
 pub const HELP: &str = "\
-mapsforge check MAP [--all] [--skip-empty]
+mapsforge check MAP... [--json] [--all]
 
-Reads every tile of every sub file, and tells where a stream of the map may part from the list
-of its features: tiles that are refused, ways whose stored size is not their decoded length,
-first-way offsets that do not lead to the end of the points. Each finding names its place.
+Whether maps can be used. Reads every tile of every sub file, and asks the library whether it
+collects, whether every stored size is the decoded length, and whether the first-way offset
+leads to the end of the points. Where that is so, a list that collects tiles and a panel that
+streams them and declines some ways show the same. What is not so is a finding: it names the
+feature and its place, what follows for list and panel, and what to do.
 
-    --all           all findings, not only the first 100
-    --skip-empty    not the tiles that the map marks as empty, by giving the next one the same
-                    offset: for a program that looks at that mark before it asks for a tile
+MAP is a file, a folder (all files in it and below it that end in .map) or - for standard
+input. The last line of each map is PASS or DO NOT USE. The line before it counts the tiles,
+and those that are empty, which is no finding: the index says that they have no features.
 
-The status is 0 if nothing is found, 1 if something is, 2 if the file is no map.
+    --json         one document for a program, as docs/JSON.md has it
+    --all          all findings of a map, not only the first 100
+    --threads N    so many threads, instead of one for each processor
+
+The status is 0 if all maps pass, 1 if one has findings, 2 if one could not be looked at.
 ";
 
 pub const OPTIONS: &[Choice] = &[
+    Choice { long: "--json", short: None, valued: false },
     Choice { long: "--all", short: None, valued: false },
-    Choice { long: "--skip-empty", short: None, valued: false },
+    Choice { long: "--threads", short: None, valued: true },
 ];
 
+/// How many findings of a map are shown.
 const SHOWN: u64 = 100;
 
-pub fn run(args: &Args, out: &mut impl Write) -> Outcome {
-    if let Some(help) = args.help() {
-        out.write_all(help.as_bytes())?;
-        return Ok(true);
+pub fn run(args: &Args, out: &mut dyn Write) -> Outcome {
+    let sources = input::sources(args.some("a MAP")?);
+    let how = How::new(args)?;
+    let mut out = Unheard::new(out);
+    let mut checked = Vec::new();
+    for source in &sources {
+        checked.push(if args.has("--json") {
+            open_and_look(source, |map| gather(map, &how))
+        } else {
+            tell(source, &how, &mut out)?
+        });
     }
-    let [path] = args.plain(["a MAP"])?;
-    let file = open(path)?;
-    let map = open_map(path, &file)?;
-    let shown = if args.has("--all") { u64::MAX } else { SHOWN };
-    let skip_empty = args.has("--skip-empty");
-    let mut checked = Checked { shown, skip_empty, ..Checked::default() };
-    let mut unwalked = HashSet::new();
-    for finding in check::map(&map) {
-        checked.find(out, &finding.to_string())?;
-        if let MapFinding::Grid { sub_file, .. } | MapFinding::Index { sub_file, .. } = finding {
-            unwalked.insert(sub_file);
-        }
+    let status = checked.iter().map(Checked::status).max().unwrap_or(Status::Well);
+    if args.has("--json") {
+        writeln!(out, "{}", document(&checked, status))?;
     }
-    let walked = (0..map.intervals().len()).filter(|number| !unwalked.contains(number));
-    let walked = walked.map(|number| map.sub_file(number)).collect::<Result<Vec<_>, _>>()?;
-    let mut bar = Bar::new(&walked)?;
-    for sub_file in &walked {
-        checked.sub_file(sub_file, &mut bar, out)?;
-    }
-    bar.clear();
-    checked.summary(&map, out)?;
-    Ok(checked.findings == 0)
+    Ok(status)
 }
 
-/// What was met so far.
-#[derive(Default)]
-struct Checked {
-    shown: u64,
-    skip_empty: bool,
-    findings: u64,
-    tiles: u64,
-    empty: u64,
-    /// Tiles that are marked empty and at whose place another one's features are read.
-    borrowed: u64,
-    points: u64,
-    ways: u64,
+/// How to check.
+pub struct How {
+    pub shown: u64,
+    pub threads: usize,
+}
+
+impl How {
+    pub fn new(args: &Args) -> Result<How, Failure> {
+        let shown = if args.has("--all") { u64::MAX } else { SHOWN };
+        let threads = args.number("--threads", "a number of threads")?;
+        let all = || thread::available_parallelism().map_or(1, usize::from);
+        Ok(How { shown, threads: threads.unwrap_or_else(all).max(1) })
+    }
+}
+
+/// A map that was checked, or why it was not.
+pub struct Checked {
+    pub name: String,
+    pub result: Result<Seen, String>,
+}
+
+/// What was seen of a map.
+pub struct Seen {
+    pub sub_files: usize,
+    pub sum: Sum,
+    /// The first findings, where they were kept.
+    pub findings: Vec<Finding>,
 }
 
 impl Checked {
-    fn find(&mut self, out: &mut impl Write, text: &str) -> io::Result<()> {
-        self.findings += 1;
-        if self.findings <= self.shown {
-            writeln!(out, "{text}")?;
+    pub fn status(&self) -> Status {
+        match &self.result {
+            Ok(seen) => Status::well_if(seen.sum.findings == 0),
+            Err(_) => Status::Unseen,
         }
-        Ok(())
     }
 
-    fn sub_file(
-        &mut self,
-        sub_file: &SubFile<'_, '_>,
-        bar: &mut Bar,
-        out: &mut impl Write,
-    ) -> Result<(), Failure> {
-        for place in sub_file.tiles()? {
-            if self.skip_empty && sub_file.marked_empty(place.number).unwrap_or(false) {
-                self.tiles += 1;
-                self.empty += 1;
-            } else {
-                self.report(sub_file, &check::tile(sub_file, place), bar, out)?;
-            }
-            bar.step();
+    pub fn verdict(&self) -> &'static str {
+        match self.status() {
+            Status::Well => "PASS",
+            Status::Found | Status::Unseen => "DO NOT USE",
         }
-        Ok(())
     }
+}
 
-    fn report(
-        &mut self,
-        sub_file: &SubFile<'_, '_>,
-        report: &Report,
-        bar: &mut Bar,
-        out: &mut impl Write,
-    ) -> io::Result<()> {
-        self.tiles += 1;
-        self.empty += u64::from(report.marked_empty);
-        match report.counts {
-            Some(_) if report.marked_empty => self.borrowed += 1,
-            Some((points, ways)) => {
-                self.points += points;
-                self.ways += ways;
-            }
-            None => {}
-        }
-        let mark = if report.marked_empty { ", marked empty" } else { "" };
-        for finding in &report.findings {
-            bar.clear();
-            self.find(out, &format!("{}{mark}: {finding}", named(sub_file, report.place)))?;
-        }
-        // On a terminal each finding is seen as it is met.
-        if bar.on && !report.findings.is_empty() {
-            out.flush()?;
-        }
-        Ok(())
-    }
-
-    /// What is true of tiles that are marked empty, and is no finding.
-    fn note_on_empty(&self, out: &mut impl Write) -> io::Result<()> {
-        let verb = if self.empty == 1 { "is" } else { "are" };
-        let marked = format!("{} {verb} marked empty", count(self.empty, "tile"));
-        if self.skip_empty {
-            return writeln!(out, "{marked}, and left out");
-        }
-        writeln!(
-            out,
-            "{marked}, by the offset of the next one: the library reads what stands there, \
-             another tile's features in {}, and refuses {}; a program that looks at the mark \
-             first does not meet them (--skip-empty)",
-            self.borrowed,
-            self.empty - self.borrowed
-        )
-    }
-
-    fn summary(&self, map: &Map<'_>, out: &mut impl Write) -> io::Result<()> {
-        if self.findings > self.shown {
-            writeln!(out, "... and {} more: --all shows them", self.findings - self.shown)?;
-        }
-        if self.empty > 0 {
-            self.note_on_empty(out)?;
-        }
-        let verdict = match self.findings {
+impl Seen {
+    /// What was counted, in a sentence.
+    pub fn counted(&self) -> String {
+        let sum = &self.sum;
+        let empty = if sum.empty == 0 { "none".into() } else { sum.empty.to_string() };
+        let verdict = match sum.findings {
             0 => "stream and list agree".into(),
             found => count(found, "finding"),
         };
-        writeln!(
-            out,
-            "{} in {}, {}, {}: {verdict}",
-            count(self.tiles, "tile"),
-            count(map.intervals().len() as u64, "sub file"),
-            count(self.points, "point"),
-            count(self.ways, "way")
+        format!(
+            "{} ({empty} empty) in {}, {}, {}: {verdict}",
+            count(sum.tiles, "tile"),
+            count(self.sub_files as u64, "sub file"),
+            count(sum.points, "point"),
+            count(sum.ways, "way")
         )
     }
 }
 
+/// Checks a map.
+fn look(map: &Map<'_>, how: &How, watch: &mut impl Watch) -> Seen {
+    let sum = every_tile(map, how.threads, watch);
+    Seen { sub_files: map.intervals().len(), sum, findings: Vec::new() }
+}
+
+/// Opens a map and checks it.
+fn open_and_look(source: &Source, look: impl FnOnce(&Map<'_>) -> Seen) -> Checked {
+    let result = source.open().and_then(|file| Ok(look(&source.map(&file)?)));
+    let result = result.map_err(|failure| failure.text());
+    Checked { name: source.name.clone(), result }
+}
+
+/// Checks a map, and keeps the first findings.
+pub fn gather(map: &Map<'_>, how: &How) -> Seen {
+    let mut kept = Keeping { shown: how.shown, findings: Vec::new(), bar: Bar::default() };
+    let seen = look(map, how, &mut kept);
+    kept.bar.clear();
+    Seen { findings: kept.findings, ..seen }
+}
+
+struct Keeping {
+    shown: u64,
+    findings: Vec<Finding>,
+    bar: Bar,
+}
+
+impl Watch for Keeping {
+    fn found(&mut self, finding: Finding) {
+        if (self.findings.len() as u64) < self.shown {
+            self.findings.push(finding);
+        }
+    }
+
+    fn done(&mut self, tiles: u64, all: u64) {
+        self.bar.step(tiles, all);
+    }
+}
+
+/// Writes each finding as it is met.
+struct Writing<'o> {
+    out: &'o mut dyn Write,
+    failed: Option<io::Error>,
+    shown: u64,
+    met: u64,
+    bar: Bar,
+}
+
+impl Watch for Writing<'_> {
+    fn found(&mut self, finding: Finding) {
+        self.met += 1;
+        if self.met > self.shown || self.failed.is_some() {
+            return;
+        }
+        self.bar.clear();
+        let text = finding_text(self.met, &finding);
+        let mut done = self.out.write_all(text.as_bytes());
+        // On a terminal each finding is seen as it is met.
+        if self.bar.on && done.is_ok() {
+            done = self.out.flush();
+        }
+        self.failed = done.err();
+    }
+
+    fn done(&mut self, tiles: u64, all: u64) {
+        self.bar.step(tiles, all);
+    }
+}
+
+/// Checks a map, and writes what is found and the verdict.
+fn tell(source: &Source, how: &How, out: &mut dyn Write) -> io::Result<Checked> {
+    let bar = Bar::default();
+    let mut writing = Writing { out, failed: None, shown: how.shown, met: 0, bar };
+    let checked = open_and_look(source, |map| look(map, how, &mut writing));
+    writing.bar.clear();
+    let Writing { failed, met, .. } = writing;
+    failed.map_or(Ok(()), Err)?;
+    if met > how.shown {
+        writeln!(out, "... and {} more: --all shows them", met - how.shown)?;
+    }
+    match &checked.result {
+        Ok(seen) => writeln!(out, "{}", seen.counted())?,
+        Err(why) => {
+            // What was written before comes first.
+            out.flush()?;
+            let _ = writeln!(io::stderr(), "mapsforge: {why}");
+        }
+    }
+    writeln!(out, "{}: {}", checked.verdict(), clean(&checked.name))?;
+    Ok(checked)
+}
+
+/// The feature of a finding, as a person knows it.
+pub fn feature_text(feature: &FeatureNote) -> String {
+    let mut parts = vec![format!("{} {}", feature.kind.word(), feature.number)];
+    if let Some(name) = &feature.name {
+        parts[0].push_str(&format!(" \"{}\"", clean(name)));
+    }
+    if !feature.tags.is_empty() {
+        parts.push(tags(&feature.tags));
+    }
+    parts.extend(feature.position.map(|at| format!("at {}", position(at))));
+    parts.extend(feature.zooms.map(|(from, to)| match from == to {
+        true => format!("zoom {from}"),
+        false => format!("zoom {from} to {to}"),
+    }));
+    parts.join(", ")
+}
+
+/// The place of a finding: where in the map and, unless its feature tells, where on earth.
+pub fn place_text(finding: &Finding) -> String {
+    let mut place = finding.place();
+    let known = finding.feature.as_ref().is_some_and(|feature| feature.position.is_some());
+    if let Some(around) = finding.around.filter(|_| !known) {
+        place.push_str(&format!(", around {}", position(around)));
+    }
+    place
+}
+
+/// The place of a finding and what is wrong.
+fn fact(finding: &Finding) -> String {
+    let (place, what) = (place_text(finding), clean(&finding.what()));
+    if place.is_empty() {
+        return what;
+    }
+    format!("{place}: {what}")
+}
+
+/// A finding for a person: the feature, the place and what is wrong, what follows and what to do.
+fn finding_text(number: u64, finding: &Finding) -> String {
+    let mut lines = Vec::new();
+    lines.extend(finding.feature.as_ref().map(feature_text));
+    lines.push(fact(finding));
+    lines.push(format!("list:  {}", clean(&finding.collected())));
+    lines.push(format!("panel: {}", clean(&finding.streamed())));
+    lines.push(format!("do:    {}", finding.remedy()));
+    let indent = format!("\n{:4}", "");
+    format!("{:<3} {}\n", format!("{number}."), lines.join(&indent))
+}
+
+/// The document of `--json`.
+fn document(checked: &[Checked], status: Status) -> Value {
+    Value::object([
+        ("format", Value::text("mapsforge-check")),
+        ("version", Value::Whole(1)),
+        ("status", Value::Whole(status as u64)),
+        ("maps", Value::List(checked.iter().map(map_value).collect())),
+    ])
+}
+
+fn map_value(checked: &Checked) -> Value {
+    let start = Value::object([
+        ("map", Value::text(checked.name.clone())),
+        ("verdict", Value::text(checked.verdict())),
+        ("checked", Value::Bool(checked.result.is_ok())),
+    ]);
+    let seen = match &checked.result {
+        Ok(seen) => seen,
+        Err(why) => return start.with("error", Value::text(why.clone())),
+    };
+    start
+        .with("sub_files", Value::Whole(seen.sub_files as u64))
+        .with("tiles", Value::Whole(seen.sum.tiles))
+        .with("empty_tiles", Value::Whole(seen.sum.empty))
+        .with("points", Value::Whole(seen.sum.points))
+        .with("ways", Value::Whole(seen.sum.ways))
+        .with("finding_count", Value::Whole(seen.sum.findings))
+        .with("findings", Value::List(seen.findings.iter().map(finding_value).collect()))
+}
+
+fn finding_value(finding: &Finding) -> Value {
+    let covered = finding.covered;
+    let whole = |number: usize| Value::Whole(number as u64);
+    Value::object([
+        ("kind", Value::text(finding.kind())),
+        ("what", Value::text(finding.what())),
+        ("list", Value::text(finding.collected())),
+        ("panel", Value::text(finding.streamed())),
+        ("do", Value::text(finding.remedy())),
+        ("sub_file", Value::optional(covered, |covered| whole(covered.sub_file))),
+        ("tile", Value::optional(finding.tile, |tile| whole(tile.number))),
+        ("tile_zoom", Value::optional(covered, |covered| Value::Whole(covered.base_zoom.into()))),
+        ("tile_x", Value::optional(finding.tile, |tile| Value::Signed(tile.x.into()))),
+        ("tile_y", Value::optional(finding.tile, |tile| Value::Signed(tile.y.into()))),
+        ("around", Value::optional(finding.around, position_value)),
+        ("byte", Value::optional(finding.byte, Value::Whole)),
+        ("refusal", Value::optional(finding.refusal(), |refusal| Value::Whole(refusal.number()))),
+        ("feature", Value::optional(finding.feature.as_ref(), feature_value)),
+    ])
+}
+
+fn feature_value(feature: &FeatureNote) -> Value {
+    Value::object([
+        ("kind", Value::text(feature.kind.word())),
+        ("number", Value::Whole(feature.number)),
+        ("name", Value::optional(feature.name.clone(), Value::Text)),
+        ("tags", Value::texts(feature.tags.iter().cloned())),
+        ("position", Value::optional(feature.position, position_value)),
+        ("min_zoom", Value::optional(feature.zooms, |zooms| Value::Whole(zooms.0.into()))),
+        ("max_zoom", Value::optional(feature.zooms, |zooms| Value::Whole(zooms.1.into()))),
+    ])
+}
+
 /// How far it has come, on a terminal.
-struct Bar {
+pub struct Bar {
     on: bool,
     drawn: bool,
-    done: u64,
-    all: u64,
     last: Instant,
 }
 
-impl Bar {
-    fn new(sub_files: &[SubFile<'_, '_>]) -> Result<Bar, Failure> {
-        let mut all = 0;
-        for sub_file in sub_files {
-            all += sub_file.tile_count()?;
-        }
-        let on = io::stderr().is_terminal();
-        Ok(Bar { on, drawn: false, done: 0, all, last: Instant::now() })
+impl Default for Bar {
+    fn default() -> Bar {
+        Bar { on: io::stderr().is_terminal(), drawn: false, last: Instant::now() }
     }
+}
 
-    fn step(&mut self) {
-        self.done += 1;
+impl Bar {
+    fn step(&mut self, done: u64, all: u64) {
         if self.on && self.last.elapsed() >= Duration::from_millis(100) {
             self.last = Instant::now();
-            self.draw();
+            self.draw(done, all);
         }
     }
 
-    fn draw(&mut self) {
-        let filled = (30 * self.done / self.all.max(1)) as usize;
+    fn draw(&mut self, done: u64, all: u64) {
+        let filled = (30 * done / all.max(1)).min(30) as usize;
         let bar = format!("{}{}", "#".repeat(filled), ".".repeat(30 - filled));
-        let _ = write!(io::stderr(), "\r[{bar}] {} of {} tiles", self.done, self.all);
+        let _ = write!(io::stderr(), "\r[{bar}] {done} of {all} tiles");
         let _ = io::stderr().flush();
         self.drawn = true;
     }

@@ -1,8 +1,9 @@
 //! `mapsforge info`
 
 use crate::args::{Args, Choice};
+use crate::input::Source;
 use crate::output::{clean, count, date, position};
-use crate::{open, open_map, Outcome};
+use crate::{Outcome, Status};
 use mapsforge::{Map, Part, SubFile, TagNames};
 use std::io::{self, Write};
 
@@ -12,19 +13,19 @@ mapsforge info MAP [--tags]
 What the header of a map says: version, size, box, languages, tags, sub files.
 
     --tags    the names of all tags too, with their numbers
+
+The status is 1 if the tiles of a sub file cannot be named, 2 if the file is no map.
 ";
 
 pub const OPTIONS: &[Choice] = &[Choice { long: "--tags", short: None, valued: false }];
 
-pub fn run(args: &Args, out: &mut impl Write) -> Outcome {
-    if let Some(help) = args.help() {
-        out.write_all(help.as_bytes())?;
-        return Ok(true);
-    }
+pub fn run(args: &Args, out: &mut dyn Write) -> Outcome {
     let [path] = args.plain(["a MAP"])?;
-    let file = open(path)?;
-    let map = open_map(path, &file)?;
+    let source = Source::named(path);
+    let file = source.open()?;
+    let map = source.map(&file)?;
     fields(&map, out)?;
+    let mut status = Status::Well;
     for (number, interval) in map.intervals().iter().enumerate() {
         write!(
             out,
@@ -37,14 +38,17 @@ pub fn run(args: &Args, out: &mut impl Write) -> Outcome {
         )?;
         match map.sub_file(number).and_then(|found| Ok((found, found.tile_count()?))) {
             Ok((found, tiles)) => writeln!(out, ", {}: {}", count(tiles, "tile"), extent(&found))?,
-            Err(refusal) => writeln!(out, "; refused with {}: {refusal}", refusal.number())?,
+            Err(refusal) => {
+                status = Status::Found;
+                writeln!(out, "; refused with {}: {refusal}", refusal.number())?;
+            }
         }
     }
     if args.has("--tags") {
         tags("point", map.point_tags(), out)?;
         tags("way", map.way_tags(), out)?;
     }
-    Ok(true)
+    Ok(status)
 }
 
 /// The columns and rows of a sub file.
@@ -53,7 +57,7 @@ pub fn extent(sub_file: &SubFile<'_, '_>) -> String {
     format!("columns {} to {}, rows {} to {}", grid.x_min, grid.x_max, grid.y_min, grid.y_max)
 }
 
-fn fields(map: &Map<'_>, out: &mut impl Write) -> io::Result<()> {
+fn fields(map: &Map<'_>, out: &mut dyn Write) -> io::Result<()> {
     let header = map.header();
     let covered = header.bounding_box;
     let mut line = |name: &str, text: String| writeln!(out, "{name:<12} {text}");
@@ -102,7 +106,7 @@ fn size(map: &Map<'_>) -> String {
     format!("{text}, but the header says {stored}")
 }
 
-fn tags(kind: &str, names: &TagNames<'_>, out: &mut impl Write) -> io::Result<()> {
+fn tags(kind: &str, names: &TagNames<'_>, out: &mut dyn Write) -> io::Result<()> {
     for (id, tag) in names.iter().enumerate() {
         writeln!(out, "{kind} tag {id}: {}", clean(&tag.text.to_text()))?;
     }

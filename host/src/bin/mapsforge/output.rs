@@ -1,36 +1,54 @@
-//! How texts and numbers are written.
+//! How texts and numbers are written, and to whom.
 
-use mapsforge::{Position, SubFile, TilePlace};
+use crate::json::Value;
+use mapsforge::{Name, Placed, Position, SubFile, TilePlace};
+use std::io::{self, Write};
 
-/// A text of a map without what a terminal would act on.
+/// Whether a letter is one that a terminal or a browser would act on, or that nobody sees: control characters, those that
+/// turn the direction of writing, separators of lines, and other marks without a shape of their own.
+pub fn is_unseen(letter: char) -> bool {
+    letter.is_control()
+        || matches!(
+            letter,
+            '\u{ad}'
+                | '\u{61c}'
+                | '\u{180e}'
+                | '\u{200b}'
+                | '\u{200e}'..='\u{200f}'
+                | '\u{2028}'..='\u{202e}'
+                | '\u{2060}'..='\u{206f}'
+                | '\u{feff}'
+                | '\u{fff9}'..='\u{fffb}'
+                | '\u{e0000}'..='\u{e007f}'
+        )
+}
+
+/// A text of a map with what nobody would see written out.
 pub fn clean(text: &str) -> String {
-    text.chars()
-        .flat_map(|letter| {
-            let escaped = letter.is_control().then(|| letter.escape_default());
-            let plain = escaped.is_none().then_some(letter);
-            escaped.into_iter().flatten().chain(plain)
-        })
-        .collect()
+    let mut cleaned = String::with_capacity(text.len());
+    for letter in text.chars() {
+        if is_unseen(letter) {
+            cleaned.extend(letter.escape_default());
+        } else {
+            cleaned.push(letter);
+        }
+    }
+    cleaned
 }
 
 /// A name and its forms in other languages: they stand behind it, each with its language.
 pub fn name(text: &str) -> String {
-    let mut parts = text.split('\r');
-    let mut named = format!("\"{}\"", clean(parts.next().unwrap_or("")));
-    for part in parts {
-        match part.split_once('\u{8}') {
-            Some((language, other)) => {
+    let name = Name::new(text);
+    let mut named = format!("\"{}\"", clean(name.first()));
+    for (language, other) in name.others() {
+        match language {
+            Some(language) => {
                 named.push_str(&format!(" ({}: \"{}\")", clean(language), clean(other)));
             }
-            None => named.push_str(&format!(" (\"{}\")", clean(part))),
+            None => named.push_str(&format!(" (\"{}\")", clean(other))),
         }
     }
     named
-}
-
-/// The first form of a name.
-pub fn first_name(text: &str) -> &str {
-    text.split('\r').next().unwrap_or("")
 }
 
 /// A position with all its microdegrees.
@@ -38,16 +56,44 @@ pub fn position(at: Position) -> String {
     format!("{:.6}, {:.6}", at.latitude, at.longitude)
 }
 
+/// The same as a value.
+pub fn position_value(at: Position) -> Value {
+    Value::object([
+        ("latitude", Value::Decimal(at.latitude, 6)),
+        ("longitude", Value::Decimal(at.longitude, 6)),
+    ])
+}
+
 /// Which tile it is.
 pub fn tile(sub_file: &SubFile<'_, '_>, place: TilePlace) -> String {
-    let zoom = sub_file.interval().base_zoom;
-    format!(
-        "sub file {}, tile {} ({zoom}/{}/{})",
-        sub_file.number(),
-        place.number,
-        place.x,
-        place.y
-    )
+    format!("sub file {}, tile {} ({})", sub_file.number(), place.number, short(sub_file, place))
+}
+
+/// The same as other programs name it: ZOOM/X/Y.
+pub fn short(sub_file: &SubFile<'_, '_>, place: TilePlace) -> String {
+    format!("{}/{}/{}", sub_file.interval().base_zoom, place.x, place.y)
+}
+
+/// Name, texts and tags of a feature, in a line.
+pub fn feature(feature: &Placed<'_>) -> String {
+    let mut parts = Vec::new();
+    parts.extend(feature.name.map(name));
+    parts.extend(feature.house_number.map(|text| format!("house number \"{}\"", clean(text))));
+    parts.extend(feature.reference.map(|text| format!("reference \"{}\"", clean(text))));
+    if feature.layer != 0 {
+        parts.push(format!("layer {}", feature.layer));
+    }
+    parts.extend(feature.elevation.map(|metres| format!("elevation {metres} m")));
+    parts.push(tags(&feature.tag_texts()));
+    parts.join("  ")
+}
+
+/// Tags in a line.
+pub fn tags(tags: &[String]) -> String {
+    if tags.is_empty() {
+        return "no tags".into();
+    }
+    clean(&tags.join(" "))
 }
 
 /// A number with its word.
@@ -73,6 +119,46 @@ pub fn date(milliseconds: u64) -> String {
     format!("{year}-{month:02}-{day:02} {hour:02}:{minute:02}:{second:02} UTC")
 }
 
+/// Writes on when nobody reads any more: what is found out counts, not who listens. Other failures stay failures.
+pub struct Unheard<'o> {
+    out: &'o mut dyn Write,
+    closed: bool,
+}
+
+impl<'o> Unheard<'o> {
+    pub fn new(out: &'o mut dyn Write) -> Unheard<'o> {
+        Unheard { out, closed: false }
+    }
+
+    fn or_closed<T>(&mut self, done: io::Result<T>, otherwise: T) -> io::Result<T> {
+        match done {
+            Err(error) if error.kind() == io::ErrorKind::BrokenPipe => {
+                self.closed = true;
+                Ok(otherwise)
+            }
+            done => done,
+        }
+    }
+}
+
+impl Write for Unheard<'_> {
+    fn write(&mut self, bytes: &[u8]) -> io::Result<usize> {
+        if self.closed {
+            return Ok(bytes.len());
+        }
+        let done = self.out.write(bytes);
+        self.or_closed(done, bytes.len())
+    }
+
+    fn flush(&mut self) -> io::Result<()> {
+        if self.closed {
+            return Ok(());
+        }
+        let done = self.out.flush();
+        self.or_closed(done, ())
+    }
+}
+
 #[cfg(test)]
 mod tests {
     use super::*;
@@ -89,5 +175,10 @@ mod tests {
     fn names() {
         assert_eq!(name("Øya\ren\u{8}Island"), "\"Øya\" (en: \"Island\")");
         assert_eq!(clean("a\u{1b}[31m"), "a\\u{1b}[31m");
+        assert_eq!(
+            clean("1 \u{202e}epmaR\u{202c}\u{2066}\u{feff}"),
+            "1 \\u{202e}epmaR\\u{202c}\\u{2066}\\u{feff}"
+        );
+        assert_eq!(clean("नमस्ते 👩\u{200d}🚀"), "नमस्ते 👩\u{200d}🚀");
     }
 }

@@ -1,19 +1,23 @@
 //! `mapsforge show`
 
 use crate::args::{Args, Choice};
+use crate::input::Source;
 use crate::output::{clean, count, name, position, tile as named};
-use crate::{of_tile, open, open_map, target, Failure, Outcome};
-use mapsforge::{closed, Feature, Position, Step, SubFile, TilePlace};
+use crate::{of_tile, target, Failure, Outcome, Status};
+use mapsforge::{closed, Feature, Offset, Part, Position, Step, SubFile, TilePlace};
 use std::io::{self, Write};
 
 pub const HELP: &str = "\
 mapsforge show MAP TILE [--zoom ZOOM] [--nodes]
 
 The features of a tile: names, tags and positions, in degrees. TILE is SUBFILE:NUMBER,
-SUBFILE:X,Y (at the sub file's base zoom) or ZOOM/X/Y.
+SUBFILE:X,Y (at the sub file's base zoom) or ZOOM/X/Y. The first line says where it stands in
+the map, or that it is empty, and whether it is marked as water.
 
     --zoom ZOOM    what a stream delivers at this zoom, instead of the whole tile
     --nodes        all nodes of the ways, not only the first
+
+The status is 1 if the tile is refused, 2 if the file is no map or has no such tile.
 ";
 
 pub const OPTIONS: &[Choice] = &[
@@ -21,42 +25,37 @@ pub const OPTIONS: &[Choice] = &[
     Choice { long: "--nodes", short: None, valued: false },
 ];
 
-pub fn run(args: &Args, out: &mut impl Write) -> Outcome {
-    if let Some(help) = args.help() {
-        out.write_all(help.as_bytes())?;
-        return Ok(true);
-    }
+pub fn run(args: &Args, out: &mut dyn Write) -> Outcome {
     let [path, tile] = args.plain(["a MAP", "a TILE"])?;
     let zoom: Option<u8> = args.number("--zoom", "a number from 0 to 255")?;
-    let file = open(path)?;
-    let map = open_map(path, &file)?;
+    let source = Source::named(path);
+    let file = source.open()?;
+    let map = source.map(&file)?;
     let (sub_file, place) = target::find(&map, tile)?;
     let corner = sub_file.corner(place)?;
     write!(out, "{}", named(&sub_file, place))?;
     // The entry is refused below, by what reads the tile.
     if let Ok(entry) = sub_file.entry(place.number) {
-        write!(out, ", byte {}{}", entry.place, if entry.water { ", water" } else { "" })?;
+        match sub_file.is_empty(place.number) {
+            // Where its entry leads to is another tile.
+            Ok(true) => write!(out, ", empty")?,
+            _ => write!(out, ", byte {}", entry.place)?,
+        }
+        write!(out, "{}", if entry.water { ", water" } else { "" })?;
     }
     writeln!(out, ", north-western corner {}", position(corner))?;
-    if sub_file.marked_empty(place.number).unwrap_or(false) {
-        writeln!(
-            out,
-            "The tile is marked empty: its entry leads to the next tile, or to the sub file's end."
-        )?;
-        return Ok(true);
-    }
     let mut shown = Shown { corner, nodes: args.has("--nodes"), out };
     match zoom {
         Some(zoom) => streamed(&sub_file, place, zoom, &mut shown)?,
         None => collected(&sub_file, place, &mut shown)?,
     }
-    Ok(true)
+    Ok(Status::Well)
 }
 
-fn collected<W: Write>(
+fn collected(
     sub_file: &SubFile<'_, '_>,
     place: TilePlace,
-    shown: &mut Shown<'_, W>,
+    shown: &mut Shown<'_>,
 ) -> Result<(), Failure> {
     let tile = sub_file.collect(place.number).map_err(of_tile(place))?;
     let (points, ways) = (tile.point_count(), tile.way_count());
@@ -73,7 +72,7 @@ fn collected<W: Write>(
         match feature? {
             Feature::Point(point) => {
                 shown.head("point", number)?;
-                shown.position(point.position)?;
+                shown.position(point.offset)?;
                 shown.texts(point.name, point.house_number, None)?;
                 shown.numbers(point.layer, point.elevation, None)?;
                 // Texts are shown as such, not once more as tags.
@@ -102,11 +101,11 @@ fn joined(key: &str, value: &str) -> String {
     format!("{key}={value}")
 }
 
-fn streamed<W: Write>(
+fn streamed(
     sub_file: &SubFile<'_, '_>,
     place: TilePlace,
     zoom: u8,
-    shown: &mut Shown<'_, W>,
+    shown: &mut Shown<'_>,
 ) -> Result<(), Failure> {
     let mut stream = sub_file.stream(place.number, zoom).map_err(of_tile(place))?;
     let interval = sub_file.interval();
@@ -117,8 +116,8 @@ fn streamed<W: Write>(
         match stream.next()? {
             Step::Point(point) => {
                 shown.head("point", points)?;
-                shown.position(point.position)?;
-                let text = |part: Option<mapsforge::Part<'_>>| part.map(|part| part.to_text());
+                shown.position(point.offset)?;
+                let text = |part: Option<Part<'_>>| part.map(|part| part.to_text());
                 shown.texts(text(point.name), text(point.house_number), None)?;
                 shown.numbers(point.layer, point.elevation, None)?;
                 shown.tags(point.tags().map(|tag| tag.text.to_text()))?;
@@ -129,7 +128,7 @@ fn streamed<W: Write>(
                 shown.head("way", ways)?;
                 let blocks: Vec<_> = body.blocks.iter().map(|nodes| &nodes[..]).collect();
                 shown.first(&blocks)?;
-                let text = |part: Option<mapsforge::Part<'_>>| part.map(|part| part.to_text());
+                let text = |part: Option<Part<'_>>| part.map(|part| part.to_text());
                 shown.texts(text(body.name), text(body.house_number), text(body.reference))?;
                 shown.numbers(head.layer, None, Some(head.bitmap))?;
                 shown.tags(head.tags().map(|tag| tag.text.to_text()))?;
@@ -145,23 +144,23 @@ fn streamed<W: Write>(
 }
 
 /// Where features are written to, a line for each.
-struct Shown<'o, W> {
+struct Shown<'o> {
     corner: Position,
     nodes: bool,
-    out: &'o mut W,
+    out: &'o mut dyn Write,
 }
 
-impl<W: Write> Shown<'_, W> {
+impl Shown<'_> {
     fn head(&mut self, kind: &str, number: u64) -> io::Result<()> {
         write!(self.out, "{:<10}", format!("{kind} {number}"))
     }
 
-    fn position(&mut self, at: Position) -> io::Result<()> {
-        write!(self.out, " {}", position(self.corner.offset(at)))
+    fn position(&mut self, at: Offset) -> io::Result<()> {
+        write!(self.out, " {}", position(self.corner + at))
     }
 
     /// A way's first node stands for it.
-    fn first(&mut self, blocks: &[&[Position]]) -> io::Result<()> {
+    fn first(&mut self, blocks: &[&[Offset]]) -> io::Result<()> {
         match blocks.iter().find_map(|nodes| nodes.first()) {
             Some(&first) => self.position(first),
             None => write!(self.out, " no nodes"),
@@ -213,7 +212,7 @@ impl<W: Write> Shown<'_, W> {
     }
 
     /// A way's blocks, in a line of their own.
-    fn blocks(&mut self, blocks: &[&[Position]], label: Option<Position>) -> io::Result<()> {
+    fn blocks(&mut self, blocks: &[&[Offset]], label: Option<Offset>) -> io::Result<()> {
         write!(self.out, "{:11}", "")?;
         for (k, nodes) in blocks.iter().enumerate() {
             let word = count(nodes.len() as u64, "node");
@@ -225,7 +224,7 @@ impl<W: Write> Shown<'_, W> {
             )?;
         }
         if let (Some(label), Some(first)) = (label, blocks.iter().find_map(|nodes| nodes.first())) {
-            write!(self.out, ", label at {}", position(self.corner.offset(*first).offset(label)))?;
+            write!(self.out, ", label at {}", position(self.corner + (*first + label)))?;
         }
         writeln!(self.out)?;
         if !self.nodes {
@@ -233,7 +232,7 @@ impl<W: Write> Shown<'_, W> {
         }
         for (k, nodes) in blocks.iter().enumerate() {
             for &at in *nodes {
-                writeln!(self.out, "{:11}block {k}: {}", "", position(self.corner.offset(at)))?;
+                writeln!(self.out, "{:11}block {k}: {}", "", position(self.corner + at))?;
             }
         }
         Ok(())

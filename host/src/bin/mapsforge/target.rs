@@ -55,6 +55,23 @@ pub fn find<'m, 'a>(map: &'m Map<'a>, text: &str) -> Result<(SubFile<'m, 'a>, Ti
     }
 }
 
+/// The sub file that serves a zoom, by default the map's highest, and that zoom.
+pub fn zoomed_sub_file<'m, 'a>(
+    map: &'m Map<'a>,
+    zoom: Option<u8>,
+) -> Result<(SubFile<'m, 'a>, u8), Failure> {
+    let highest = map.intervals().iter().map(|interval| interval.max_zoom).max();
+    let Some(zoom) = zoom.or(highest) else {
+        return Err(Failure::Mistake("the map has no sub file".into()));
+    };
+    match map.sub_file_for_zoom(zoom)? {
+        Some(found) => Ok((found, zoom)),
+        None => Err(Failure::Mistake(format!(
+            "no sub file has zoom {zoom}: `mapsforge info` lists those of the map"
+        ))),
+    }
+}
+
 fn sub_file<'m, 'a>(map: &'m Map<'a>, number: usize) -> Result<SubFile<'m, 'a>, Failure> {
     let count = map.intervals().len();
     if number >= count {
@@ -76,11 +93,7 @@ fn zoomed<'m, 'a>(
     x: u32,
     y: u32,
 ) -> Result<(SubFile<'m, 'a>, TilePlace), Failure> {
-    let Some(found) = map.sub_file_for_zoom(zoom)? else {
-        return Err(Failure::Mistake(format!(
-            "no sub file has zoom {zoom}: `mapsforge info` lists those of the map"
-        )));
-    };
+    let (found, _) = zoomed_sub_file(map, Some(zoom))?;
     let base = found.interval().base_zoom;
     if zoom < base {
         return Err(Failure::Mistake(format!(

@@ -2,8 +2,9 @@
 
 use crate::args::Args;
 use crate::info::extent;
-use crate::{open, open_map, Outcome};
-use mapsforge::check::{self, MapFinding};
+use crate::input::Source;
+use crate::{Outcome, Status};
+use mapsforge::check;
 use mapsforge::{SubFile, TilePlace};
 use std::io::{self, Write};
 
@@ -11,35 +12,36 @@ pub const HELP: &str = "\
 mapsforge tiles MAP
 
 The sub files of a map, and each tile: its number, column and row, whether it is marked as
-water, its numbers of points and ways, or why it is refused. \"marked empty\" is a tile whose
-entry says that it has no features, by the offset of the next one.
+water, its numbers of points and ways, whether it is empty, or why it is refused. A tile is
+empty if the index says so: it has no bytes in the map.
+
+The status is 1 if a tile is refused, 2 if the file is no map.
 ";
 
-pub fn run(args: &Args, out: &mut impl Write) -> Outcome {
-    if let Some(help) = args.help() {
-        out.write_all(help.as_bytes())?;
-        return Ok(true);
-    }
+pub fn run(args: &Args, out: &mut dyn Write) -> Outcome {
     let [path] = args.plain(["a MAP"])?;
-    let file = open(path)?;
-    let map = open_map(path, &file)?;
+    let source = Source::named(path);
+    let file = source.open()?;
+    let map = source.map(&file)?;
     let findings = check::map(&map);
+    let mut status = Status::Well;
     for number in 0..map.intervals().len() {
-        let stopped = findings.iter().find(|finding| match finding {
-            MapFinding::Grid { sub_file, .. } | MapFinding::Index { sub_file, .. } => {
-                *sub_file == number
+        let stopped = findings
+            .iter()
+            .find(|finding| finding.covered.is_some_and(|covered| covered.sub_file == number));
+        let listed = match stopped {
+            Some(finding) => {
+                writeln!(out, "{finding}")?;
+                Status::Found
             }
-            MapFinding::FileSize { .. } => false,
-        });
-        match stopped {
-            Some(finding) => writeln!(out, "{finding}")?,
             None => list(&map.sub_file(number)?, out)?,
-        }
+        };
+        status = status.max(listed);
     }
-    Ok(true)
+    Ok(status)
 }
 
-fn list(sub_file: &SubFile<'_, '_>, out: &mut impl Write) -> Result<(), crate::Failure> {
+fn list(sub_file: &SubFile<'_, '_>, out: &mut dyn Write) -> Outcome {
     let interval = sub_file.interval();
     writeln!(
         out,
@@ -51,28 +53,37 @@ fn list(sub_file: &SubFile<'_, '_>, out: &mut impl Write) -> Result<(), crate::F
         extent(sub_file)
     )?;
     writeln!(out, "{:>8} {:>8} {:>8}  water {:>8} {:>8}", "tile", "x", "y", "points", "ways")?;
+    let mut status = Status::Well;
     for place in sub_file.tiles()? {
-        line(sub_file, place, out)?;
+        status = status.max(line(sub_file, place, out)?);
     }
-    Ok(())
+    Ok(status)
 }
 
-fn line(sub_file: &SubFile<'_, '_>, place: TilePlace, out: &mut impl Write) -> io::Result<()> {
+fn line(sub_file: &SubFile<'_, '_>, place: TilePlace, out: &mut dyn Write) -> io::Result<Status> {
     let TilePlace { number, x, y } = place;
     let water = sub_file.entry(number).is_ok_and(|entry| entry.water);
     let water = if water { "yes" } else { "" };
     write!(out, "{number:>8} {x:>8} {y:>8}  {water:<5} ")?;
-    if sub_file.marked_empty(number).unwrap_or(false) {
-        return writeln!(out, "marked empty");
-    }
     match sub_file.collect(number) {
         Ok(tile) => {
             write!(out, "{:>8} {:>8}", tile.point_count(), tile.way_count())?;
-            let note = if tile.exact() { "" } else { "  a stored size is wrong: see check" };
-            writeln!(out, "{note}")
+            let empty = sub_file.is_empty(number).unwrap_or(false);
+            writeln!(out, "{}", note(empty, tile.exact()))?;
+            Ok(Status::Well)
         }
         Err(refusal) => {
-            writeln!(out, "refused with {}: {}", refusal.number(), refusal.of_tile(number))
+            writeln!(out, "refused with {}: {}", refusal.number(), refusal.of_tile(number))?;
+            Ok(Status::Found)
         }
+    }
+}
+
+/// What is to be said of a tile besides its counts.
+fn note(empty: bool, exact: bool) -> &'static str {
+    match (empty, exact) {
+        (true, _) => "  empty",
+        (false, true) => "",
+        (false, false) => "  a stored size is wrong: see check",
     }
 }

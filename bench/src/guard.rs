@@ -1,0 +1,62 @@
+//! A guard against getting slower unnoticed: our instructions on the shipped map, against those that are kept.
+
+use std::collections::BTreeMap;
+use std::fs;
+use std::process::ExitCode;
+
+use crate::{counted, SHIPPED};
+
+const KEPT: &str = concat!(env!("CARGO_MANIFEST_DIR"), "/instructions.txt");
+/// The part of a figure by which it may differ.
+const MOST: f64 = 0.03;
+
+const HEAD: &str = "\
+# Instructions of our side, each work done once on maps/islands.map, and way data read once, as callgrind counts them.
+# bench/run --check compares them within 3 %; bench/run --keep writes them anew.
+";
+
+/// Tells of each work whose figure is another one than before.
+pub fn check() -> ExitCode {
+    let (kept, counted) = (kept(), counted::ours(SHIPPED));
+    let mut differ = 0;
+    for &(work, ours) in &counted {
+        let before = kept.get(work).copied();
+        if before.is_none_or(|before| is_other(ours, before)) {
+            let before = before.map_or("none".to_string(), |before| before.to_string());
+            println!("{work}: {ours} instructions, bench/instructions.txt has {before}");
+            differ += 1;
+        }
+    }
+    let is_known = |work: &&String| counted.iter().any(|(known, _)| known == work);
+    for work in kept.keys().filter(|work| !is_known(work)) {
+        println!("{work}: not counted, but in bench/instructions.txt");
+        differ += 1;
+    }
+    println!("instructions of {} works, {differ} differ by more than 3 %", counted.len());
+    if differ == 0 {
+        ExitCode::SUCCESS
+    } else {
+        ExitCode::FAILURE
+    }
+}
+
+fn is_other(ours: u64, before: u64) -> bool {
+    ours.abs_diff(before) as f64 > MOST * before as f64
+}
+
+pub fn keep() {
+    let lines = counted::ours(SHIPPED).into_iter().map(|(work, ours)| format!("{work} {ours}\n"));
+    let text = lines.fold(HEAD.to_string(), |text, line| text + &line);
+    fs::write(KEPT, text).expect("bench/instructions.txt can be written");
+}
+
+/// The kept figures by their works.
+fn kept() -> BTreeMap<String, u64> {
+    let text = fs::read_to_string(KEPT).expect("bench/instructions.txt can be read");
+    let lines = text.lines().filter(|line| !line.starts_with('#'));
+    let figure = |line: &str| {
+        let (work, number) = line.split_once(' ')?;
+        Some((work.to_string(), number.parse().ok()?))
+    };
+    lines.map(|line| figure(line).unwrap_or_else(|| panic!("{line:?} is no figure"))).collect()
+}

@@ -1,0 +1,15 @@
+use borrow.Author.Needs.{needs}
+use mathlib.Core.Path.{refl}
+use Rattle.index_wire.proofs.put_longitude.Statement.{statement}
+use Rattle.index_wire.proofs.put_longitude.Tie as tie
+
+pub put-longitude-spec : {M : Type 1} → statement M
+put-longitude-spec =
+    tie.close
+    (tie.spec
+    (search needs)
+    (search needs)
+    (search needs)
+    (search needs)
+    (λ c. rw (c .before .got .given .1) refl)
+    (λ c. rw (c .before .before .before .got2 .given .1, c .put-refusal .ensures .0, c .put-refusal .ensures .1) refl))

@@ -1,0 +1,15 @@
+use borrow.Author.Needs.{needs}
+use mathlib.Core.Path.{refl}
+use Rattle.index_wire.proofs.put_way_data.Statement.{statement}
+use Rattle.index_wire.proofs.put_way_data.Tie as tie
+
+pub put-way-data-spec : {M : Type 1} → statement M
+put-way-data-spec =
+    tie.close
+    (tie.spec
+    (search needs)
+    (search needs)
+    (search needs)
+    (search needs)
+    (λ c. rw (c .before .before .before .got .given .1) (c .put-sizes .ensures))
+    (λ c. rw (c .before .before .before .got2 .given .1, c .put-refusal .ensures .0, c .put-refusal .ensures .1) refl))

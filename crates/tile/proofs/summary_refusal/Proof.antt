@@ -1,0 +1,13 @@
+use borrow.Author.Needs.{needs}
+use mathlib.Core.Path.{refl}
+use Rattle.tile.proofs.summary_refusal.Statement.{statement}
+use Rattle.tile.proofs.summary_refusal.Tie as tie
+
+pub summary-refusal-spec : {M : Type 1} → statement M
+summary-refusal-spec =
+    tie.close
+    (tie.spec
+    (λ c. c .match .keys1)
+    (λ c. c .match .keys2)
+    (λ c. rw (c .before .got .given .1) refl)
+    (λ c. search needs))

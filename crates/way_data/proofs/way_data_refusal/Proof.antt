@@ -1,0 +1,12 @@
+use Rattle.way_data.proofs.ReplyLaws.{written-refused, written-none}
+use Rattle.way_data.proofs.way_data_refusal.Statement.{statement}
+use Rattle.way_data.proofs.way_data_refusal.Tie as tie
+
+pub way-data-refusal-spec : {M : Type 1} → statement M
+way-data-refusal-spec =
+    tie.close
+    (tie.spec
+    (λ c. c .match .keys1)
+    (λ c. c .match .keys2)
+    (λ c. written-refused _ _ (c .before .got .given .1))
+    (λ c. written-none _ _ _ (c .enum-told .given .1)))
