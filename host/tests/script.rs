@@ -5,36 +5,37 @@ mod common;
 
 use common::repository;
 use std::fs;
-use std::os::unix::fs::PermissionsExt;
+use std::io::Write;
 use std::path::{Path, PathBuf};
-use std::process::{Command, Output};
-use std::sync::{Mutex, MutexGuard, PoisonError};
+use std::process::{Command, Output, Stdio};
 use std::time::{Duration, SystemTime};
-
-/// One test at a time: a program that one thread starts while another still writes its own script would hold that script open for
-/// writing, and the system refuses to run a script that is open so ("Text file busy").
-static ALONE: Mutex<()> = Mutex::new(());
 
 struct Tree {
     top: PathBuf,
-    _alone: MutexGuard<'static, ()>,
 }
 
-fn script(path: &Path, text: &str) {
-    fs::write(path, text).expect("the tests' folder can be written to");
-    fs::set_permissions(path, fs::Permissions::from_mode(0o755)).unwrap();
+/// Writes a program, by a process of its own. The system refuses to run a file that somebody has open for writing ("Text file
+/// busy"). If this process opened it, each program that another thread starts meanwhile would have it open too, for a moment.
+fn program(path: &Path, text: &str) {
+    let mut writer = Command::new("/bin/sh")
+        .args(["-c", "cat >\"$1\" && chmod 755 \"$1\"", "sh"])
+        .arg(path)
+        .stdin(Stdio::piped())
+        .spawn()
+        .expect("there is a shell");
+    writer.stdin.take().expect("it is piped").write_all(text.as_bytes()).expect("it is read");
+    assert!(writer.wait().expect("it ends").success(), "the tests' folder can be written to");
 }
 
 impl Tree {
     fn new(name: &str) -> Tree {
-        let alone = ALONE.lock().unwrap_or_else(PoisonError::into_inner);
         let top = Path::new(env!("CARGO_TARGET_TMPDIR")).join(name);
         let _ = fs::remove_dir_all(&top);
         for folder in ["bin", "host/src", "crates/exports/src", "crates/visit/proofs"] {
             fs::create_dir_all(top.join(folder)).unwrap();
         }
         for file in ["mapsforge", "host/library", "host/inputs"] {
-            fs::copy(repository(file), top.join(file)).unwrap();
+            program(&top.join(file), &fs::read_to_string(repository(file)).unwrap());
         }
         for (file, text) in [
             ("crates.txt", "visit:\nexports: visit\n"),
@@ -48,20 +49,18 @@ impl Tree {
             fs::write(top.join(file), text).unwrap();
         }
         // What is built is the content of what it is built from.
-        script(
-            &top.join("bin/rt"),
+        program(&top.join("bin/rt"),
             "#!/bin/sh\necho \"rt $*\" >>calls\ncase $1 in staticlib)\n\
              mkdir -p target/staticlib && cat crates/exports/src/lib.rt >target/staticlib/libexports.a;;\n\
              esac\n",
         );
-        script(
-            &top.join("bin/cargo"),
+        program(&top.join("bin/cargo"),
             "#!/bin/sh\nmkdir -p \"$CARGO_TARGET_DIR/release\"\n\
              echo \"cargo $MAPSFORGE_INPUTS\" >>\"$CARGO_TARGET_DIR/../../calls\"\n\
              printf '#!/bin/sh\\necho built, \"$@\"\\nexit 7\\n' >\"$CARGO_TARGET_DIR/release/mapsforge\"\n\
              chmod +x \"$CARGO_TARGET_DIR/release/mapsforge\"\n",
         );
-        Tree { top, _alone: alone }
+        Tree { top }
     }
 
     fn run(&self, library: Option<&str>) -> Output {
@@ -141,7 +140,7 @@ fn the_script_decides_by_content() {
     tree.touch("host/src/lib.rs", -3600 * 24 * 365);
     assert_eq!(tree.calls(), ["command"]);
     // One that somebody else put there.
-    fs::write(tree.top.join("target/host/release/mapsforge"), "#!/bin/sh\necho other\n").unwrap();
+    program(&tree.top.join("target/host/release/mapsforge"), "#!/bin/sh\necho other\n");
     assert_eq!(tree.calls(), ["command"]);
     // A library that somebody else put there.
     fs::write(tree.top.join("target/staticlib/libmapsforge.a"), "other").unwrap();
@@ -167,11 +166,26 @@ fn a_named_library_is_taken_as_it_is() {
 #[test]
 fn what_is_missing_is_told() {
     let tree = Tree::new("script-missing");
-    script(&tree.top.join("bin/rt"), "#!/bin/sh\necho no proof >&2\nexit 1\n");
+    program(&tree.top.join("bin/rt"), "#!/bin/sh\necho no proof >&2\nexit 1\n");
     let output = tree.run(None);
     assert_eq!(output.status.code(), Some(2));
     let told = String::from_utf8_lossy(&output.stderr).into_owned();
     assert!(told.contains("no proof") && told.contains("the library was not built"), "{told}");
+    // A folder without the library, and none at all.
+    fs::create_dir_all(tree.top.join("lib")).unwrap();
+    for folder in ["lib", "no such folder"] {
+        let output = tree.run(Some(folder));
+        assert_eq!(output.status.code(), Some(2));
+        let told = String::from_utf8_lossy(&output.stderr).into_owned();
+        assert!(told.contains("there is no libmapsforge.a in it"), "{told}");
+    }
+    // A command that cannot be built.
+    fs::write(tree.top.join("lib/libmapsforge.a"), "a library").unwrap();
+    program(&tree.top.join("bin/cargo"), "#!/bin/sh\necho no such type >&2\nexit 101\n");
+    let output = tree.run(Some("lib"));
+    assert_eq!(output.status.code(), Some(2));
+    let told = String::from_utf8_lossy(&output.stderr).into_owned();
+    assert!(told.contains("no such type") && told.contains("the command was not built"), "{told}");
     fs::remove_file(tree.top.join("bin/rt")).unwrap();
     let output = tree.run(None);
     let told = String::from_utf8_lossy(&output.stderr).into_owned();
