@@ -12,11 +12,11 @@ fn features_are_listed_by_tag_and_box() {
     let map = shipped("islands.map");
     let all = answer(&["list", &map], 0);
     assert_eq!(all.lines().count(), 408);
-    let terminals = answer(&["list", &map, "--tag", "amenity=ferry_terminal"], 0);
-    assert_eq!(terminals.lines().count(), 9);
-    let terminal =
+    let tagged = answer(&["list", &map, "--tag", "amenity=ferry_terminal"], 0);
+    assert_eq!(tagged.lines().count(), 9);
+    let one =
         "62.265446, 0.040366    point  \"Rampe 2\"  amenity=ferry_terminal  tile 13/4096/2272\n";
-    assert!(terminals.contains(terminal), "{terminals}");
+    assert!(tagged.contains(one), "{tagged}");
     assert_eq!(answer(&["list", &map, "--tag", "name=Rampe 2"], 0).lines().count(), 2);
     let either = answer(&["list", &map, "-t", "name=Rampe 2", "-t", "name=Rampe 3,ref=31"], 0);
     assert!(either.lines().count() > 4 && either.contains("Storøya"), "{either}");
@@ -56,12 +56,14 @@ fn what_is_at_a_place_is_told() {
         .collect();
     assert!(away.windows(2).all(|pair| pair[0] <= pair[1]) && away.len() > 4, "{told}");
     assert!(away.iter().all(|metres| *metres <= 40.0));
-    let slipways =
+    let tagged =
         answer(&["at", &map, "62.2654,0.0403", "--tag", "leisure=slipway", "--within", "200"], 0);
-    assert_eq!(slipways.lines().count(), 4, "{slipways}");
+    assert_eq!(tagged.lines().count(), 4, "{tagged}");
     // A place near a corner has features of the tiles around it.
     let corner = answer(&["at", &map, "62.2679,0.0439", "--within", "300"], 0);
-    assert!(corner.contains("Havnby–鷗島") && corner.lines().count() > 10, "{corner}");
+    assert!(corner.lines().count() > 10, "{corner}");
+    // A way that two of them have is told once.
+    assert_eq!(corner.matches("Havnby–鷗島").count(), 1, "{corner}");
     let none = answer(&["at", &map, "-10.5,-20.25"], 0);
     assert_eq!(none, "-10.500000, -20.250000 at zoom 21: no tile of the map\n");
     for (words, part) in [
@@ -114,13 +116,13 @@ fn geojson_has_every_feature() {
     }
     assert_eq!(kinds["Point"], 78);
     assert!(kinds["LineString"] > 50 && kinds["Polygon"] > 100, "{kinds:?}");
-    let terminal = features.iter().find(|feature| {
+    let point = features.iter().find(|feature| {
         let properties = feature.get("properties");
         properties.has("name") && properties.get("name").text() == "Rampe 2"
     });
-    let terminal = terminal.expect("it is there");
-    assert_eq!(terminal.get("id").text(), "2:10:point:3");
-    assert_eq!(terminal.get("properties").get("amenity").text(), "ferry_terminal");
+    let point = point.expect("it is there");
+    assert_eq!(point.get("id").text(), "2:10:point:3");
+    assert_eq!(point.get("properties").get("amenity").text(), "ferry_terminal");
     let names: Vec<_> = features
         .iter()
         .filter(|feature| feature.get("properties").has("name:en"))

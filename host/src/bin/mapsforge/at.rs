@@ -8,20 +8,20 @@ use crate::input::Source;
 use crate::output::{feature as told, position, tile as named};
 use crate::query::{Query, TAG, ZOOM};
 use crate::{refused, target, Outcome};
-use mapsforge::{BoundingBox, Grid, Placed, Position, EARTH_RADIUS};
+use mapsforge::{BoundingBox, Grid, Kind, Placed, Position, TilePlace, EARTH_RADIUS};
 use std::io::Write;
 
 pub const HELP: &str = "\
 mapsforge at MAP LAT,LON [--zoom ZOOM] [--within METRES] [--tag TAGS]
 
-What is at a place, in degrees: its tile, and the features around it with their distances, the
-nearest first. An area that the place lies in is 0.0 m away.
+Says what is at a place: its tile, and the features around it with their distances, the nearest
+first. An area that the place lies in is 0.0 m away. LAT,LON is in degrees.
 
     --zoom ZOOM        those shown at this zoom, by default the highest of the map
     --within METRES    not further away than this, by default 100
-    --tag TAGS         only those of these tags, KEY[=VALUE],...
+    --tag TAGS         only those with one of these tags, KEY[=VALUE],...
 
-The status is 1 if a tile is refused: what it has is then missing.
+The status is 1 if a tile is refused: its features are then missing.
 ";
 
 pub const OPTIONS: &[Choice] = &[TAG, ZOOM, Choice { long: "--within", short: None, valued: true }];
@@ -52,22 +52,49 @@ pub fn run(args: &Args, out: &mut dyn Write) -> Outcome {
         }
         None => writeln!(out, "{} at zoom {zoom}: no tile of the map", position(at))?,
     }
-    let mut found: Vec<(f64, String)> = Vec::new();
-    let missing = query.each(&map, |_, _, feature| {
-        let away = distance(&feature, at);
-        let line = format!("{} {}  {}", feature.kind.word(), feature.number, told(&feature));
-        // A way that is stored in several tiles is told once.
-        let known = |(metres, other): &(f64, String)| *metres == away && *other == line;
-        if away <= within && !found.iter().any(known) {
-            found.push((away, line));
+    let mut found: Vec<Found> = Vec::new();
+    let missing = query.each(&map, |_, tile, feature| {
+        let one = Found {
+            metres: distance(&feature, at),
+            kind: feature.kind,
+            number: feature.number,
+            text: told(&feature),
+            tile,
+            first: feature.position(),
+        };
+        if one.metres <= within && !found.iter().any(|other| other.is(&one)) {
+            found.push(one);
         }
         Ok(())
     })?;
-    found.sort_by(|one, other| one.0.total_cmp(&other.0));
-    for (away, line) in found {
-        writeln!(out, "{:>8}  {line}", metres(away))?;
+    found.sort_by(|one, other| one.metres.total_cmp(&other.metres));
+    for Found { metres: away, kind, number, text, .. } in found {
+        writeln!(out, "{:>8}  {} {number}  {text}", metres(away), kind.word())?;
     }
     refused(out, &missing)
+}
+
+/// A feature that is near enough.
+struct Found {
+    metres: f64,
+    kind: Kind,
+    number: u64,
+    text: String,
+    tile: TilePlace,
+    first: Option<Position>,
+}
+
+impl Found {
+    /// Whether two are one way, which is stored in several tiles. It is told once.
+    fn is(&self, other: &Found) -> bool {
+        let near = |one: Position, other: Position| one.metres_to(other) < 0.5;
+        self.kind == Kind::Way
+            && other.kind == Kind::Way
+            && self.tile != other.tile
+            && (self.metres - other.metres).abs() < 0.5
+            && self.text == other.text
+            && self.first.zip(other.first).is_some_and(|(one, other)| near(one, other))
+    }
 }
 
 /// How many metres a degree of latitude has.
