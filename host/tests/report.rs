@@ -19,12 +19,12 @@ fn report(name: &str, words: &[&str], status: i32) -> (String, String, String) {
     (std::fs::read_to_string(path).expect("the page is written"), out, complaints)
 }
 
-const TERMINALS: [&str; 2] = ["--must-show", "amenity=ferry_terminal"];
+const REQUIRED: [&str; 2] = ["--must-show", "amenity=ferry_terminal"];
 
 #[test]
 fn the_page_has_verdicts_findings_and_pictures() {
     let (islands, short) = (shipped("islands.map"), shipped("short-size.map"));
-    let words = [&[islands.as_str(), &short][..], &TERMINALS].concat();
+    let words = [&[islands.as_str(), &short][..], &REQUIRED].concat();
     let (page, told, complaints) = report("both.html", &words, 1);
     assert_eq!(told, format!("PASS: {islands}\nDO NOT USE: {short}\n"));
     assert_eq!(complaints, "");
@@ -41,7 +41,13 @@ fn the_page_has_verdicts_findings_and_pictures() {
         assert!(page.contains(cell), "{cell} is missing");
     }
     // Both pictures of its tile, with what differs.
-    assert_eq!(page.matches(">list: every way is decoded</text>").count(), 1);
+    assert_eq!(
+        page.matches(
+            ">list: every way is decoded. Pale, without names: what the panel declines</text>"
+        )
+        .count(),
+        1
+    );
     assert_eq!(page.matches("by stored sizes. 16 features missing</text>").count(), 1);
     assert!(page.contains("<li>list and panel differ: 16 features only in the list"));
     // What must be shown, with its positions, for each map, and pictures in which it is named.
@@ -51,7 +57,7 @@ fn the_page_has_verdicts_findings_and_pictures() {
                 <td data-of=\"Tile\">13/4096/2272</td>";
     assert_eq!(page.matches(row).count(), 2);
     assert!(page.matches(">Rampe 2</text>").count() >= 4);
-    let caption = "<figcaption>Rampe 1, Rampe 2, Rampe 3, Havnby ferjekai: 800 metres around";
+    let caption = "<figcaption>Havnby ferjekai, Rampe 1, Rampe 2, Rampe 3: 800 metres around";
     assert_eq!(page.matches(caption).count(), 2);
 }
 
@@ -93,7 +99,7 @@ fn texts_of_a_map_are_no_markup() {
     let bytes = replaced(map_bytes("short-size.map"), b"Kirkegata", b"<b>&x</b>");
     let bytes = replaced(bytes, b"Rampe 2", "Ra\u{202e}e2".as_bytes());
     let path = text(&written("markup.map", &bytes));
-    let (page, _, _) = report("markup.html", &[&[path.as_str()][..], &TERMINALS].concat(), 1);
+    let (page, _, _) = report("markup.html", &[&[path.as_str()][..], &REQUIRED].concat(), 1);
     assert!(page.contains("&lt;b&gt;&amp;x&lt;/b&gt;") && !page.contains("<b>&x"));
     assert!(page.contains("Ra\\u{202e}e2") && !page.contains('\u{202e}'));
 }
@@ -142,7 +148,7 @@ fn a_browser_shows_the_page_at_two_sizes() {
     let names = ["chromium", "chromium-browser", "google-chrome"];
     let Some(browser) = tool(&names, "a_browser_shows_the_page_at_two_sizes") else { return };
     let words = [shipped("islands.map"), shipped("short-size.map")];
-    let words = [&[words[0].as_str(), &words[1]][..], &TERMINALS].concat();
+    let words = [&[words[0].as_str(), &words[1]][..], &REQUIRED].concat();
     let (page, _, _) = report("looked-at.html", &words, 1);
     for (width, rows_apart) in [(1400, 0.0), (500, 1.0)] {
         let seen = looked_at(&browser, &page, width);

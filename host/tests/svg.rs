@@ -268,7 +268,8 @@ fn both_are_drawn_with_what_differs_in_red() {
     assert_eq!(told, "");
     assert!(has(&same, "List and panel show the same, but for the ways that the panel declines."));
     assert!(!same.contains("#d00000"), "nothing is red");
-    assert!(has(&same, "list: every way is decoded"));
+    let heading = "list: every way is decoded. Pale, without names: what the panel declines";
+    assert!(has(&same, heading));
 
     let (svg, told) = drawn(&["svg", &shipped("short-size.map"), "2:10", "--both"], 1);
     let differ =
@@ -277,8 +278,8 @@ fn both_are_drawn_with_what_differs_in_red() {
     assert!(has(&svg, differ));
     assert!(has(&svg, "panel: declines highway, building by stored sizes. 16 features missing"));
     let lines = words(&svg);
-    let slipway = "only list: way 19 \"Rampe 2\" (leisure=slipway width=%f) at 62.265446, 0.040366";
-    assert!(lines.iter().any(|line| line.trim() == slipway), "{lines:?}");
+    let missing = "only list: way 19 \"Rampe 2\" (leisure=slipway width=%f) at 62.265446, 0.040366";
+    assert!(lines.iter().any(|line| line.trim() == missing), "{lines:?}");
     // Each of the sixteen is drawn in red, two of them areas.
     let red = "stroke=\"#d00000\"";
     assert_eq!(
@@ -301,8 +302,8 @@ fn a_square_around_a_place_is_drawn_over_several_tiles() {
         assert!(has(&svg, name), "{name} is missing: {:?}", words(&svg));
     }
     // A way that two tiles have is named once.
-    let ferries = ["--size", "3000", "--must-show", "route=ferry"];
-    let (svg, _) = drawn(&[&["svg", &map, "--at", "62.2679,0.0439"][..], &ferries].concat(), 0);
+    let routes = ["--size", "3000", "--must-show", "route=ferry"];
+    let (svg, _) = drawn(&[&["svg", &map, "--at", "62.2679,0.0439"][..], &routes].concat(), 0);
     assert_eq!(times(&svg, "Havnby–鷗島"), 1, "{:?}", words(&svg));
     let (small, _) = drawn(&["svg", &map, "--at", "62.2654,0.0403", "--size", "100"], 0);
     assert!(has(&small, "Rampe 2") && !has(&small, "Rampe 3"));

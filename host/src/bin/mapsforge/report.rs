@@ -17,12 +17,12 @@ use std::time::SystemTime;
 pub const HELP: &str = "\
 mapsforge report MAP... -o FILE [--must-show TAGS] [--decline TAGS] [--all]
 
-A page for a browser, in one file that needs nothing else: for each map the verdict, the
-findings as a table, pictures of each finding's tile as a list and as a panel show it, and the
-features that must be shown, with their positions and pictures. MAP is as for check.
+Writes a page for a browser, in one file that needs nothing else. It has the verdict on each
+map, the findings as a table, pictures of each finding's tile as a list and as a panel show it,
+and the features that must be shown, with their positions and pictures. MAP is as for check.
 
-    -o, --output FILE    the page; without it, it goes to standard output
-    --must-show TAGS     the features of these tags are listed, KEY[=VALUE],...
+    -o, --output FILE    the page; without this, it goes to standard output
+    --must-show TAGS     list the features with one of these tags, KEY[=VALUE],...
     --decline TAGS       what the panel declines, by default highway,building
     --zoom ZOOM          the zoom of what must be shown, by default the map's highest
     --language LANGUAGE  names in pictures in this language, where the map has them
@@ -135,13 +135,17 @@ impl Section {
     /// The features that must be shown: a table, and pictures of their surroundings.
     fn required(&mut self, map: &Map<'_>, asked: &Asked) {
         let query = Query { zoom: asked.zoom, tags: asked.how.required.clone(), bounds: None };
-        let mut rows = String::new();
-        let mut places = Vec::new();
+        let mut found: Vec<(String, Option<Position>, String)> = Vec::new();
         let missing = query.each(map, |sub_file, place, feature| {
-            places.extend(feature.position().map(|at| (shown(&feature), at)));
-            required_row(sub_file, place, &feature, &mut rows);
+            let mut row = String::new();
+            required_row(sub_file, place, &feature, &mut row);
+            found.push((shown(&feature), feature.position(), row));
             Ok(())
         });
+        found.sort_by_cached_key(|(name, ..)| ordered(name));
+        let rows: String = found.iter().map(|(.., row)| row.as_str()).collect();
+        let places: Vec<(String, Position)> =
+            found.into_iter().filter_map(|(name, at, _)| Some((name, at?))).collect();
         let missing = missing.unwrap_or_else(|failure| vec![failure]);
         self.complaints.extend(missing.iter().map(Failure::text));
         let tags = asked.required();
@@ -163,6 +167,17 @@ impl Section {
         );
         self.body.push_str(&surroundings(map, &places, asked));
     }
+}
+
+/// By what names are sorted: in the order of the alphabet, but numbers in them by their size.
+fn ordered(name: &str) -> Vec<(u64, String)> {
+    let mut parts: Vec<(u64, String)> = Vec::new();
+    for run in name.as_bytes().chunk_by(|one, other| one.is_ascii_digit() == other.is_ascii_digit())
+    {
+        let text = String::from_utf8_lossy(run).into_owned();
+        parts.push((text.parse().unwrap_or(u64::MAX), text));
+    }
+    parts
 }
 
 /// A feature's name, if it has one.
@@ -411,5 +426,19 @@ fn findings_html(findings: &[Finding], all: u64, html: &mut String) {
             "<p>... and {} more: --all shows them.</p>",
             count(all - shown, "finding")
         );
+    }
+}
+
+#[cfg(test)]
+mod tests {
+    use super::ordered;
+
+    #[test]
+    fn names_are_sorted_as_people_do() {
+        let mut names =
+            ["Ramp 10", "Ramp 2 b", "Ramp 2", "Øya", "A", "Ramp", "7", "without a name"];
+        names.sort_by_cached_key(|name| ordered(name));
+        let sorted = ["7", "A", "Ramp", "Ramp 2", "Ramp 2 b", "Ramp 10", "without a name", "Øya"];
+        assert_eq!(names, sorted);
     }
 }

@@ -133,7 +133,11 @@ impl<'m, 'a> Part<'m, 'a> {
             }
             _ => None,
         };
-        let listed = self.picture(how, collected, "list: every way is decoded".into());
+        let mut heading = String::from("list: every way is decoded");
+        if how.collected {
+            heading.push_str(". Pale, without names: what the panel declines");
+        }
+        let listed = self.picture(how, collected, heading);
         let required = listed.labels.required;
         let drawn = streamed.map(|scene| {
             let heading = format!("panel: declines {} by stored sizes", how.declined());
