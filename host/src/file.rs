@@ -35,7 +35,7 @@ fn regular(path: &Path) -> io::Result<()> {
     if about.is_file() {
         return Ok(());
     }
-    let text = format!("is {}, no file", file_kind(about.file_type()));
+    let text = format!("it is {}, not a file", file_kind(about.file_type()));
     Err(io::Error::new(io::ErrorKind::InvalidInput, text))
 }
 

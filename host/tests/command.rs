@@ -113,7 +113,10 @@ fn mistakes_are_told_in_a_sentence() {
         "cannot write /no/such/folder/a.svg",
     );
     told(&["info", "no-such.map"], "cannot read no-such.map: no such file or directory");
-    told(&["info", &text(&common::repository("maps"))], "is a folder, no file: name a map in it");
+    told(
+        &["info", &text(&common::repository("maps"))],
+        "is a folder, not a file: name a map in it",
+    );
     told(
         &["check", &text(&written("text.map", b"This is a text, and it is no map at all."))],
         "this is not a Mapsforge map",

@@ -60,14 +60,14 @@ fn own(name: &str) -> PathBuf {
 fn special_files_are_no_maps() {
     let start = Instant::now();
     for device in ["/dev/zero", "/dev/random", "/dev/null", "/dev/tty"] {
-        all_refuse(device, "is a device, no file");
+        all_refuse(device, "is a device, not a file");
     }
     let socket = own("socket.map");
     let _listener = UnixListener::bind(&socket).expect("a socket can be made");
-    all_refuse(&text(&socket), "is a socket, no file");
+    all_refuse(&text(&socket), "is a socket, not a file");
     let linked = own("linked.map");
     symlink("/dev/zero", &linked).unwrap();
-    all_refuse(&text(&linked), "is a device, no file");
+    all_refuse(&text(&linked), "is a device, not a file");
     assert!(start.elapsed() < LIMIT);
 }
 
@@ -76,7 +76,7 @@ fn a_named_pipe_is_not_waited_for() {
     let Some(mkfifo) = tool(&["mkfifo"], "a_named_pipe_is_not_waited_for") else { return };
     let pipe = own("pipe.map");
     assert!(Command::new(mkfifo).arg(&pipe).status().unwrap().success());
-    all_refuse(&text(&pipe), "is a pipe, no file");
+    all_refuse(&text(&pipe), "is a pipe, not a file");
 }
 
 #[test]
@@ -110,7 +110,7 @@ fn a_folder_is_no_map_but_for_check_and_report() {
             String::from_utf8(output.stderr).unwrap() + &String::from_utf8(output.stdout).unwrap();
         let part = match words[0].as_str() {
             "check" | "report" => "no file in this folder ends in .map",
-            _ => "is a folder, no file: name a map in it",
+            _ => "is a folder, not a file: name a map in it",
         };
         assert!(told.contains(part), "{words:?}: {told}");
     }
@@ -268,7 +268,9 @@ fn nobody_listening_changes_no_verdict() {
     let islands = shipped("islands.map");
     let renamed = common::replaced(map_bytes("islands.map"), b"Rampe 2", b"Rampe 9");
     let renamed = text(&written("robust-renamed.map", &renamed));
+    let cut = common::cut("unheard", "islands.map", 20000);
     for (words, status) in [
+        (vec!["tiles", &cut], 1),
         (vec!["check", &short], 1),
         (vec!["check", "--json", &short], 1),
         (vec!["check", &islands], 0),

@@ -3,6 +3,7 @@
 use crate::args::Args;
 use crate::info::extent;
 use crate::input::Source;
+use crate::output::Unheard;
 use crate::{Outcome, Status};
 use mapsforge::check;
 use mapsforge::{SubFile, TilePlace};
@@ -23,6 +24,7 @@ pub fn run(args: &Args, out: &mut dyn Write) -> Outcome {
     let source = Source::named(path);
     let file = source.open()?;
     let map = source.map(&file)?;
+    let mut out = Unheard::new(out);
     let findings = check::map(&map);
     let mut status = Status::Well;
     for number in 0..map.intervals().len() {
@@ -34,7 +36,7 @@ pub fn run(args: &Args, out: &mut dyn Write) -> Outcome {
                 writeln!(out, "{finding}")?;
                 Status::Found
             }
-            None => list(&map.sub_file(number)?, out)?,
+            None => list(&map.sub_file(number)?, &mut out)?,
         };
         status = status.max(listed);
     }
