@@ -4,8 +4,8 @@ mod common;
 
 use common::json::Json;
 use common::{
-    answer, closed_early, command, complaint, cut, map_bytes, map_path, offset_place, run, shipped,
-    stored, text, with_box, written, SHIPPED,
+    answer, closed_early, command, complaint, cut, limited, map_bytes, map_path, offset_place, run,
+    shipped, stored, text, tool, with_box, written, SHIPPED,
 };
 use mapsforge::check::{self, Cause, Fault, Finding, Met, Spot};
 use mapsforge::{Kind, Map, Refusal, SubFile};
@@ -437,9 +437,22 @@ fn the_names_of_json_are_documented() {
         }
     }
     let mut all = Vec::new();
-    names(&Json::parse(&answer(&["check", "--json", &shipped("short-size.map")], 1)), &mut all);
-    for name in all {
+    // A map with a finding, and one that could not be looked at.
+    let none = text(&written("undocumented.map", b"This is no map."));
+    let output = run(&["check", "--json", &shipped("short-size.map"), &none]);
+    names(&Json::parse(&String::from_utf8(output.stdout).unwrap()), &mut all);
+    for name in &all {
         assert!(page.contains(&format!("`{name}`")), "{name} is missing in docs/JSON.md");
+    }
+    // Nor does the page list a name that is not there.
+    let part = page.split("\n## ").find(|part| part.starts_with("`mapsforge check"));
+    let rows = part.expect("it tells of check").lines().filter(|line| line.starts_with("| `"));
+    let listed: Vec<&str> =
+        rows.flat_map(|row| row.split('|').nth(1).unwrap().split('`')).collect();
+    let listed = listed.iter().filter(|name| !name.trim_matches([' ', ',']).is_empty());
+    assert!(listed.clone().count() > 30);
+    for name in listed {
+        assert!(all.iter().any(|one| one == name), "docs/JSON.md tells of {name}");
     }
 }
 
@@ -579,6 +592,9 @@ fn a_closed_pipe_does_not_change_the_verdict() {
     assert_eq!(child.wait().expect("it ends").code(), Some(1));
 }
 
+/// Well under a second.
+const QUICK: Duration = Duration::from_millis(500);
+
 /// A map of more than a megabyte takes well under a second, with and without findings.
 #[test]
 fn a_map_of_a_megabyte_is_checked_quickly() {
@@ -597,10 +613,18 @@ fn a_map_of_a_megabyte_is_checked_quickly() {
         let bytes = copies(name, 200);
         assert!(bytes.len() > 1_000_000);
         let path = text(&written(&format!("megabyte-{name}"), &bytes));
-        let start = Instant::now();
-        let checked = answer(&["check", &path], status);
-        assert!(start.elapsed() < Duration::from_millis(900), "{:?}", start.elapsed());
-        assert!(checked.contains(ends), "{checked}");
+        // Other programs may take the processors for a while: the best of a few runs counts.
+        let mut best = Duration::MAX;
+        for _ in 0..8 {
+            let start = Instant::now();
+            let checked = answer(&["check", &path], status);
+            best = best.min(start.elapsed());
+            assert!(checked.contains(ends), "{checked}");
+            if best < QUICK {
+                break;
+            }
+        }
+        assert!(best < QUICK, "{best:?}");
     }
 }
 
@@ -615,6 +639,34 @@ fn one_wrong_size_among_many_tiles_is_found() {
     let found = findings(&bytes);
     let [finding] = &found[..] else { panic!("{found:?}") };
     assert_eq!((tile_of(finding), finding.byte), ((0, 137), Some(places[137] as u64)));
+}
+
+/// A bar shows how far it has come, on a terminal only, and is gone at the end.
+#[test]
+fn a_bar_is_drawn_on_a_terminal() {
+    let test = "a_bar_is_drawn_on_a_terminal";
+    // It gives a program a terminal of its own.
+    let Some(script) = tool(&["script"], test) else { return };
+    let path = text(&written("bar.map", &copies("islands.map", 1200)));
+    let on_terminal = |words: &str| {
+        let command =
+            format!("{} check --threads 1 {path} {words}", env!("CARGO_BIN_EXE_mapsforge"));
+        let mut terminal = std::process::Command::new(&script);
+        terminal.args(["--quiet", "--return", "--command", &command, "/dev/null"]);
+        let output = limited(&mut terminal, Duration::from_secs(60));
+        assert_eq!(output.status.code(), Some(0));
+        String::from_utf8(output.stdout).unwrap()
+    };
+    let told = on_terminal("");
+    let (bar, cleared) = ("\r[", "\r\u{1b}[K");
+    assert!(told.contains(bar) && told.contains(" of 1200 tiles"), "{told:?}");
+    let (_, end) = told.rsplit_once(cleared).expect("the bar is taken away");
+    assert!(end.contains("1200 tiles (none empty)") && !end.contains(bar), "{end:?}");
+    // The answer may go elsewhere; where complaints go elsewhere, there is no bar.
+    assert!(on_terminal(">/dev/null").contains(bar));
+    assert!(!on_terminal("2>/dev/null").contains(bar));
+    let output = run(&["check", &path]);
+    assert_eq!(output.stderr, b"");
 }
 
 #[test]

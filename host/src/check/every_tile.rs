@@ -121,7 +121,8 @@ impl<'m, 'a> Wave<'m, 'a> {
         let chunks = (self.end - self.next.load(Ordering::Relaxed)).div_ceil(CHUNK);
         thread::scope(|scope| {
             for _ in 1..(threads as u64).min(chunks) {
-                scope.spawn(|| while self.step() {});
+                // Where the system gives no thread, the others read its share.
+                let _ = thread::Builder::new().spawn_scoped(scope, || while self.step() {});
             }
             // This thread does its share, and tells how far all have come.
             while self.step() {

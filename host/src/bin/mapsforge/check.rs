@@ -14,21 +14,23 @@ use std::time::{Duration, Instant};
 pub const HELP: &str = "\
 mapsforge check MAP... [--json] [--all]
 
-Whether maps can be used. Reads every tile of every sub file, and asks the library whether it
-collects, whether every stored size is the decoded length, and whether the first-way offset
-leads to the end of the points. Where that is so, a list that collects tiles and a panel that
-streams them and declines some ways show the same. What is not so is a finding: it names the
-feature and its place, what follows for list and panel, and what to do.
+Says whether maps can be used. It reads every tile of every sub file, and asks the library
+whether the tile collects, whether every stored size is the decoded length, and whether the
+first-way offset leads to the end of the points. If all this is so, a list that collects tiles
+and a panel that streams them and declines some ways show the same. If not, that is a finding.
+It names the feature and its place, what follows for list and panel, and what to do. An index
+that is cut off is a finding too, and so is a file of another size than its header says.
 
 MAP is a file, a folder (all files in it and below it that end in .map) or - for standard
-input. The last line of each map is PASS or DO NOT USE. The line before it counts the tiles,
-and those that are empty, which is no finding: the index says that they have no features.
+input. The last line for each map is PASS or DO NOT USE. The line before it counts what was
+read. An empty tile is no finding: the index says that it has no features.
 
-    --json         one document for a program, as docs/JSON.md has it
+    --json         one document for a program; docs/JSON.md describes it
     --all          all findings of a map, not only the first 100
-    --threads N    so many threads, instead of one for each processor
+    --threads N    use N threads instead of one for each processor
 
-The status is 0 if all maps pass, 1 if one has findings, 2 if one could not be looked at.
+The status is 0 if all maps pass, 1 if one has findings, 2 if one could not be looked at. It
+is the same if nobody reads the output to its end.
 ";
 
 pub const OPTIONS: &[Choice] = &[
@@ -326,6 +328,9 @@ fn feature_value(feature: &FeatureNote) -> Value {
     ])
 }
 
+/// So many tiles may take a while.
+const MANY: u64 = 1000;
+
 /// How far it has come, on a terminal.
 pub struct Bar {
     on: bool,
@@ -340,8 +345,10 @@ impl Default for Bar {
 }
 
 impl Bar {
+    /// Draws it now and then; of a map of many tiles at once.
     fn step(&mut self, done: u64, all: u64) {
-        if self.on && self.last.elapsed() >= Duration::from_millis(100) {
+        let late = self.last.elapsed() >= Duration::from_millis(100);
+        if self.on && (late || !self.drawn && all >= MANY) {
             self.last = Instant::now();
             self.draw(done, all);
         }
