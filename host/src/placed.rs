@@ -41,11 +41,11 @@ pub struct Line {
 /// let map = file.map()?;
 /// let sub_file = map.sub_file(2)?;
 /// let place = sub_file.tile(10).expect("there are 12 tiles");
-/// let terminal = "amenity=ferry_terminal".parse()?;
+/// let wanted = "amenity=ferry_terminal".parse()?;
 /// let mut names = Vec::new();
 /// for feature in sub_file.placed(place, 13)? {
 ///     let feature = feature?;
-///     if feature.has(&terminal) {
+///     if feature.has(&wanted) {
 ///         let at = feature.position().expect("it has a node");
 ///         names.push(format!("{} {:.4}", feature.name_in("en").unwrap_or(""), at.longitude));
 ///     }

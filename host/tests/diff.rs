@@ -6,7 +6,7 @@ use common::json::Json;
 use common::{answer, complaint, cut, map_bytes, replaced, run, shipped, text, written};
 use mapsforge::{Map, Position, Step};
 
-const TERMINALS: [&str; 2] = ["--tag", "amenity=ferry_terminal"];
+const TAGGED: [&str; 2] = ["--tag", "amenity=ferry_terminal"];
 
 /// The place in the map of a point of tile 10 of sub file 2.
 fn point_place(bytes: &[u8], number: u64) -> usize {
@@ -33,9 +33,9 @@ fn nothing_changed() {
     let told = answer(&["diff", &map, &map, "--zoom", "9", "--tag", "natural,highway=primary"], 0);
     assert!(told.starts_with("zoom 9, natural or highway=primary: no change, "), "{told}");
     // Is ramp 2 where it was?
-    let told = answer(&[&["diff", &map, &map, "--same"][..], &TERMINALS].concat(), 0);
-    let terminal = "same      point \"Rampe 2\" (amenity=ferry_terminal) at 62.265446, 0.040366\n";
-    assert!(told.contains(terminal), "{told}");
+    let told = answer(&[&["diff", &map, &map, "--same"][..], &TAGGED].concat(), 0);
+    let same = "same      point \"Rampe 2\" (amenity=ferry_terminal) at 62.265446, 0.040366\n";
+    assert!(told.contains(same), "{told}");
 }
 
 #[test]
@@ -45,7 +45,7 @@ fn a_moved_point_is_told_with_its_metres() {
     // The second byte of the latitude: 128 microdegrees more, the other way.
     assert!(bytes[at] & 0x80 != 0 && bytes[at + 1] & 0x40 != 0);
     bytes[at + 1] -= 1;
-    let told = compared("moved.map", &bytes, &TERMINALS, 1);
+    let told = compared("moved.map", &bytes, &TAGGED, 1);
     let expected = "moved     point \"Rampe 2\" (amenity=ferry_terminal) by 14 m, from 62.265446, \
                     0.040366 to 62.265574, 0.040366\n\
                     zoom 21, amenity=ferry_terminal: 8 features the same, 1 moved, 0 renamed, \
@@ -62,7 +62,7 @@ fn exchanged_names_are_moves() {
     let bytes = replaced(map_bytes("islands.map"), b"Rampe 2", b"Rampe X");
     let bytes = replaced(bytes, b"Rampe 3", b"Rampe 2");
     let bytes = replaced(bytes, b"Rampe X", b"Rampe 3");
-    let told = compared("exchanged.map", &bytes, &TERMINALS, 1);
+    let told = compared("exchanged.map", &bytes, &TAGGED, 1);
     for line in [
         "moved     point \"Rampe 2\" (amenity=ferry_terminal) by 100 m, from 62.265446, 0.040366 to 62.266007, 0.041872\n",
         "moved     point \"Rampe 3\" (amenity=ferry_terminal) by 100 m, from 62.266007, 0.041872 to 62.265446, 0.040366\n",
@@ -77,7 +77,7 @@ fn exchanged_names_are_moves() {
 #[test]
 fn a_renamed_point_is_told() {
     let bytes = replaced(map_bytes("islands.map"), b"Rampe 2", b"Rampe 9");
-    let told = compared("renamed.map", &bytes, &TERMINALS, 1);
+    let told = compared("renamed.map", &bytes, &TAGGED, 1);
     let line =
         "renamed   point \"Rampe 9\" (amenity=ferry_terminal) at 62.265446, 0.040366, before \
                 \"Rampe 2\"\n";
@@ -103,7 +103,7 @@ fn a_retagged_point_is_told() {
                 (amenity=ferry_terminal)\n";
     assert!(told.starts_with(line), "{told}");
     // By the tag alone it is gone.
-    let told = compared("untagged.map", &bytes, &TERMINALS, 1);
+    let told = compared("untagged.map", &bytes, &TAGGED, 1);
     let line = "removed   point \"Rampe 2\" (amenity=ferry_terminal) at 62.265446, 0.040366\n";
     assert!(told.starts_with(line), "{told}");
 }
@@ -148,7 +148,7 @@ fn what_cannot_be_read_is_told_with_status_2() {
 fn changes_are_given_as_json() {
     let bytes = replaced(map_bytes("islands.map"), b"Rampe 2", b"Rampe 9");
     let bytes = replaced(bytes, b"Rampe 3", b"Rampe 4");
-    let told = compared("json.map", &bytes, &["--json", "--same", TERMINALS[0], TERMINALS[1]], 1);
+    let told = compared("json.map", &bytes, &["--json", "--same", TAGGED[0], TAGGED[1]], 1);
     let document = Json::parse(&told);
     let page = std::fs::read_to_string(common::repository("docs/JSON.md")).unwrap();
     for name in document.names() {

@@ -109,16 +109,16 @@ fn a_feature_has_its_fields() {
     assert_eq!(tags[2], ("name", "Havnby\ren\u{8}Harbour Town"));
     assert_eq!(town.tag_ids.len(), 2);
 
-    let ferry = tile.way(11).unwrap();
-    assert_eq!(tile.ways().nth(11), Some(Ok(ferry.clone())));
+    let route = tile.way(11).unwrap();
+    assert_eq!(tile.ways().nth(11), Some(Ok(route.clone())));
     assert_eq!(tile.point(35).unwrap_err(), Refusal::InvalidFeature);
     assert_eq!(tile.way(141).unwrap_err(), Refusal::InvalidFeature);
     assert_eq!(tile.way(u64::MAX).unwrap_err(), Refusal::InvalidFeature);
-    assert_eq!(ferry.name.as_deref(), Some("Havnby–Storøya"));
-    assert_eq!(ferry.reference.as_deref(), Some("31"));
-    assert_eq!((ferry.bitmap, ferry.blocks.len()), (0x1000, 1));
-    assert_eq!(ferry.blocks[0].nodes.len(), 33);
-    assert_eq!(ferry.blocks[0].initial, ferry.blocks[0].nodes[0]);
+    assert_eq!(route.name.as_deref(), Some("Havnby–Storøya"));
+    assert_eq!(route.reference.as_deref(), Some("31"));
+    assert_eq!((route.bitmap, route.blocks.len()), (0x1000, 1));
+    assert_eq!(route.blocks[0].nodes.len(), 33);
+    assert_eq!(route.blocks[0].initial, route.blocks[0].nodes[0]);
     // Document 01's figure: the hash of "ab" is 2777121825.
     let hash = |text: &str| {
         let letters: Vec<u64> = text.chars().map(u64::from).collect();
@@ -128,7 +128,7 @@ fn a_feature_has_its_fields() {
         })
     };
     assert_eq!(hash("ab"), 2777121825);
-    for tag in &ferry.tags {
+    for tag in &route.tags {
         assert_eq!((tag.key_hash, tag.value_hash), (hash(&tag.key), hash(&tag.value)), "{tag:?}");
     }
 }
@@ -578,8 +578,8 @@ fn names_in_languages() {
     let mut stream = sub_file.stream(10, 21).unwrap();
     let Ok(Step::Point(point)) = stream.next() else { panic!("the first is a point") };
     assert_eq!(point.name_in("en"), Some("Harbour Town"));
-    let ferry = sub_file.placed(sub_file.tile(10).unwrap(), 21).unwrap().nth(35 + 32).unwrap();
-    assert_eq!(ferry.unwrap().name_in("en"), Some("Havnby Ferry Terminal"));
+    let way = sub_file.placed(sub_file.tile(10).unwrap(), 21).unwrap().nth(35 + 32).unwrap();
+    assert_eq!(way.unwrap().name_in("en"), Some("Havnby Ferry Terminal"));
 }
 
 /// A feature at its place is the collected one, its offsets added to the tile's corner.
