@@ -12,14 +12,14 @@ use std::io::{self, Write};
 pub const HELP: &str = "\
 mapsforge diff OLD NEW [--tag TAGS] [--zoom ZOOM] [--same] [--json]
 
-What changed from one map to another, at a zoom: what was added, removed, moved (and by how
-many metres), renamed or retagged. The maps are read side by side, tile by tile; every way is
-decoded.
+Says what changed from one map to another: what was added, removed, moved (and by how many
+metres), renamed or retagged. The maps are read side by side, tile by tile, at one zoom, and
+every way is decoded.
 
-    --tag TAGS     only features of these tags, KEY[=VALUE],...
-    --zoom ZOOM    at this zoom, by default the highest that both maps have
-    --same         what is the same too
-    --json         one document for a program, as docs/JSON.md has it
+    --tag TAGS     only features with one of these tags, KEY[=VALUE],...
+    --zoom ZOOM    compare at this zoom, by default the highest that both maps have
+    --same         list what is the same too
+    --json         one document for a program; docs/JSON.md describes it
 
 The status is 0 if nothing changed, 1 if something did, 2 if not everything could be read.
 ";

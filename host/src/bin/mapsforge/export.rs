@@ -13,17 +13,17 @@ use std::io::{BufWriter, Write};
 pub const HELP: &str = "\
 mapsforge export MAP --geojson [--tag TAGS] [--bbox SOUTH,WEST,NORTH,EAST] [--zoom ZOOM] [-o FILE]
 
-The features of a map for other programs, as GeoJSON (RFC 7946): a feature in a line, written as
+Writes the features of a map for other programs, as GeoJSON (RFC 7946): a feature in a line, as
 it is read. Tags are properties by their keys; a value that the feature stores itself (in a tag
-like maxspeed=%b) is null. A way is stored, and exported, in each tile that it touches.
+like maxspeed=%b) is null. A way is stored in each tile that it touches, and exported for each.
 
     --geojson            the format; there is no other yet
-    --tag TAGS           only features of these tags, KEY[=VALUE],...; name=NAME is one too
+    --tag TAGS           only those with one of these tags, KEY[=VALUE],...; name=NAME is one too
     --bbox BOX           only those that touch this box, in degrees
     --zoom ZOOM          those shown at this zoom, by default the highest of the map
     -o, --output FILE    to this file instead of standard output
 
-The status is 1 if a tile is refused: what it has is then missing.
+The status is 1 if a tile is refused: its features are then missing.
 ";
 
 pub const OPTIONS: &[Choice] = &[

@@ -10,14 +10,14 @@ use std::io::Write;
 pub const HELP: &str = "\
 mapsforge list MAP [--tag TAGS] [--bbox SOUTH,WEST,NORTH,EAST] [--zoom ZOOM]
 
-The features of a map, one in a line: position (of a way: its first node), kind, name, tags and
-tile. A way is stored, and listed, in each tile that it touches.
+Lists the features of a map, one in a line: position (of a way: its first node), kind, name,
+tags and tile. A way is stored in each tile that it touches, and listed for each of them.
 
-    --tag TAGS     only those of these tags, KEY[=VALUE],...; name=NAME is one too
+    --tag TAGS     only those with one of these tags, KEY[=VALUE],...; name=NAME is one too
     --bbox BOX     only those that touch this box, in degrees
     --zoom ZOOM    those shown at this zoom, by default the highest of the map
 
-The status is 1 if a tile is refused: what it has is then missing.
+The status is 1 if a tile is refused: its features are then missing.
 ";
 
 pub const OPTIONS: &[Choice] = &[TAG, BBOX, ZOOM];

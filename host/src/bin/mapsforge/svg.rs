@@ -12,24 +12,25 @@ pub const HELP: &str = "\
 mapsforge svg MAP TILE [-o FILE] [--zoom ZOOM] [--as list|panel] [--both] ...
 mapsforge svg MAP --at LAT,LON [--size METRES] ...
 
-Draws a tile, or a square around a place over as many tiles as it needs, as an SVG. TILE is
-SUBFILE:NUMBER, SUBFILE:X,Y (at the sub file's base zoom) or ZOOM/X/Y. A name that finds no
-room is moved, then numbered, with a legend below: no name is left out unsaid. A line below
-says how many of the tiles are empty by the map's index.
+Draws a tile as an SVG, or a square around a place, over as many tiles as it needs. TILE is
+SUBFILE:NUMBER, SUBFILE:X,Y (at the sub file's base zoom) or ZOOM/X/Y. A name for which there
+is no room is moved. If that does not help, its feature gets a number, and the name stands in
+a legend below. A line below says how many of the tiles are empty.
 
     -o, --output FILE    to this file instead of standard output
     --zoom ZOOM          only what is shown at this zoom
     --at LAT,LON         around this place, in degrees
     --size METRES        the side of the square, by default 1000
     --as list            as a list reads the map: every way is decoded (the default)
-    --as panel           as a panel reads it: it declines some ways by their stored sizes
+    --as panel           as a panel reads it: it declines some ways, by their stored sizes
     --decline TAGS       the tags of these ways, by default highway,building
-    --both               list and panel side by side, with what differs in red
-    --must-show TAGS     each feature of these tags must have a label
+    --both               list and panel side by side, with what differs in red; what the
+                         panel declines on purpose is pale, without names
+    --must-show TAGS     each feature with one of these tags must have a label
     --language LANGUAGE  names in this language, where the map has them
 
-TAGS is KEY[=VALUE],... The status is 1 if a feature that must be shown has no label, if none
-has the tag, if list and panel differ (--both), or if a tile is refused.
+TAGS is KEY[=VALUE],... The status is 1 if a feature that must be shown has no label, if the
+picture has no such feature, if list and panel differ (--both), or if a tile is refused.
 ";
 
 pub const OPTIONS: &[Choice] = &[
