@@ -288,6 +288,41 @@ fn both_are_drawn_with_what_differs_in_red() {
     );
 }
 
+/// A red name stands beside its red line, not on it.
+#[test]
+fn red_names_are_legible() {
+    let place = ["--at", "62.2652,0.0402", "--size", "600", "--both"];
+    let (svg, _) = drawn(&[&["svg", &shipped("short-size.map")][..], &place].concat(), 1);
+    let elements = xml::elements(&svg);
+    let of = |element: &xml::Element, name: &str| -> String {
+        let found = element.attributes.iter().find(|(key, _)| key == name);
+        found.map(|(_, value)| value.clone()).unwrap_or_default()
+    };
+    let numbers = |text: &str| -> Vec<f64> {
+        let words = text.split(|letter: char| !"-.0123456789".contains(letter));
+        words.filter_map(|word| word.parse().ok()).collect()
+    };
+    let paths = elements.iter().filter(|element| of(element, "stroke") == "#d00000");
+    let lines: Vec<Vec<f64>> = paths
+        .filter(|path| of(path, "fill") == "none")
+        .map(|path| numbers(&of(path, "d")))
+        .collect();
+    let names = elements.iter().filter(|element| of(element, "fill") == "#c00000");
+    let turned: Vec<_> = names.filter(|name| !of(name, "transform").is_empty()).collect();
+    assert!(lines.len() > 8 && turned.len() > 5, "{} {}", lines.len(), turned.len());
+    for name in turned {
+        let at = numbers(&of(name, "transform"));
+        for step in lines.iter().flat_map(|line| line.windows(4).step_by(2)) {
+            let (right, down) = (step[2] - step[0], step[3] - step[1]);
+            let part = ((at[0] - step[0]) * right + (at[1] - step[1]) * down)
+                / (right * right + down * down).max(1e-9);
+            let part = part.clamp(0.0, 1.0);
+            let away = (step[0] + part * right - at[0]).hypot(step[1] + part * down - at[1]);
+            assert!(away > 10.0, "{} lies on a line: {away}", name.text);
+        }
+    }
+}
+
 #[test]
 fn a_square_around_a_place_is_drawn_over_several_tiles() {
     let map = shipped("islands.map");

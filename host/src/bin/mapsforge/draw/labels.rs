@@ -269,15 +269,21 @@ impl<'s, 'a> Wish<'s, 'a> {
         }
     }
 
-    /// Places along a line that is long enough, never upside down.
+    /// Places along a line that is long enough, never upside down. A red name would not be read on a red line: it stands on
+    /// one side of it, or on the other.
     fn on(&self, steps: &[(Pixel, Pixel)], spots: &mut Vec<Spot>) {
         if length(steps) <= width(&self.text, self.size) {
             return;
         }
+        let aside = self.size * 0.6 + 6.5;
+        let sides = if self.drawn.look == Look::Differs { &[aside, -aside][..] } else { &[0.0] };
         for part in [0.5, 0.35, 0.65, 0.2, 0.8] {
-            if let Some((at, turn)) = along(steps, part) {
-                let upright = if turn.abs() > 90.0 { turn - 180.0 * turn.signum() } else { turn };
-                spots.push((self.area(at, upright), false));
+            let Some((at, turn)) = along(steps, part) else { continue };
+            let upright = if turn.abs() > 90.0 { turn - 180.0 * turn.signum() } else { turn };
+            let (sin, cos) = upright.to_radians().sin_cos();
+            for side in sides {
+                let middle = (at.0 + sin * side, at.1 - cos * side);
+                spots.push((self.area(middle, upright), false));
             }
         }
     }
