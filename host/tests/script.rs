@@ -27,9 +27,17 @@ fn program(path: &Path, text: &str) {
     assert!(writer.wait().expect("it ends").success(), "the tests' folder can be written to");
 }
 
+impl Drop for Tree {
+    fn drop(&mut self) {
+        let _ = fs::remove_dir_all(&self.top);
+    }
+}
+
 impl Tree {
     fn new(name: &str) -> Tree {
-        let top = Path::new(env!("CARGO_TARGET_TMPDIR")).join(name);
+        // Two runs of the tests may be under way at once.
+        let own = format!("{name}-{}", std::process::id());
+        let top = Path::new(env!("CARGO_TARGET_TMPDIR")).join(own);
         let _ = fs::remove_dir_all(&top);
         for folder in ["bin", "host/src", "crates/exports/src", "crates/visit/proofs"] {
             fs::create_dir_all(top.join(folder)).unwrap();
