@@ -72,7 +72,8 @@ enum {
     MAPSFORGE_OUT_OF_TURN = 16,           /* next while a way waits, accept or decline while none does */
     MAPSFORGE_INVALID_FEATURE = 17,       /* a feature number at or above the count */
     MAPSFORGE_ZOOM_TOO_LARGE = 18,        /* a zoom above 63 in column or longitude arithmetic */
-    MAPSFORGE_INDEX_CUT_OFF = 19,         /* the map ends before the five bytes of an index entry do; word 0: the entry's place */
+    MAPSFORGE_INDEX_CUT_OFF = 19,         /* the map ends before the five bytes of the tile's index entry or of the next one do; word 0: that
+                                             entry's place */
     MAPSFORGE_TILE_HEAD_CUT_OFF = 20      /* the map ends in a tile's signature (word 0: its place), or in the zoom table or the
                                              first-way offset (word 0: the place of the missing byte). For any place of 2^64 or
                                              more, 19 and 20 have 2^64 - 1 */
@@ -211,11 +212,10 @@ uint64_t mapsforge_tile_count(const uint64_t interval[6], int32_t x_min, int32_t
 uint64_t mapsforge_tile_index(const uint64_t interval[6], int32_t x_min, int32_t y_min, int32_t x_max, int32_t y_max, int32_t x, int32_t y, uint64_t words[8]);
 
 /* A tile's entry in the index. The calls about a tile refuse in this order: no such sub file (8), a bad grid (14), no such tile (8), no
- * entry (19), a reversed interval (13); then comes the tile, its bytes in file order; then no such feature (17), and a list too short (15)
- * last. This one stops behind 19.
+ * entry of the tile or, but for this call, of the next one (19), a reversed interval (13); then comes the tile, its bytes in file order;
+ * then no such feature (17), and a list too short (15) last. This one stops behind 19.
  *
- * Some writers mark a tile without features by the offset of the next tile (of the last tile: by the sub file's size). The library does
- * not look at the mark and reads what stands there, which is another tile: compare the two offsets first.
+ * This call does not look at the next entry, which may mark the tile empty (see mapsforge_collect): its place is then that of another tile.
  *   an entry writes words 6 to 8 */
 #define MAPSFORGE_INDEX_ENTRY_WATER 6           /* words: whether the tile is marked as water */
 #define MAPSFORGE_INDEX_ENTRY_OFFSET 7          /* the tile's place from the sub file's start */
@@ -233,7 +233,8 @@ uint64_t mapsforge_column(double longitude, uint8_t zoom, uint64_t words[6], int
 uint64_t mapsforge_longitude(uint32_t column, uint8_t zoom, uint64_t words[6], double longitude[1]);
 
 /* Opens a stream of a tile at a zoom, which is clamped into the sub file's interval. sub_file is only what the stream's end answers. The
- * state is the caller's to keep and these calls' to write; any seven words are taken for one.
+ * state is the caller's to keep and these calls' to write; any seven words are taken for one. A tile that its index marks empty (see
+ * mapsforge_collect) has a stream that is at its end: nothing is to come, and both places are 0. No other tile's stream opens with a place of 0.
  *   a stream writes state 0 to 6 */
 #define MAPSFORGE_STATE_WAITS 0                 /* state: 1 while a way waits, else 0; any word but 0 is taken for yes */
 #define MAPSFORGE_STATE_SUB_FILE 5              /* what the end will answer */

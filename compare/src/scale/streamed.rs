@@ -81,7 +81,7 @@ impl Run<'_, '_> {
         self.check.same("the state's word 4", waits && fourth != 0, false)
     }
 
-    /// The header file: "an empty tile's stream is at its end: [...] both places are 0".
+    /// The header file, of an empty tile: "nothing is to come, and both places are 0".
     fn at_end(&mut self, end: &Answer) -> Checked {
         let state = [0, 0, 0, 0, 0, self.question.number, end[2]];
         self.check.words("the state of an empty tile", &self.state, &state)
