@@ -11,7 +11,7 @@ use crate::ours::Ours;
 use crate::rust::Rust;
 use crate::tally::Tally;
 use crate::way_data;
-use crate::work::{Side, OURS_ALONE, WORKS};
+use crate::work::{Side, Work, OURS_ALONE, WORKS};
 
 const SIDES: [&str; 2] = ["ours", "rust"];
 pub const WAY_DATA: &str = "way-data";
@@ -37,11 +37,27 @@ fn print_line(map: &str, name: &str, work: &str, file: Option<&str>) {
     println!("| {map} | {name} | {ours} | {rust} | {:.2} |", ours as f64 / rust as f64);
 }
 
-/// Our side alone: each work on a map, and reading way data.
+/// Our side alone: each work on a map.
 pub fn ours(file: &str) -> Vec<(&'static str, u64)> {
-    let of_map = WORKS.map(|work| (work.word(), Some(file)));
-    let all = of_map.into_iter().chain([(WAY_DATA, None)]);
-    all.map(|(work, file)| (work, instructions(SIDES[0], work, file))).collect()
+    ours_of(&WORKS, file)
+}
+
+/// Empty tiles, on a copy of the map in which every tile is marked empty.
+pub fn ours_empty(file: &str) -> Vec<(&'static str, u64)> {
+    let program = env::current_exe().expect("this program's path");
+    let made = profiles(&program).join("all-empty.map");
+    fs::write(&made, Map::read(file).all_empty())
+        .expect("a map can be written beside callgrind's files");
+    ours_of(&OURS_ALONE, &made.to_string_lossy())
+}
+
+pub fn ours_way_data() -> u64 {
+    instructions(SIDES[0], WAY_DATA, None)
+}
+
+fn ours_of(works: &[Work], file: &str) -> Vec<(&'static str, u64)> {
+    let figure = |work: &Work| (work.word(), instructions(SIDES[0], work.word(), Some(file)));
+    works.iter().map(figure).collect()
 }
 
 /// What callgrind collects inside of `bench_counted`. Its file stays, for callgrind_annotate.

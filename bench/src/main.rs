@@ -1,7 +1,7 @@
 //! The library measured against the Rust map reader, on the same bytes in one process.
 //!
 //! `bench [MAP...]` prints tables of times, `bench --instructions [MAP...]` a table of instructions.
-//! `bench --check` compares our instructions on the shipped map with those that are kept, and
+//! `bench --check` compares our instructions on the shipped maps with those that are kept, and
 //! `bench --keep` keeps them. For a profiler, `bench count SIDE WORK MAP [TIMES]` does a work once or so many times, and
 //! `bench count SIDE way-data` reads way data once.
 

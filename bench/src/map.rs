@@ -17,6 +17,10 @@ pub struct Map {
 }
 
 pub struct SubFile {
+    /// The place of its first entry.
+    index: usize,
+    /// As stored.
+    size: u64,
     pub grid: Grid,
     pub lowest_zoom: u8,
     /// The tiles that both sides read.
@@ -32,6 +36,17 @@ impl Map {
     pub fn left_out(&self) -> [u64; 2] {
         let empty = self.sub_files.iter().map(|sub_file| sub_file.empty.len() as u64).sum();
         [empty, self.sub_files.iter().map(|sub_file| sub_file.cut_off).sum()]
+    }
+
+    /// Its bytes with every tile marked empty: each entry has the sub file's size for its offset, and no water mark.
+    pub fn all_empty(&self) -> Vec<u8> {
+        let mut bytes = self.bytes.clone();
+        for SubFile { index, size, grid, .. } in &self.sub_files {
+            for tile in 0..grid.tiles().expect("it was counted before") as usize {
+                bytes[index + 5 * tile..][..5].copy_from_slice(&size.to_be_bytes()[3..]);
+            }
+        }
+        bytes
     }
 
     /// A file that is no map to measure ends the program, with status 2.
@@ -59,15 +74,23 @@ fn sub_files(map: &[u8]) -> Result<Vec<SubFile>, String> {
 
 /// The tiles by their entries, as the Rust reads them.
 fn sub_file(file: &mut MapFile<Source>, number: usize) -> Result<SubFile, String> {
-    let ZoomInterval { base_zoom_level, min_zoom_level: lowest_zoom, sub_file_size, .. } =
-        file.header.zoom_interval_configuration[number];
+    let ZoomInterval {
+        base_zoom_level,
+        min_zoom_level: lowest_zoom,
+        sub_file_start,
+        sub_file_size: size,
+        ..
+    } = file.header.zoom_interval_configuration[number];
+    // in a debug map the index stands behind a signature
+    let index = sub_file_start as usize + if file.header.flags & 0x80 == 0 { 0 } else { 16 };
     let grid = grid_of(&file.header.bounding_box, base_zoom_level);
     let tiles = grid.tiles().ok_or("has a bounding box that gives no grid of tiles")? as usize;
     grid::lend(grid);
     let offset = |tile| file.tile_index_entry(number, tile).ok().map(|entry| entry.offset);
     let mut offsets: Vec<Option<u64>> = (0..tiles).map(offset).collect();
-    offsets.push(Some(sub_file_size));
-    let mut found = SubFile { grid, lowest_zoom, tiles: Vec::new(), empty: Vec::new(), cut_off: 0 };
+    offsets.push(Some(size));
+    let (tiles, empty) = (Vec::new(), Vec::new());
+    let mut found = SubFile { index, size, grid, lowest_zoom, tiles, empty, cut_off: 0 };
     for (tile, pair) in offsets.windows(2).enumerate() {
         match pair {
             [Some(own), Some(next)] if own == next => found.empty.push(tile),
