@@ -5,17 +5,17 @@ use mathlib.Core.Path.{_≡_}
 use mathlib.Core.Bool.{Bool, true, false}
 use mathlib.Core.List.{List, [], _∷_}
 use Rattle.parsing.specs.Parse.{Res, andThen, mapRes, Maybe, nth}
-use Rattle.error.specs.Refusals as error
+use Rattle.error.specs.Refusals.{lentRefused}
 use Rattle.format.specs.Header.{Interval, Header, opened}
 use Rattle.format.specs.Index.{answer, Grid, Located}
 use Rattle.format.specs.Lent.{LentLists, Reply}
+use Rattle.format.specs.TagLists.{TagLists, tagLists, listsWritten, listing}
 use Rattle.types.specs.Types.{intervalsOf}
 use Rattle.header.specs.HeaderView.{mapHeader}
-use Rattle.header.specs.declared.HeaderRead.{HeaderRead}
+use Rattle.opening.specs.declared.MapRead.{MapRead}
 use Rattle.index.specs.Answers.{intervalFound}
 use Rattle.poi.specs.declared.Poi.{Poi}
-use Rattle.tile_layout.specs.TileLayout.{layoutOf}
-use Rattle.tile_layout.specs.declared.TileLayout.{TileLayout}
+use Rattle.tile_layout.specs.TileLayout.{layoutOf, TileKinds, kindsOf}
 use Rattle.agreement.specs.Calls.{Call, next, accept, decline, noLists}
 use Rattle.agreement.specs.Collected.{StoredTile}
 use Rattle.agreement.specs.Demand3.{MapCollects}
@@ -37,10 +37,10 @@ use Rattle.agreement_guard.specs.declared.Replies.{Replies}
 use Rattle.agreement_guard.specs.declared.Outcome.{Outcome}
 use Rattle.agreement_guard.specs.declared.Outcome.the-variants as outcome
 
--- `from_source`, `layout_of` and `interval_of`, as the theorem supposes them
-pub record OpenedIs (m : List ℕ) (subFile : ℕ) (r : OpenedMap) : Type 0 where
-  pub header : HeaderRead
-  pub answers : Answers m subFile header (r .layout) (intervalFound (r .found))
+-- `open_map`, `layout_of` and `interval_of`, as the theorem supposes them
+pub record OpenedIs (m : List ℕ) (subFile : ℕ) (lent left : TagLists) (r : OpenedMap) : Type 0 where
+  pub header : MapRead
+  pub answers : Answers m subFile lent header left (r .layout) (intervalFound (r .found))
   pub end : r .end ≡ header .end
 
 -- `read_tile`
@@ -49,7 +49,7 @@ collectingOf tile-answer.Collected true = collecting.Exact
 collectingOf tile-answer.Collected false = collecting.Inexact
 collectingOf (tile-answer.Refused r) exact = collecting.Refused r
 
-pub record CollectingIs (m : List ℕ) (l : TileLayout) (i : Maybe Interval) (grid : Grid) (number : ℕ) (r : Collecting) : Type 0 where
+pub record CollectingIs (m : List ℕ) (l : TileKinds) (i : Maybe Interval) (grid : Grid) (number : ℕ) (r : Collecting) : Type 0 where
   pub read : TileRead
   pub tile : TileIs (collectTile l i grid number m) read
   pub answer : r ≡ collectingOf (read .answer) (read .tile .exact)
@@ -66,20 +66,21 @@ threeReplies r p h left =
     ∷ record { answer = declineAnswer (r .declined); lists = noLists }
     ∷ []
 
-pub record Called3 (m : List ℕ) (l : TileLayout) (s : Stream) (lent left : LentLists) (r : Replies) : Type 0 where
+pub record Called3 (m : List ℕ) (l : TileKinds) (s : Stream) (lent left : LentLists) (r : Replies) : Type 0 where
   pub poi : Poi
   pub head : StreamedHead
   pub called : Called m l s (threeCalls lent) (threeReplies r poi head left)
 
--- whether every stored size of a map's tile is the decoded length; or the refusal, if the map does not open or the tile does not collect
-abbrev pub exactIn : List ℕ → (subFile : ℕ) → Grid → (number : ℕ) → Res Bool
-exactIn m subFile grid number =
-    andThen (opened m) (λ h _.
-    mapRes (λ (t : Tile). t .exact) (collectTile (layoutOf (mapHeader h)) (nth (intervalsOf (mapHeader h)) subFile) grid number m))
+-- whether every stored size of a map's tile is the decoded length; or the refusal, if the map does not open with these lists or the tile
+-- does not collect. The tile is collected by the letters that opening listed.
+abbrev pub exactIn : List ℕ → (lent : TagLists) → (subFile : ℕ) → Grid → (number : ℕ) → Res Bool
+exactIn m lent subFile grid number =
+    andThen (listing (opened m) lent .answer) (λ h _.
+    mapRes (λ (t : Tile). t .exact) (collectTile (kindsOf (layoutOf (mapHeader h)) (listsWritten (tagLists h) lent .letters)) (nth (intervalsOf (mapHeader h)) subFile) grid number m))
 
 -- what the outcome says of it
 abbrev pub exactness : Outcome → Res Bool
-exactness (outcome.Refused r) = error.refused r
+exactness (outcome.Refused r) = lentRefused r
 exactness outcome.Inexact = answer false
 exactness (outcome.Replied a) = answer true
 
@@ -93,12 +94,14 @@ pub record BookReplied (m : List ℕ) (subFile : ℕ) (grid : Grid) (number zoom
   pub head : StreamedHead
   pub replies : threeReplies r poi head left ≡ bookAt subFile grid number stored place tile zoom (threeCalls lent)
 
--- where nothing is called, the lists are as they were
+-- where nothing is called, the lists of nodes are as they were
 abbrev pub Replying : (m : List ℕ) (subFile : ℕ) (grid : Grid) (number zoom : ℕ) (lent left : LentLists) → Outcome → Type 0
 Replying m subFile grid number zoom lent left (outcome.Refused r) = left ≡ lent
 Replying m subFile grid number zoom lent left outcome.Inexact = left ≡ lent
 Replying m subFile grid number zoom lent left (outcome.Replied a) = BookReplied m subFile grid number zoom lent left a
 
-pub record OutcomeIs (m : List ℕ) (subFile : ℕ) (grid : Grid) (number zoom : ℕ) (lent left : LentLists) (r : Outcome) : Type 0 where
-  pub collecting : exactness r ≡ exactIn m subFile grid number
+-- `tags` and `lent` before, `listed` and `left` after: whatever the outcome, the lists of tags are as opening leaves them
+pub record OutcomeIs (m : List ℕ) (subFile : ℕ) (grid : Grid) (number zoom : ℕ) (tags listed : TagLists) (lent left : LentLists) (r : Outcome) : Type 0 where
+  pub collecting : exactness r ≡ exactIn m tags subFile grid number
+  pub listing : listed ≡ listing (opened m) tags .lists
   pub replying : Replying m subFile grid number zoom lent left r

@@ -9,12 +9,12 @@ use mir.Facts.{toZ-ofZ}
 use Rattle.byte_source.specs.Answers.{spanRes}
 use Rattle.byte_source.specs.declared.SpanRead.{SpanRead}
 use Rattle.tag.specs.declared.Kind.{Kind}
-use Rattle.format.specs.Kinds.{tagKind}
+use Rattle.format.specs.Tile.{kindAt}
 use Rattle.format.specs.Lent.{LentLists}
-use Rattle.format.specs.TagTable.{tagText}
+use Rattle.format.specs.TagLists.{listedText}
 use Rattle.types.specs.declared.Grid.{Grid}
-use Rattle.types.specs.declared.TagTable.{TagTable}
-use Rattle.tag_table.specs.Tables.{tableIn}
+use Rattle.types.specs.declared.TagRange.{TagRange}
+use Rattle.tag_table.specs.Tables.{kindsBy}
 use Rattle.tile_layout.specs.declared.TileLayout.{TileLayout}
 use Rattle.visit.specs.declared.Stream.{Stream}
 use Rattle.visit.specs.declared.NextStep.{NextStep}
@@ -31,16 +31,16 @@ pub crosses : {A : Type 0} (encode : A → Wire) (Is : A → Type 0) (a : A) (w 
 crosses encode Is a w i q = record { answer = a; is = i; crossed = q }
 
 -- a tag
-pub tag-crosses : (t : TagTable) (k : ℕ) (m : List ℕ) (g : SpanRead) (y : Kind) (before w : Wire) → spanRes m g ≡ tagText (tableIn t) k m → y ≡ tagKind (tableIn t) k m → w ≡ tagWire before (record { text = g; kind = y }) → Crosses (tagWire before) (TagIs t k m) w
-tag-crosses t k m g y before w p q s = crosses (tagWire before) (TagIs t k m) (record { text = g; kind = y }) w (record { text = p; kind = q }) s
+pub tag-crosses : (starts letters : List ℕ) (t : TagRange) (k : ℕ) (m : List ℕ) (g : SpanRead) (y : Kind) (before w : Wire) → spanRes m g ≡ listedText starts (t .first) (t .count) k m → y ≡ kindAt (kindsBy letters t) k → w ≡ tagWire before (record { text = g; kind = y }) → Crosses (tagWire before) (TagIs starts letters t k m) w
+tag-crosses starts letters t k m g y before w p q s = crosses (tagWire before) (TagIs starts letters t k m) (record { text = g; kind = y }) w (record { text = p; kind = q }) s
 
 -- a question about where the intervals stand
 pub table-crosses : {A : Type 0} (encode : A → Wire) (Of : IntervalTable → A → Type 0) (t t′ : IntervalTable) (x : A) (w : Wire) → t ≡ t′ → Of t x → w ≡ encode x → Crosses encode (Of t′) w
 table-crosses encode Of t t′ x w e i q = crosses encode (Of t′) x w (subst (λ u. Of u x) e i) q
 
 -- a stream's calls, on the stream that the words say
-pub next-crosses : (m : List ℕ) (s s′ : Stream) (l l′ : TileLayout) (a : NextStep) (before w : Wire) → s ≡ s′ → l ≡ l′ → NextOf m l s a → w ≡ nextWire before a → Crosses (nextWire before) (NextOf m l′ s′) w
-next-crosses m s s′ l l′ a before w e h i q = crosses (nextWire before) (NextOf m l′ s′) a w (subst (λ x. NextOf m l′ x a) e (subst (λ x. NextOf m x s a) h i)) q
+pub next-crosses : (m letters : List ℕ) (s s′ : Stream) (l l′ : TileLayout) (a : NextStep) (before w : Wire) → s ≡ s′ → l ≡ l′ → NextOf m letters l s a → w ≡ nextWire before a → Crosses (nextWire before) (NextOf m letters l′ s′) w
+next-crosses m letters s s′ l l′ a before w e h i q = crosses (nextWire before) (NextOf m letters l′ s′) a w (subst (λ x. NextOf m letters l′ x a) e (subst (λ x. NextOf m letters x s a) h i)) q
 
 pub accept-crosses : (m : List ℕ) (s s′ : Stream) (lent left : LentLists) (a : Accepted) (before w : Wire) → s ≡ s′ → AcceptOf m s lent left a → w ≡ acceptWire before a → Crosses (acceptWire before) (AcceptOf m s′ lent left) w
 accept-crosses m s s′ lent left a before w e i q = crosses (acceptWire before) (AcceptOf m s′ lent left) a w (subst (λ x. AcceptOf m x lent left a) e i) q

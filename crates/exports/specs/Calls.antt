@@ -5,16 +5,18 @@ use mathlib.Core.Path.{_≡_}
 use mathlib.Core.List.{List}
 use Rattle.byte_source.specs.Answers.{spanRes}
 use Rattle.format.specs.Index.{tileCount, tileIndexOf, tileIndexEntry}
-use Rattle.format.specs.Kinds.{tagKind}
+use Rattle.format.specs.Header.{opened}
 use Rattle.format.specs.Lent.{LentLists}
-use Rattle.format.specs.TagTable.{tagText}
+use Rattle.format.specs.TagLists.{TagLists, listedText}
 use Rattle.types.specs.declared.Grid.{Grid}
-use Rattle.types.specs.declared.TagTable.{TagTable}
-use Rattle.tag_table.specs.Tables.{tableIn}
+use Rattle.types.specs.declared.TagRange.{TagRange}
+use Rattle.tag_table.specs.Tables.{kindsBy}
+use Rattle.opening.specs.Opening.{ListedIs}
+use Rattle.opening.specs.declared.ListedRead.{ListedRead}
 use Rattle.format.specs.BodyLists.{bodyLists}
-use Rattle.format.specs.Tile.{body}
+use Rattle.format.specs.Tile.{kindAt, body}
 use Rattle.agreement.specs.Stream.{onNext, onAccept, onDecline}
-use Rattle.tile_layout.specs.TileLayout.{formatOf}
+use Rattle.tile_layout.specs.TileLayout.{kindsOf, formatOf}
 use Rattle.tile_layout.specs.declared.TileLayout.{TileLayout}
 use Rattle.visit.specs.Visit.{stateOf, openTile, openRes, shownStep, NextIs, acceptStep, declineStep}
 use Rattle.visit.specs.declared.Stream.{Stream}
@@ -43,17 +45,21 @@ use Rattle.index_wire.specs.Index.{Named}
 abbrev pub gridIn : (xMin yMin xMax yMax : ℤ) → Grid
 gridIn a b c d = record { «x_min» = a; «y_min» = b; «x_max» = c; «y_max» = d }
 
-abbrev pub tableOf : (start count : ℕ) → TagTable
-tableOf s n = record { start = s; count = n }
+-- the header, and what opening leaves of the lent lists
+abbrev pub OpenOf : (m : List ℕ) → (lent left : TagLists) → ListedRead → Type 0
+OpenOf m lent left a = ListedIs (opened m) lent a left
 
--- tag k of a table: its text, and the kind of its inline value
-pub record TagIs (t : TagTable) (k : ℕ) (m : List ℕ) (a : Named) : Type 0 where
-  pub text : spanRes m (a .text) ≡ tagText (tableIn t) k m
-  pub kind : a .kind ≡ tagKind (tableIn t) k m
+abbrev pub tagsFrom : (first count : ℕ) → TagRange
+tagsFrom f n = record { first = f; count = n }
+
+-- tag k of a range of the listed tags: the text at its start, and the kind of its inline value by its letter
+pub record TagIs (starts letters : List ℕ) (t : TagRange) (k : ℕ) (m : List ℕ) (a : Named) : Type 0 where
+  pub text : spanRes m (a .text) ≡ listedText starts (t .first) (t .count) k m
+  pub kind : a .kind ≡ kindAt (kindsBy letters t) k
 
 -- a stream's calls: the machine of crate agreement
-abbrev pub NextOf : (m : List ℕ) → TileLayout → Stream → NextStep → Type 0
-NextOf m l s a = NextIs (shownStep (onNext (formatOf l m) m (stateOf s))) a
+abbrev pub NextOf : (m letters : List ℕ) → TileLayout → Stream → NextStep → Type 0
+NextOf m letters l s a = NextIs (shownStep (onNext (formatOf (kindsOf l letters)) m (stateOf s))) a
 
 abbrev pub AcceptOf : (m : List ℕ) → Stream → (lent left : LentLists) → Accepted → Type 0
 AcceptOf m s lent left a = acceptStep a (left .counts) (left .latitudes) (left .longitudes) ≡ shownStep (onAccept body bodyLists m (stateOf s) lent)
@@ -90,8 +96,8 @@ pub record LentRows : Type 0 where
 abbrev pub lentRows : (points ways : List ℕ) → LentRows
 lentRows p w = record { points = p; ways = w }
 
-abbrev pub TileOf : (m : List ℕ) → (number : ℕ) → (lent left : LentRows) → TileLayout → IntervalRead → Grid → SummaryRead → Type 0
-TileOf m t lent left l i g a = CollectIs (collectTile l (intervalFound i) (gridOf g) t m) (lent .points) (lent .ways) a (left .points) (left .ways)
+abbrev pub TileOf : (m letters : List ℕ) → (number : ℕ) → (lent left : LentRows) → TileLayout → IntervalRead → Grid → SummaryRead → Type 0
+TileOf m letters t lent left l i g a = CollectIs (collectTile (kindsOf l letters) (intervalFound i) (gridOf g) t m) (lent .points) (lent .ways) a (left .points) (left .ways)
 
-abbrev pub FeatureOf : (m : List ℕ) → (number k : ℕ) → (lent left : FetchLists) → TileLayout → IntervalRead → Grid → Fetch → Type 0
-FeatureOf m t k lent left l i g a = FeatureIs (fetchTile l (intervalFound i) (gridOf g) t k m) lent a left
+abbrev pub FeatureOf : (m starts letters : List ℕ) → (number k : ℕ) → (lent left : FetchLists) → TileLayout → IntervalRead → Grid → Fetch → Type 0
+FeatureOf m starts letters t k lent left l i g a = FeatureIs (fetchTile l starts letters (intervalFound i) (gridOf g) t k m) lent a left

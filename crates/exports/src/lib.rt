@@ -3,17 +3,16 @@
 // words. An answer writes its own words, and the others keep their values. What a call needs of the header is handed in: the layout that
 // opening gave, and its sub file's interval.
 use types::Grid;
-use types::TagTable;
+use types::TagRange;
 use utils::Degrees;
 ghost use mathlib.Core.Path.{_≡_};
 ghost use mathlib.Core.List.{[], _∷_};
 ghost use Rattle.parsing.specs.Parse.{mapRes};
 ghost use Rattle.format.specs.WayData.{wayData};
 ghost use Rattle.way_measure.specs.Answers.{waySizes, wayDataRes};
-ghost use Rattle.format.specs.Header.{opened};
 ghost use Rattle.text.specs.Writing.{outcome, writing};
 ghost use Rattle.column.specs.Column.{columnRes, longitudeRes, column as columnOf, longitude as longitudeOf};
-ghost use Rattle.header.specs.HeaderView.{FieldsAre};
+ghost use Rattle.opening.specs.Opening.{lists};
 ghost use Rattle.way_data.specs.Reply.{lent, reply, readWayData};
 ghost use Rattle.fetch_way.specs.FetchWay.{lent as lentAll};
 ghost use Rattle.wire.specs.Wire.{wire, lending, Crosses};
@@ -21,19 +20,22 @@ ghost use Rattle.index_wire.specs.Index.{countWire, indexWire, subFileWire, int
 ghost use Rattle.header_wire.specs.Header.{headerWire, layoutIn, intervalsIn};
 ghost use Rattle.stream_wire.specs.Streams.{streamIn, openedWire, nextWire, acceptWire, declineWire};
 ghost use Rattle.feature_wire.specs.Features.{tileWire, fetchWire};
-ghost use Rattle.exports.specs.Calls.{gridIn, tableOf, lentRows, TagIs, RowOf, SubFileOf, CountOf, IndexOf, EntryOf, StreamOf, NextOf, AcceptOf, DeclineOf, TileOf, FeatureOf};
+ghost use Rattle.exports.specs.Calls.{gridIn, OpenOf, tagsFrom, lentRows, TagIs, RowOf, SubFileOf, CountOf, IndexOf, EntryOf, StreamOf, NextOf, AcceptOf, DeclineOf, TileOf, FeatureOf};
 
-// The header but for its intervals, in 34 words and six degrees, and what tiles and sub files need of it, in seven words.
+// The header but for its intervals, in 34 words and six degrees, and what tiles and sub files need of it, in seven words. The start and the
+// letter of each point tag and then of each way tag go to the fronts of two lists, which other calls take.
 #[no_mangle]
 pub extern "C" fn mapsforge_open(
     map: &[u8],
+    starts: &mut [u64],
+    letters: &mut [u8],
     words: &mut [u64; 34],
     degrees: &mut [f64; 6],
     layout: &mut [u64; 7],
 ) -> u64
-    ensures { λ r. ⌜ Crosses (headerWire (lending (now (words .entry) ∷ now (layout .entry) ∷ []) [] (now (degrees .entry)))) (FieldsAre (opened (now (map .entry)))) (wire r (now (words .exit) ∷ now (layout .exit) ∷ []) [] (now (degrees .exit))) ⌝ }
+    ensures { λ r. ⌜ Crosses (headerWire (lending (now (words .entry) ∷ now (layout .entry) ∷ []) [] (now (degrees .entry)))) (OpenOf (now (map .entry)) (lists (now (starts .entry)) (now (letters .entry))) (lists (now (starts .exit)) (now (letters .exit)))) (wire r (now (words .exit) ∷ now (layout .exit) ∷ []) [] (now (degrees .exit))) ⌝ }
 {
-    let got = opening::open_fields(map);
+    let got = opening::open_listed(map, starts, letters);
     header_wire::put_header(got, words, degrees, layout)
 }
 
@@ -68,20 +70,22 @@ pub extern "C" fn mapsforge_sub_file(
     index_wire::put_sub_file(got, words)
 }
 
-// Where the text of tag k of a table stands, and the kind of its inline value.
+// Where the text of tag k stands, of `count` tags from entry `first` of the lists on, and the kind of its inline value.
 #[no_mangle]
 pub extern "C" fn mapsforge_tag(
     map: &[u8],
-    start: usize,
+    starts: &[u64],
+    letters: &[u8],
+    first: usize,
     count: usize,
     k: usize,
     words: &mut [u64; 10],
 ) -> u64
-    ensures { λ r. ⌜ Crosses (tagWire (lending (now (words .entry) ∷ []) [] [])) (TagIs (tableOf start count) k (now (map .entry))) (wire r (now (words .exit) ∷ []) [] []) ⌝ }
+    ensures { λ r. ⌜ Crosses (tagWire (lending (now (words .entry) ∷ []) [] [])) (TagIs (now (starts .entry)) (now (letters .entry)) (tagsFrom first count) k (now (map .entry))) (wire r (now (words .exit) ∷ []) [] []) ⌝ }
 {
-    let table = TagTable { start, count };
-    let kind = tag_kinds::tag_kind(map, table, k);
-    let got = tag_table::tag_text(map, table, k);
+    let tags = TagRange { first, count };
+    let kind = tag_table::listed_kind(letters, tags, k);
+    let got = tag_table::listed_text(map, starts, tags, k);
     index_wire::put_tag(got, kind, words)
 }
 
@@ -230,17 +234,18 @@ pub extern "C" fn mapsforge_stream_open(
 pub extern "C" fn mapsforge_stream_next(
     map: &[u8],
     layout: &[u64; 7],
+    letters: &[u8],
     state: &mut [u64; 7],
     words: &mut [u64; 21],
     signed_words: &mut [i64; 2],
     degrees: &mut [f64; 2],
     ids: &mut [u64; 15],
 ) -> u64
-    ensures { λ r. ⌜ Crosses (nextWire (lending (now (words .entry) ∷ now (ids .entry) ∷ now (state .entry) ∷ []) (now («signed_words» .entry)) (now (degrees .entry)))) (NextOf (now (map .entry)) (layoutIn (now (layout .entry))) (streamIn (now (state .entry)))) (wire r (now (words .exit) ∷ now (ids .exit) ∷ now (state .exit) ∷ []) (now («signed_words» .exit)) (now (degrees .exit))) ⌝ }
+    ensures { λ r. ⌜ Crosses (nextWire (lending (now (words .entry) ∷ now (ids .entry) ∷ now (state .entry) ∷ []) (now («signed_words» .entry)) (now (degrees .entry)))) (NextOf (now (map .entry)) (now (letters .entry)) (layoutIn (now (layout .entry))) (streamIn (now (state .entry)))) (wire r (now (words .exit) ∷ now (ids .exit) ∷ now (state .exit) ∷ []) (now («signed_words» .exit)) (now (degrees .exit))) ⌝ }
 {
     let tiles = header_wire::layout_in(*layout);
     let stream = stream_wire::stream_in(*state);
-    let step = visit::next(map, tiles, stream);
+    let step = visit::next(map, tiles, letters, stream);
     stream_wire::put_next(step, state, words, signed_words, degrees, ids)
 }
 
@@ -276,6 +281,7 @@ pub extern "C" fn mapsforge_stream_decline(state: &mut [u64; 7], words: &mut [u6
 pub extern "C" fn mapsforge_collect(
     map: &[u8],
     layout: &[u64; 7],
+    letters: &[u8],
     interval: &[u64; 6],
     x_min: i32,
     y_min: i32,
@@ -286,7 +292,7 @@ pub extern "C" fn mapsforge_collect(
     points: &mut [u64; 256],
     ways: &mut [u64; 256],
 ) -> u64
-    ensures { λ r. ⌜ Crosses (tileWire (lending (now (words .entry) ∷ []) [] [])) (TileOf (now (map .entry)) tile (lentRows (now (points .entry)) (now (ways .entry))) (lentRows (now (points .exit)) (now (ways .exit))) (layoutIn (now (layout .entry))) (intervalIn (now (interval .entry))) (gridIn «x_min» «y_min» «x_max» «y_max»)) (wire r (now (words .exit) ∷ []) [] []) ⌝ }
+    ensures { λ r. ⌜ Crosses (tileWire (lending (now (words .entry) ∷ []) [] [])) (TileOf (now (map .entry)) (now (letters .entry)) tile (lentRows (now (points .entry)) (now (ways .entry))) (lentRows (now (points .exit)) (now (ways .exit))) (layoutIn (now (layout .entry))) (intervalIn (now (interval .entry))) (gridIn «x_min» «y_min» «x_max» «y_max»)) (wire r (now (words .exit) ∷ []) [] []) ⌝ }
 {
     let grid = Grid {
         x_min,
@@ -296,7 +302,7 @@ pub extern "C" fn mapsforge_collect(
     };
     let tiles = header_wire::layout_in(*layout);
     let found = index_wire::interval_in(*interval);
-    let got = tile::collect(map, tiles, found, grid, tile, points, ways);
+    let got = tile::collect(map, tiles, letters, found, grid, tile, points, ways);
     feature_wire::put_tile(got, words)
 }
 
@@ -305,6 +311,8 @@ pub extern "C" fn mapsforge_collect(
 pub extern "C" fn mapsforge_fetch(
     map: &[u8],
     layout: &[u64; 7],
+    starts: &[u64],
+    letters: &[u8],
     interval: &[u64; 6],
     x_min: i32,
     y_min: i32,
@@ -324,7 +332,7 @@ pub extern "C" fn mapsforge_fetch(
     ids: &mut [u64; 15],
     tags: &mut [u64; 75],
 ) -> u64
-    ensures { λ r. ⌜ Crosses (fetchWire (lending (now (words .entry) ∷ now (ids .entry) ∷ now (tags .entry) ∷ []) (now («signed_words» .entry)) (now (degrees .entry)))) (FeatureOf (now (map .entry)) tile feature (lentAll (now («node_counts» .entry)) (now (latitudes .entry)) (now (longitudes .entry)) (now («initial_latitudes» .entry)) (now («initial_longitudes» .entry)) (now (buffer .entry))) (lentAll (now («node_counts» .exit)) (now (latitudes .exit)) (now (longitudes .exit)) (now («initial_latitudes» .exit)) (now («initial_longitudes» .exit)) (now (buffer .exit))) (layoutIn (now (layout .entry))) (intervalIn (now (interval .entry))) (gridIn «x_min» «y_min» «x_max» «y_max»)) (wire r (now (words .exit) ∷ now (ids .exit) ∷ now (tags .exit) ∷ []) (now («signed_words» .exit)) (now (degrees .exit))) ⌝ }
+    ensures { λ r. ⌜ Crosses (fetchWire (lending (now (words .entry) ∷ now (ids .entry) ∷ now (tags .entry) ∷ []) (now («signed_words» .entry)) (now (degrees .entry)))) (FeatureOf (now (map .entry)) (now (starts .entry)) (now (letters .entry)) tile feature (lentAll (now («node_counts» .entry)) (now (latitudes .entry)) (now (longitudes .entry)) (now («initial_latitudes» .entry)) (now («initial_longitudes» .entry)) (now (buffer .entry))) (lentAll (now («node_counts» .exit)) (now (latitudes .exit)) (now (longitudes .exit)) (now («initial_latitudes» .exit)) (now («initial_longitudes» .exit)) (now (buffer .exit))) (layoutIn (now (layout .entry))) (intervalIn (now (interval .entry))) (gridIn «x_min» «y_min» «x_max» «y_max»)) (wire r (now (words .exit) ∷ now (ids .exit) ∷ now (tags .exit) ∷ []) (now («signed_words» .exit)) (now (degrees .exit))) ⌝ }
 {
     let grid = Grid {
         x_min,
@@ -337,6 +345,8 @@ pub extern "C" fn mapsforge_fetch(
     let fetch = fetch::fetch_feature(
         map,
         tiles,
+        starts,
+        letters,
         found,
         grid,
         tile,

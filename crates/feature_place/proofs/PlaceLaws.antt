@@ -18,14 +18,12 @@ use Rattle.arithmetic.proofs.CutLaws.{cut-fits}
 use Rattle.byte_source.proofs.ReadLaws.{Taken, taken}
 use Rattle.format.specs.Header.{Interval}
 use Rattle.format.specs.Index.{answer, answered, Grid, Located, locate, tileAt}
-use Rattle.format.specs.Kinds.{tagKinds}
 use Rattle.format.specs.Rows.{rowsOfInterval, locatedHead, intervalHead}
 use Rattle.format.specs.Tile as format
 use Rattle.format.specs.Tile.{Point, point}
 use Rattle.types.specs.Types.{endRes, endRefusal}
 use Rattle.types.specs.declared.End.{End}
 use Rattle.types.specs.declared.End.the-variants as end
-use Rattle.tag_table.specs.Tables.{tableIn}
 use Rattle.tile_head.specs.TileHead.{headAt, headRes, headRefusal}
 use Rattle.tile_head.specs.declared.TileHead.{TileHead}
 use Rattle.tile_head.specs.declared.TileHeadRead.{TileHeadRead}
@@ -41,8 +39,7 @@ use Rattle.agreement.specs.Collected.{Way, way, allExact, StoredTile, collect}
 use Rattle.agreement.proofs.Chain.{Chain, stop, link}
 use Rattle.agreement.proofs.TileAgrees.{way-good, way-strict, collected}
 use Rattle.agreement.proofs.TileFormatLaws.{tile-laws, head-cut}
-use Rattle.tile_layout.specs.TileLayout.{formatOf}
-use Rattle.tile_layout.specs.declared.TileLayout.{TileLayout}
+use Rattle.tile_layout.specs.TileLayout.{TileKinds, formatOf}
 use Rattle.tile_walk.specs.TileWalk.{waysRes, waysRefusal, exactWays}
 use Rattle.tile_walk.specs.declared.WaysRead.{WaysRead}
 use Rattle.tile_walk.specs.declared.WaysRead.the-variants as ways-read
@@ -62,9 +59,9 @@ tile-refused g e h = taken tileRefusal h refl
 pub ruleset refusals = (needs, feature-refused, tile-refused)
 
 -- behind n points
-module _ (l : TileLayout) (m : List ℕ) (at n : ℕ) (g : End) (q : endRes n g ≡ mapRes length (many (point (l .debug) (tagKinds (tableIn (l .«poi_tags»)) m)) n m at)) where
+module _ (l : TileKinds) (m : List ℕ) (at n : ℕ) (g : End) (q : endRes n g ≡ mapRes length (many (point (l .debug) (l .points)) n m at)) where
   abbrev points : Res (List Point)
-  points = many (point (l .debug) (tagKinds (tableIn (l .«poi_tags»)) m)) n m at
+  points = many (point (l .debug) (l .points)) n m at
 
   pub points-stop : (x y : Refusal) → g ≡ end.Refused x → y ≡ endRefusal g → refused y ≡ pointPlace l m at n
   points-stop x y h w = ap refused (w ∙ ap endRefusal h) ∙ go points (ap (endRes n) (sym h) ∙ q)
@@ -81,33 +78,33 @@ module _ (l : TileLayout) (m : List ℕ) (at n : ℕ) (g : End) (q : endRes n g 
       go (no k v) d = no-ok (sym d)
 
 -- behind n ways
-module _ (l : TileLayout) (m : List ℕ) (at n : ℕ) (g : WaysRead) (q : waysRes g ≡ exactWays l m n at) where
-  abbrev ways : Res (List (Way (formatOf l m)))
-  ways = many (way (formatOf l m)) n m at
+module _ (l : TileKinds) (m : List ℕ) (at n : ℕ) (g : WaysRead) (q : waysRes g ≡ exactWays l m n at) where
+  abbrev ways : Res (List (Way (formatOf l)))
+  ways = many (way (formatOf l)) n m at
 
   pub ways-stop : (x y : Refusal) → g ≡ ways-read.Refused x → y ≡ waysRefusal g → refused y ≡ wayPlace l m at n
   ways-stop x y h w = ap refused (w ∙ ap waysRefusal h) ∙ go ways (ap waysRes (sym h) ∙ q)
     where
-      go : (r : Res (List (Way (formatOf l m)))) → refused x ≡ mapRes allExact r → refused x ≡ andThen r (λ _ e. answer (wayAt e))
+      go : (r : Res (List (Way (formatOf l)))) → refused x ≡ mapRes allExact r → refused x ≡ andThen r (λ _ e. answer (wayAt e))
       go (ok ps e) d = no-ok d
       go (no k v) d = cc
 
   pub ways-end : (b : Bool) (k : ℕ) → g ≡ ways-read.Value b k → answer (wayAt k) ≡ wayPlace l m at n
   ways-end b k h = go ways (ap waysRes (sym h) ∙ q)
     where
-      go : (r : Res (List (Way (formatOf l m)))) → ok b k ≡ mapRes allExact r → answer (wayAt k) ≡ andThen r (λ _ e. answer (wayAt e))
+      go : (r : Res (List (Way (formatOf l)))) → ok b k ≡ mapRes allExact r → answer (wayAt k) ≡ andThen r (λ _ e. answer (wayAt e))
       go (ok ps e) d = ap (λ a. answer (wayAt a)) (ok-at d)
       go (no k v) d = no-ok (sym d)
 
 -- points from 0, ways behind them
-module _ (l : TileLayout) (m : List ℕ) (e points ways offset k : ℕ) (r : Res Place) where
+module _ (l : TileKinds) (m : List ℕ) (e points ways offset k : ℕ) (r : Res Place) where
   pub a-point : k < points → r ≡ pointPlace l m e k → r ≡ behind l m e points ways offset k
   a-point h q = q ∙ rw (lt-ltb k points h)
 
   pub a-way : (first : ℕ) → points ≤ k → k - points < ways → first ≡ cut (e + offset) → r ≡ wayPlace l m first (k - points) → r ≡ behind l m e points ways offset k
   a-way first h b w q = q ∙ ap (λ a. wayPlace l m a (k - points)) w ∙ rw (le-ltb k points h, lt-ltb (k - points) ways b)
 
-pub no-feature : (l : TileLayout) (m : List ℕ) (e points ways offset k : ℕ) → points ≤ k → ways ≤ k - points → refused InvalidFeature ≡ behind l m e points ways offset k
+pub no-feature : (l : TileKinds) (m : List ℕ) (e points ways offset k : ℕ) → points ≤ k → ways ≤ k - points → refused InvalidFeature ≡ behind l m e points ways offset k
 no-feature l m e points ways offset k h b = rw (le-ltb k points h, le-ltb (k - points) ways b)
 
 -- ways that are there start inside the map
@@ -119,12 +116,12 @@ starts-inside F L m (link {i = i} {x = x} {a = w} h c) b =
     omega arith
 
 -- in a tile that collects
-module _ (l : TileLayout) (H : Parser format.TileHead) (m : List ℕ) (small : length m < 2 ^ 64) (i : ℕ) (t : StoredTile (formatOf l m)) (z : ℕ) (c : collect H (formatOf l m) m i ≡ ok t z) where
+module _ (l : TileKinds) (H : Parser format.TileHead) (m : List ℕ) (small : length m < 2 ^ 64) (i : ℕ) (t : StoredTile (formatOf l)) (z : ℕ) (c : collect H (formatOf l) m i ≡ ok t z) where
   abbrev F : Format
-  F = formatOf l m
+  F = formatOf l
 
   abbrev L : Laws F
-  L = tile-laws (l .debug) (tagKinds (tableIn (l .«poi_tags»)) m) (tagKinds (tableIn (l .«way_tags»)) m)
+  L = tile-laws (l .debug) (l .points) (l .ways)
 
   uncut : (k : ℕ) (b : Bool) → ltb (k - length (t .points)) (length (t .ways)) ≡ b
       → cond b (wayPlace l m (cut (t .start + t .head .offset)) (k - length (t .points))) (no 17 [])
@@ -191,15 +188,15 @@ module _ (b : Bool) (i : Maybe Interval) (grid : Grid) (number : ℕ) (m : List 
         go (no k v) o d = no-ok (sym d)
 
 -- the feature, by what was read
-module _ (l : TileLayout) (i : Maybe Interval) (grid : Grid) (number k : ℕ) (m : List ℕ) where
+module _ (l : TileKinds) (i : Maybe Interval) (grid : Grid) (number k : ℕ) (m : List ℕ) where
   abbrev located : Res Located
   located = locate (l .debug) i grid number m
 
-  abbrev stored : Located → Res (StoredTile (formatOf l m))
-  stored a = collect (locatedHead (l .debug) a) (formatOf l m) m (tileAt a)
+  abbrev stored : Located → Res (StoredTile (formatOf l))
+  stored a = collect (locatedHead (l .debug) a) (formatOf l) m (tileAt a)
 
   abbrev fromTile : Located → Res Place
-  fromTile a = andThen (stored a) (λ t _. placeIn (formatOf l m) t k m)
+  fromTile a = andThen (stored a) (λ t _. placeIn (formatOf l) t k m)
 
   pub no-start : (g : End) (x y : Refusal) → endRes tt g ≡ tileStart (l .debug) i grid number m → g ≡ end.Refused x → y ≡ endRefusal g → refused y ≡ featurePlace l i grid number k m
   unfolding tileStart featurePlace
@@ -217,7 +214,7 @@ module _ (l : TileLayout) (i : Maybe Interval) (grid : Grid) (number k : ℕ) (m
   unfolding collectTile featurePlace
   no-tile r x y b e w = ap refused (w ∙ ap tileRefusal e) ∙ go located (ap (λ a. tileRes a (r .tile)) (sym e) ∙ b .answer)
     where
-      on : (a : Located) (c : Res (StoredTile (formatOf l m))) → refused x ≡ answered (mapRes shownTile c) → refused x ≡ andThen c (λ t _. placeIn (formatOf l m) t k m)
+      on : (a : Located) (c : Res (StoredTile (formatOf l))) → refused x ≡ answered (mapRes shownTile c) → refused x ≡ andThen c (λ t _. placeIn (formatOf l) t k m)
       on a (ok t z) d = no-ok d
       on a (no n v) d = cc
 
@@ -230,10 +227,10 @@ module _ (l : TileLayout) (i : Maybe Interval) (grid : Grid) (number k : ℕ) (m
   unfolding collectTile featurePlace tileStart
   found g n t r q e small b c w = go located (ap (endRes tt) (sym e) ∙ q) (ap (λ a. tileRes a (t .tile)) (sym c) ∙ b .answer)
     where
-      on : (a : Located) → ok tt n ≡ passed (locatedHead (l .debug) a m (tileAt a)) → (y : Res (StoredTile (formatOf l m))) → stored a ≡ y
-          → answer (t .tile) ≡ answered (mapRes shownTile y) → r ≡ andThen y (λ t _. placeIn (formatOf l m) t k m)
+      on : (a : Located) → ok tt n ≡ passed (locatedHead (l .debug) a m (tileAt a)) → (y : Res (StoredTile (formatOf l))) → stored a ≡ y
+          → answer (t .tile) ≡ answered (mapRes shownTile y) → r ≡ andThen y (λ t _. placeIn (formatOf l) t k m)
       on a d (ok st u) j i =
-          let C = collected (locatedHead (l .debug) a) (formatOf l m) m (tileAt a) st u j in
+          let C = collected (locatedHead (l .debug) a) (formatOf l) m (tileAt a) st u j in
           let start : n ≡ st .start = ok-at (d ∙ ap passed (C .head)) in
           w
           ∙ ap (λ (x : Tile). behind l m n (x .points) (x .ways) (x .«first_way_offset») k) (ok-val i)

@@ -12,14 +12,11 @@ use Rattle.error.specs.declared.Refusal.the-variants.{Source}
 use Rattle.arithmetic.specs.Cut.{cut}
 use Rattle.format.specs.Header.{Interval}
 use Rattle.format.specs.Index.{answer, Grid, locate, tileAt}
-use Rattle.format.specs.Kinds.{tagKinds}
 use Rattle.format.specs.Rows.{locatedHead}
 use Rattle.format.specs.Tile.{point}
-use Rattle.tag_table.specs.Tables.{tableIn}
 use Rattle.agreement.specs.Format.{Format}
 use Rattle.agreement.specs.Collected.{way, StoredTile, collect}
-use Rattle.tile_layout.specs.TileLayout.{formatOf}
-use Rattle.tile_layout.specs.declared.TileLayout.{TileLayout}
+use Rattle.tile_layout.specs.TileLayout.{TileKinds, formatOf}
 use Rattle.tile.specs.declared.TileAnswer.{TileAnswer}
 use Rattle.tile.specs.declared.TileAnswer.the-variants as tile-answer
 use Rattle.feature_place.specs.declared.FeaturePlace.{FeaturePlace}
@@ -49,11 +46,11 @@ placeIn F t k m =
     (no 17 []))
 
 -- refused as collecting is, then 17
-unfoldable pub featurePlace : TileLayout → Maybe Interval → Grid → (number k : ℕ) → List ℕ → Res Place
+unfoldable pub featurePlace : TileKinds → Maybe Interval → Grid → (number k : ℕ) → List ℕ → Res Place
 featurePlace l i g n k m =
     andThen (locate (l .debug) i g n m) (λ a _.
-    andThen (collect (locatedHead (l .debug) a) (formatOf l m) m (tileAt a)) (λ t _.
-    placeIn (formatOf l m) t k m))
+    andThen (collect (locatedHead (l .debug) a) (formatOf l) m (tileAt a)) (λ t _.
+    placeIn (formatOf l) t k m))
 
 -- What private functions find, which need not be believed: the place behind the tile's head
 unfoldable pub tileStart : (debug : Bool) → Maybe Interval → Grid → (number : ℕ) → List ℕ → Res Unit
@@ -61,15 +58,15 @@ tileStart d i g n m =
     andThen (locate d i g n m) (λ a _. passed (locatedHead d a m (tileAt a)))
 
 -- behind n points
-abbrev pub pointPlace : TileLayout → List ℕ → (at n : ℕ) → Res Place
-pointPlace l m at n = andThen (many (point (l .debug) (tagKinds (tableIn (l .«poi_tags»)) m)) n m at) (λ _ x. answer (pointAt x))
+abbrev pub pointPlace : TileKinds → List ℕ → (at n : ℕ) → Res Place
+pointPlace l m at n = andThen (many (point (l .debug) (l .points)) n m at) (λ _ x. answer (pointAt x))
 
 -- behind n ways
-abbrev pub wayPlace : TileLayout → List ℕ → (at n : ℕ) → Res Place
-wayPlace l m at n = andThen (many (way (formatOf l m)) n m at) (λ _ x. answer (wayAt x))
+abbrev pub wayPlace : TileKinds → List ℕ → (at n : ℕ) → Res Place
+wayPlace l m at n = andThen (many (way (formatOf l)) n m at) (λ _ x. answer (wayAt x))
 
 -- behind a head that ends at e, in a tile with these counts and this first-way offset
-abbrev pub behind : TileLayout → List ℕ → (e points ways offset k : ℕ) → Res Place
+abbrev pub behind : TileKinds → List ℕ → (e points ways offset k : ℕ) → Res Place
 behind l m e points ways offset k =
     cond (ltb k points) (pointPlace l m e k) (cond (ltb (k - points) ways) (wayPlace l m (cut (e + offset)) (k - points)) (no 17 []))
 

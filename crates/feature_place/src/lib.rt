@@ -11,6 +11,7 @@ use types::Grid;
 ghost use mathlib.Core.Path.{_≡_};
 ghost use Rattle.types.specs.Types.{gridOf, endRes};
 ghost use Rattle.index.specs.Answers.{intervalFound};
+ghost use Rattle.tile_layout.specs.TileLayout.{kindsOf};
 ghost use Rattle.feature_place.specs.FeaturePlace.{placeRes, placeRefusal, tileRefusal, pointPlace, wayPlace, behind, tileStart, featurePlace};
 
 // Where a point starts, or a way; its signature's place in debug maps.
@@ -40,10 +41,10 @@ fn tile_refusal(answer: TileAnswer) -> Refusal
 }
 
 // Behind n points.
-fn point_place(map: &[u8], at: usize, n: u64, layout: TileLayout) -> FeaturePlace
-    ensures { λ r. ⌜ placeRes r ≡ pointPlace layout (now (map .entry)) at n ⌝ }
+fn point_place(map: &[u8], at: usize, n: u64, layout: TileLayout, letters: &[u8]) -> FeaturePlace
+    ensures { λ r. ⌜ placeRes r ≡ pointPlace (kindsOf layout (now (letters .entry))) (now (map .entry)) at n ⌝ }
 {
-    let end = tile_walk::pass_points(map, at, n, layout);
+    let end = tile_walk::pass_points(map, at, n, layout, letters);
     let End::At(next) = end else {
         return FeaturePlace::Refused(types::end_refusal(end));
     };
@@ -51,10 +52,10 @@ fn point_place(map: &[u8], at: usize, n: u64, layout: TileLayout) -> FeaturePlac
 }
 
 // Behind n ways.
-fn way_place(map: &[u8], at: usize, n: u64, layout: TileLayout) -> FeaturePlace
-    ensures { λ r. ⌜ placeRes r ≡ wayPlace layout (now (map .entry)) at n ⌝ }
+fn way_place(map: &[u8], at: usize, n: u64, layout: TileLayout, letters: &[u8]) -> FeaturePlace
+    ensures { λ r. ⌜ placeRes r ≡ wayPlace (kindsOf layout (now (letters .entry))) (now (map .entry)) at n ⌝ }
 {
-    let got = tile_walk::measure_ways(map, at, n, layout);
+    let got = tile_walk::measure_ways(map, at, n, layout, letters);
     let WaysRead::Value(_, next) = got else {
         return FeaturePlace::Refused(tile_walk::ways_refusal(got));
     };
@@ -69,19 +70,20 @@ fn behind_head(
     ways: u64,
     offset: u64,
     layout: TileLayout,
+    letters: &[u8],
     feature: u64,
 ) -> FeaturePlace
-    ensures { λ r. ⌜ placeRes r ≡ behind layout (now (map .entry)) start points ways offset feature ⌝ }
+    ensures { λ r. ⌜ placeRes r ≡ behind (kindsOf layout (now (letters .entry))) (now (map .entry)) start points ways offset feature ⌝ }
 {
     if feature < points {
-        return point_place(map, start, feature, layout);
+        return point_place(map, start, feature, layout, letters);
     }
     let way = feature - points;
     if ways <= way {
         return FeaturePlace::Refused(Refusal::InvalidFeature);
     }
     let first = arithmetic::saturating_add_usize(start, offset as usize);
-    way_place(map, first, way, layout)
+    way_place(map, first, way, layout, letters)
 }
 
 // The place behind a tile's head; 0 for a tile that its index marks empty.
@@ -111,18 +113,19 @@ fn tile_start(map: &[u8], debug: bool, found: IntervalRead, grid: Grid, tile: us
 pub fn find_feature(
     map: &[u8],
     layout: TileLayout,
+    letters: &[u8],
     found: IntervalRead,
     grid: Grid,
     tile: usize,
     feature: u64,
 ) -> FeaturePlace
-    ensures { λ r. ⌜ placeRes r ≡ featurePlace layout (intervalFound found) (gridOf grid) tile feature (now (map .entry)) ⌝ }
+    ensures { λ r. ⌜ placeRes r ≡ featurePlace (kindsOf layout (now (letters .entry))) (intervalFound found) (gridOf grid) tile feature (now (map .entry)) ⌝ }
 {
     let end = tile_start(map, layout.debug, found, grid, tile);
     let End::At(start) = end else {
         return FeaturePlace::Refused(types::end_refusal(end));
     };
-    let read = tile::read_tile(map, layout, found, grid, tile);
+    let read = tile::read_tile(map, layout, letters, found, grid, tile);
     let answer = read.answer;
     let TileAnswer::Collected = answer else {
         return FeaturePlace::Refused(tile_refusal(answer));
@@ -135,6 +138,7 @@ pub fn find_feature(
         collected.ways,
         collected.first_way_offset,
         layout,
+        letters,
         feature,
     )
 }

@@ -18,13 +18,12 @@ use Rattle.tag.specs.Tag.{newTag, tagOf, keyBytes}
 use Rattle.tag.specs.declared.Tag.{Tag}
 use Rattle.tag.specs.declared.TextKey.{TextKey}
 use Rattle.tag.specs.declared.TextKey.the-variants.{Name, HouseNumber, Ref}
-use Rattle.format.specs.TagTable.{Table}
+use Rattle.types.specs.declared.TagRange.{TagRange}
 use Rattle.types.specs.Types.{maybePart}
 use Rattle.types.specs.declared.OptionalSpan.{OptionalSpan}
 use Rattle.types.specs.declared.OptionalSpan.the-variants as span
 use Rattle.types.proofs.FillLaws.{front-map-more}
-use Rattle.tag_table.specs.Tables.{tableIn}
-use Rattle.fetched.specs.Fetched.{walkedName, tagString, keyed, noText, noTexts, filledTexts}
+use Rattle.fetched.specs.Fetched.{startedName, tagString, keyed, noText, noTexts, filledTexts}
 use Rattle.fetched.specs.declared.FeatureTexts.{FeatureTexts}
 use Rattle.feature_texts.specs.declared.TextParts.{TextParts}
 use Rattle.feature_tags.specs.FeatureTags.{stringsOf, textsOf}
@@ -33,35 +32,35 @@ use Rattle.fetched.specs.declared.OptionalText.{OptionalText}
 use Rattle.fetched.specs.declared.OptionalText.the-variants.{Absent, At}
 
 -- the strings of the first i ids are in the array
-pub record Filled (t : Table) (m ids : List ℕ) (l : List TagText) (i : ℕ) : Type 0 where
+pub record Filled (starts : List ℕ) (t : TagRange) (m ids : List ℕ) (l : List TagText) (i : ℕ) : Type 0 where
   pub within : i ≤ length ids
   pub few : length ids ≤ 15
-  pub strings : l ≡ stringsOf t m (take i ids)
+  pub strings : l ≡ stringsOf starts t m (take i ids)
 
-module _ (t : Table) (m ids : List ℕ) where
-  pub strings-none : (e : TagText) → e ≡ noText → length ids ≤ 15 → Filled t m ids (replicate 15 e) 0
+module _ (starts : List ℕ) (t : TagRange) (m ids : List ℕ) where
+  pub strings-none : (e : TagText) → e ≡ noText → length ids ≤ 15 → Filled starts t m ids (replicate 15 e) 0
   unfolding filledTexts stringsOf
   strings-none e h b = record { within = omega arith; few = b; strings = ap (replicate 15) h }
 
-  grown : (i d : ℕ) → i < length ids → length ids ≤ 15 → stringsOf t m (take i ids ++ (getD ids i d ∷ [])) ≡ set (stringsOf t m (take i ids)) i (tagString (walkedName t m (getD ids i d)))
+  grown : (i d : ℕ) → i < length ids → length ids ≤ 15 → stringsOf starts t m (take i ids ++ (getD ids i d ∷ [])) ≡ set (stringsOf starts t m (take i ids)) i (tagString (startedName starts t m (getD ids i d)))
   unfolding filledTexts stringsOf
   grown i d b f =
       let n : length (take i ids) ≡ i = length-take-le i ids (omega arith) in
       let k : length (take i ids) < 15 = omega arith in
-      front-map-more (λ i. tagString (walkedName t m i)) (take i ids) (getD ids i d) (replicate 15 noText) k
-      ∙ ap (λ x. set (stringsOf t m (take i ids)) x (tagString (walkedName t m (getD ids i d)))) n
+      front-map-more (λ i. tagString (startedName starts t m i)) (take i ids) (getD ids i d) (replicate 15 noText) k
+      ∙ ap (λ x. set (stringsOf starts t m (take i ids)) x (tagString (startedName starts t m (getD ids i d)))) n
 
-  pub strings-more : (l : List TagText) (i d : ℕ) (v : TagText) (s : List ℕ) → Filled t m ids l i → i < length ids → s ≡ walkedName t m (getD ids i d) → v ≡ tagString s → Filled t m ids (set l i v) (i + 1)
+  pub strings-more : (l : List TagText) (i d : ℕ) (v : TagText) (s : List ℕ) → Filled starts t m ids l i → i < length ids → s ≡ startedName starts t m (getD ids i d) → v ≡ tagString s → Filled starts t m ids (set l i v) (i + 1)
   strings-more l i d v s h b e q = record {
     within = omega arith;
     few = h .few;
     strings =
-        ap (λ x. set x i v) (h .strings) ∙ ap (set (stringsOf t m (take i ids)) i) (q ∙ ap tagString e) ∙ sym (grown i d b (h .few))
-        ∙ ap (stringsOf t m) (sym (take-suc ids i d b) ∙ ap (λ x. take x ids) (sym (add-one i)));
+        ap (λ x. set x i v) (h .strings) ∙ ap (set (stringsOf starts t m (take i ids)) i) (q ∙ ap tagString e) ∙ sym (grown i d b (h .few))
+        ∙ ap (stringsOf starts t m) (sym (take-suc ids i d b) ∙ ap (λ x. take x ids) (sym (add-one i)));
   }
 
-  pub strings-done : (l : List TagText) (i : ℕ) → Filled t m ids l i → length ids ≤ i → l ≡ stringsOf t m ids
-  strings-done l i h b = h .strings ∙ ap (stringsOf t m) (take-all i ids b)
+  pub strings-done : (l : List TagText) (i : ℕ) → Filled starts t m ids l i → length ids ≤ i → l ≡ stringsOf starts t m ids
+  strings-done l i h b = h .strings ∙ ap (stringsOf starts t m) (take-all i ids b)
 
 -- another text
 pub own-absent : (m : List ℕ) (key : TextKey) (o : OptionalSpan) → o ≡ span.Absent → Absent ≡ keyed key (maybePart m o)
@@ -100,9 +99,9 @@ first-sized ids n h = let e : n ≤ length ids = omega arith in sym (length-take
 pub first-few : (ids : List ℕ) (n : ℕ) → n ≡ min (length ids) 15 → length (take n ids) ≤ 15
 first-few ids n h = let e : n ≤ length ids = omega arith in let k = length-take-le n ids e in omega arith
 
-pub texts-of : (p : TextParts) (m ids : List ℕ) (n : ℕ) (l : List TagText) (a b c : OptionalText) → n ≡ min (length ids) 15
-    → l ≡ stringsOf (tableIn (p .table)) m (take n ids) → a ≡ keyed Name (maybePart m (p .name)) → b ≡ keyed HouseNumber (maybePart m (p .«house_number»))
-    → c ≡ keyed Ref (maybePart m (p .reference)) → _≡_ {A = FeatureTexts} (record { tags = l; name = a; «house_number» = b; reference = c }) (textsOf p m ids)
+pub texts-of : (starts : List ℕ) (p : TextParts) (m ids : List ℕ) (n : ℕ) (l : List TagText) (a b c : OptionalText) → n ≡ min (length ids) 15
+    → l ≡ stringsOf starts (p .tags) m (take n ids) → a ≡ keyed Name (maybePart m (p .name)) → b ≡ keyed HouseNumber (maybePart m (p .«house_number»))
+    → c ≡ keyed Ref (maybePart m (p .reference)) → _≡_ {A = FeatureTexts} (record { tags = l; name = a; «house_number» = b; reference = c }) (textsOf starts p m ids)
 unfolding stringsOf
-texts-of p m ids n l a b c h e f g k =
+texts-of starts p m ids n l a b c h e f g k =
     rw (e, f, g, k, take-15 ids n h)

@@ -6,12 +6,11 @@ use fetched::TagText;
 use tag::Tag;
 use tag::TextKey;
 use types::OptionalSpan;
-use types::TagTable;
+use types::TagRange;
 ghost use mathlib.Core.Path.{_≡_};
 ghost use Prim.Native.Nat.{_≤_, min};
 ghost use lib.ListN.{length};
 ghost use Rattle.types.specs.Types.{maybePart};
-ghost use Rattle.tag_table.specs.Tables.{tableIn};
 ghost use Rattle.fetched.specs.Fetched.{tagString, keyed, noText, noTexts};
 ghost use Rattle.feature_tags.specs.FeatureTags.{stringsOf, textsOf};
 
@@ -40,18 +39,18 @@ fn no_text() -> TagText
 }
 
 // The strings of the tags with these ids, from the front.
-fn tag_strings(map: &[u8], table: TagTable, ids: &[u64]) -> [TagText; 15]
+fn tag_strings(map: &[u8], starts: &[u64], tags: TagRange, ids: &[u64]) -> [TagText; 15]
     requires { ⌜ length (now ids) ≤ 15 ⌝ }
-    ensures { λ r. ⌜ r ≡ stringsOf (tableIn table) (now (map .entry)) (now (ids .entry)) ⌝ }
+    ensures { λ r. ⌜ r ≡ stringsOf (now (starts .entry)) tags (now (map .entry)) (now (ids .entry)) ⌝ }
 {
     let empty = no_text();
-    let mut tags = [empty; 15];
+    let mut strings = [empty; 15];
     let mut i = 0;
     while i < ids.len() {
-        tags[i] = tag_string(feature_texts::tag_name(map, table, ids[i]));
+        strings[i] = tag_string(feature_texts::tag_name(map, starts, tags, ids[i]));
         i += 1;
     }
-    tags
+    strings
 }
 
 // A text of the feature's own, and the tag that is made of it.
@@ -92,16 +91,16 @@ fn at_most_15(n: usize) -> usize
 }
 
 // The texts of a feature with these tag ids, of which it has 15 at most.
-pub fn texts_of(map: &[u8], ids: &[u64], parts: TextParts) -> FeatureTexts
-    ensures { λ r. ⌜ r ≡ textsOf parts (now (map .entry)) (now (ids .entry)) ⌝ }
+pub fn texts_of(map: &[u8], starts: &[u64], ids: &[u64], parts: TextParts) -> FeatureTexts
+    ensures { λ r. ⌜ r ≡ textsOf (now (starts .entry)) parts (now (map .entry)) (now (ids .entry)) ⌝ }
 {
     let n = at_most_15(ids.len());
-    let table = parts.table;
+    let tags = parts.tags;
     let name = parts.name;
     let house_number = parts.house_number;
     let reference = parts.reference;
     FeatureTexts {
-        tags: tag_strings(map, table, &ids[..n]),
+        tags: tag_strings(map, starts, tags, &ids[..n]),
         name: own_text(map, TextKey::Name, name),
         house_number: own_text(map, TextKey::HouseNumber, house_number),
         reference: own_text(map, TextKey::Ref, reference),

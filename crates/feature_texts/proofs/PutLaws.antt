@@ -21,8 +21,7 @@ use Rattle.text.specs.declared.Written.the-variants.{Upto, Refused}
 use Rattle.text.proofs.WrittenLaws.{written-fits, written-short}
 use Rattle.format.specs.Lent.{front, sets-front}
 use Rattle.types.specs.Types.{maybePart}
-use Rattle.tag_table.specs.Tables.{tableIn}
-use Rattle.fetched.specs.Fetched.{bytesOf, walkedName, idTexts}
+use Rattle.fetched.specs.Fetched.{bytesOf, startedName, idTexts}
 use Rattle.feature_texts.specs.FeatureTexts.{textsIn, writeTexts}
 use Rattle.feature_texts.specs.declared.TextParts.{TextParts}
 use Rattle.feature_texts.proofs.TextLaws.{texts-are}
@@ -94,9 +93,9 @@ module _ (f : ℕ → List ℕ) (ids b₀ : List ℕ) where
     ids-bytes h = sym (ap (λ c. sets b at c) (none-left h)) ∙ l .bytes
 
 -- the other texts behind the tags' strings
-module _ (p : TextParts) (m ids b : List ℕ) (room : length (textsIn p m ids) ≤ length b) where
+module _ (s : List ℕ) (p : TextParts) (m ids b : List ℕ) (room : length (textsIn s p m ids) ≤ length b) where
   abbrev strings : List ℕ
-  strings = idTexts (walkedName (tableIn (p .table)) m) ids
+  strings = idTexts (startedName s (p .tags) m) ids
 
   abbrev name : List ℕ
   name = bytesOf (maybePart m (p .name))
@@ -107,8 +106,8 @@ module _ (p : TextParts) (m ids b : List ℕ) (room : length (textsIn p m ids) �
   abbrev reference : List ℕ
   reference = bytesOf (maybePart m (p .reference))
 
-  all : textsIn p m ids ≡ strings ++ replaced name ++ replaced house ++ replaced reference
-  all = texts-are (walkedName (tableIn (p .table)) m) ids (maybePart m (p .name)) (maybePart m (p .«house_number»)) (maybePart m (p .reference))
+  all : textsIn s p m ids ≡ strings ++ replaced name ++ replaced house ++ replaced reference
+  all = texts-are (startedName s (p .tags) m) ids (maybePart m (p .name)) (maybePart m (p .«house_number»)) (maybePart m (p .reference))
 
   whole : length strings + length (replaced name) + length (replaced house) + length (replaced reference) ≤ length b
   whole =
@@ -159,7 +158,7 @@ module _ (p : TextParts) (m ids b : List ℕ) (room : length (textsIn p m ids) �
             let g = ap (λ x. length (replaced x)) e₃ in
             omega arith
 
-        pub texts-put : (b₄ : List ℕ) → b₄ ≡ sets b₃ n₃ (replaced s₃) → b₄ ≡ sets b 0 (textsIn p m ids)
+        pub texts-put : (b₄ : List ℕ) → b₄ ≡ sets b₃ n₃ (replaced s₃) → b₄ ≡ sets b 0 (textsIn s p m ids)
         texts-put b₄ w₄ =
             let a = strings ++ replaced s₁ in
             let c = a ++ replaced s₂ in

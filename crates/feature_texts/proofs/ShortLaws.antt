@@ -5,10 +5,10 @@ use mathlib.Core.Path.{_≡_, refl, sym, ap, _∙_, subst}
 use mathlib.Core.Bool.{Bool, true, false, cond}
 use mathlib.Core.List.{List, [], _∷_, _++_}
 use lib.Dec.{leb, ltb}
-use lib.ListN.{length, take, drop, replicate, length-append, length-take}
+use lib.ListN.{length, getD, take, drop, replicate, length-append, length-take}
 use lib.Seq.{take-append-seam, length-take-le}
 use borrow.Author.Tests.{leb-true}
-use Rattle.parsing.specs.Parse.{Res, ok, no, andThen, mapRes, many, chunk, Part, part, pick, fail, byte, optional, Maybe, none, some}
+use Rattle.parsing.specs.Parse.{Res, ok, no, mapRes, many, chunk, Part, part, pick, fail, byte, optional, Maybe, none, some}
 use Rattle.parsing.specs.Good.{split, ok-val, ok-at, no-ok}
 use Rattle.parsing.proofs.Loops.{many-count}
 use Rattle.text.specs.Utf8.{replaced}
@@ -16,14 +16,15 @@ use Rattle.text.proofs.ReplacedLaws.{replaced-most}
 use Rattle.utils.specs.Vbe.{unsigned, signed, text}
 use Rattle.tag.specs.declared.Kind.{Kind}
 use Rattle.format.specs.Header.{bit}
-use Rattle.format.specs.TagTable.{Table, tagText}
+use Rattle.format.specs.TagLists.{listedText}
+use Rattle.types.specs.declared.TagRange.{TagRange}
 use Rattle.format.specs.WayData.{node, wayData}
 use Rattle.format.specs.Tile.{debugSignature, tagId, values, tagged, pointFields, point, headRest, Head, head, WayFields, wayFields, dataBlockCount, body}
 use Rattle.byte_source.specs.BigEndian.{bigEndian}
 use Rattle.tagged.specs.TagIds.{filledIds, tagIds}
 use Rattle.tagged.specs.declared.TagIds.{TagIds}
 use Rattle.fields.proofs.StreamLaws.{Gives, any, gives-bind, gives-return, text-within}
-use Rattle.fetched.specs.Fetched.{bytesOf, foundBytes, walkedName, idTexts, present, buffered}
+use Rattle.fetched.specs.Fetched.{bytesOf, foundBytes, startedName, idTexts, present, buffered}
 use Rattle.feature_texts.specs.Known.{Stored, PointTexts}
 use Rattle.feature_texts.proofs.TextLaws.{present-bytes}
 
@@ -146,29 +147,29 @@ body-texts m =
     gives-bind m (fields-texts m) λ f h. gives-bind m (any m (dataBlockCount (f .flags))) λ k _. gives-bind m (any m (wayData k)) λ d _. gives-return m _ _ h
 
 -- a tag's name
-name-short : (t : Table) (m : List ℕ) (i : ℕ) → length (walkedName t m i) ≤ 2 ^ 20
-unfolding tagText
-name-short t m i = tested (ltb i (t .count))
+name-short : (s : List ℕ) (t : TagRange) (m : List ℕ) (i : ℕ) → length (startedName s t m i) ≤ 2 ^ 20
+unfolding listedText
+name-short s t m i = tested (ltb i (t .count)) (ltb (t .first + i) (length s))
   where
     read : (e : ℕ) (r : Res Part) → text m e ≡ r → length (foundBytes r) ≤ 2 ^ 20
     read e (ok p x) h = text-short m e p x h
     read e (no n v) h = omega arith
 
-    skipped : (r : Res (List Part)) → length (foundBytes (andThen r (λ _ e. text m e))) ≤ 2 ^ 20
-    skipped (ok l e) = read e (text m e) refl
-    skipped (no n v) = omega arith
+    at : ℕ
+    at = getD s (t .first + i) 0
 
-    tested : (c : Bool) → length (foundBytes (cond c (andThen (many text i m (t .start)) (λ _ e. text m e)) (no 7 (i ∷ [])))) ≤ 2 ^ 20
-    tested true = skipped (many text i m (t .start))
-    tested false = omega arith
+    tested : (c d : Bool) → length (foundBytes (cond c (cond d (text m (getD s (t .first + i) 0)) (no 7 (i ∷ []))) (no 7 (i ∷ [])))) ≤ 2 ^ 20
+    tested true true = read at (text m at) refl
+    tested true false = omega arith
+    tested false d = omega arith
 
-ids-short : (t : Table) (m ids : List ℕ) → length (idTexts (walkedName t m) ids) ≤ length ids * 3145728
-ids-short t m [] = omega arith
-ids-short t m (i ∷ ids) =
-    let a = length-append (replaced (walkedName t m i)) (idTexts (walkedName t m) ids) in
-    let b = replaced-most (walkedName t m i) in
-    let c = name-short t m i in
-    let d = ids-short t m ids in
+ids-short : (s : List ℕ) (t : TagRange) (m ids : List ℕ) → length (idTexts (startedName s t m) ids) ≤ length ids * 3145728
+ids-short s t m [] = omega arith
+ids-short s t m (i ∷ ids) =
+    let a = length-append (replaced (startedName s t m i)) (idTexts (startedName s t m) ids) in
+    let b = replaced-most (startedName s t m i) in
+    let c = name-short s t m i in
+    let d = ids-short s t m ids in
     omega arith
 
 present-short : (m : List ℕ) (o : Maybe Part) → Stored m o → length (present o) ≤ 3145728
@@ -178,12 +179,12 @@ present-short m o s =
     let c = s .short in
     omega arith
 
-pub texts-short : (t : Table) (m ids : List ℕ) (n h r : Maybe Part) → length ids ≤ 15 → Stored m n → Stored m h → Stored m r → length (buffered (walkedName t m) ids n h r) < 2 ^ 64 - 1
-texts-short t m ids n h r few a b c =
-    let l = length-append (idTexts (walkedName t m) ids ++ present n ++ present h) (present r) in
-    let k = length-append (idTexts (walkedName t m) ids ++ present n) (present h) in
-    let j = length-append (idTexts (walkedName t m) ids) (present n) in
-    let w = ids-short t m ids in
+pub texts-short : (s : List ℕ) (t : TagRange) (m ids : List ℕ) (n h r : Maybe Part) → length ids ≤ 15 → Stored m n → Stored m h → Stored m r → length (buffered (startedName s t m) ids n h r) < 2 ^ 64 - 1
+texts-short s t m ids n h r few a b c =
+    let l = length-append (idTexts (startedName s t m) ids ++ present n ++ present h) (present r) in
+    let k = length-append (idTexts (startedName s t m) ids ++ present n) (present h) in
+    let j = length-append (idTexts (startedName s t m) ids) (present n) in
+    let w = ids-short s t m ids in
     let x = present-short m n a in
     let y = present-short m h b in
     let z = present-short m r c in

@@ -17,22 +17,22 @@ use Rattle.byte_source.specs.declared.SpanRead.{SpanRead}
 use Rattle.byte_source.specs.declared.SpanRead.the-variants as span
 use Rattle.text.specs.Utf8.{bytesOfAll, replaced}
 use Rattle.text.proofs.Utf8Laws.{sequences-end}
-use Rattle.format.specs.TagTable.{Table, tagText}
+use Rattle.format.specs.TagLists.{listedText}
+use Rattle.types.specs.declared.TagRange.{TagRange}
 use Rattle.types.specs.Types.{maybePart}
 use Rattle.types.specs.declared.OptionalSpan.{OptionalSpan}
 use Rattle.types.specs.declared.OptionalSpan.the-variants.{Absent, At}
-use Rattle.fetched.specs.Fetched.{bytesOf, foundBytes, walkedName, idTexts, present, buffered}
+use Rattle.fetched.specs.Fetched.{bytesOf, foundBytes, startedName, idTexts, present, buffered}
 use Rattle.feature_texts.specs.FeatureTexts.{textsIn}
 use Rattle.feature_texts.specs.declared.TextParts.{TextParts}
-use Rattle.tag_table.specs.Tables.{tableIn}
 
 -- a tag's name
-module _ (t : Table) (m : List ℕ) (i : ℕ) (g : SpanRead) (q : spanRes m g ≡ tagText t i m) where
-  pub name-missing : (r : Refusal) → g ≡ span.Refused r → [] ≡ walkedName t m i
+module _ (s : List ℕ) (t : TagRange) (m : List ℕ) (i : ℕ) (g : SpanRead) (q : spanRes m g ≡ listedText s (t .first) (t .count) i m) where
+  pub name-missing : (r : Refusal) → g ≡ span.Refused r → [] ≡ startedName s t m i
   name-missing r h = ap (λ x. foundBytes (spanRes m x)) (sym h) ∙ ap foundBytes q
 
-  pub name-found : (s : Span) (n : ℕ) (b : List ℕ) → g ≡ span.Value s n → b ≡ spanBytes m s → b ≡ walkedName t m i
-  name-found s n b h e = e ∙ ap (λ x. foundBytes (spanRes m x)) (sym h) ∙ ap foundBytes q
+  pub name-found : (p : Span) (n : ℕ) (b : List ℕ) → g ≡ span.Value p n → b ≡ spanBytes m p → b ≡ startedName s t m i
+  name-found p n b h e = e ∙ ap (λ x. foundBytes (spanRes m x)) (sym h) ∙ ap foundBytes q
 
 -- another text
 pub bytes-at : (m : List ℕ) (o : OptionalSpan) (s : Span) (b : List ℕ) → o ≡ At s → b ≡ spanBytes m s → b ≡ bytesOf (maybePart m o)
@@ -84,12 +84,12 @@ sum-of : (A B a b x : ℕ) → a ≡ cut A → b ≡ cut B → x ≡ cut (a + b)
 sum-of A B a b x p q r =
     r ∙ ap (λ y. cut (y + b)) p ∙ cut-add A b ∙ ap (λ y. cut (A + y)) q ∙ ap cut (add-comm A (cut B)) ∙ cut-add B A ∙ ap cut (add-comm B A)
 
-pub lengths-sum : (p : TextParts) (m ids : List ℕ) (a b c d x y z : ℕ) → a ≡ cut (length (idTexts (walkedName (tableIn (p .table)) m) ids))
+pub lengths-sum : (s : List ℕ) (p : TextParts) (m ids : List ℕ) (a b c d x y z : ℕ) → a ≡ cut (length (idTexts (startedName s (p .tags) m) ids))
     → b ≡ cut (length (replaced (bytesOf (maybePart m (p .name))))) → c ≡ cut (length (replaced (bytesOf (maybePart m (p .«house_number»))))) → d ≡ cut (length (replaced (bytesOf (maybePart m (p .reference)))))
-    → x ≡ cut (a + b) → y ≡ cut (x + c) → z ≡ cut (y + d) → z ≡ cut (length (textsIn p m ids))
-lengths-sum p m ids a b c d x y z ha hb hc hd hx hy hz =
-    four (idTexts (walkedName (tableIn (p .table)) m) ids) (replaced (bytesOf (maybePart m (p .name)))) (replaced (bytesOf (maybePart m (p .«house_number»)))) (replaced (bytesOf (maybePart m (p .reference)))) ha hb hc hd
-    ∙ ap (λ l. cut (length l)) (sym (texts-are (walkedName (tableIn (p .table)) m) ids (maybePart m (p .name)) (maybePart m (p .«house_number»)) (maybePart m (p .reference))))
+    → x ≡ cut (a + b) → y ≡ cut (x + c) → z ≡ cut (y + d) → z ≡ cut (length (textsIn s p m ids))
+lengths-sum s p m ids a b c d x y z ha hb hc hd hx hy hz =
+    four (idTexts (startedName s (p .tags) m) ids) (replaced (bytesOf (maybePart m (p .name)))) (replaced (bytesOf (maybePart m (p .«house_number»)))) (replaced (bytesOf (maybePart m (p .reference)))) ha hb hc hd
+    ∙ ap (λ l. cut (length l)) (sym (texts-are (startedName s (p .tags) m) ids (maybePart m (p .name)) (maybePart m (p .«house_number»)) (maybePart m (p .reference))))
   where
     four : (A B C D : List ℕ) → a ≡ cut (length A) → b ≡ cut (length B) → c ≡ cut (length C) → d ≡ cut (length D) → z ≡ cut (length (A ++ B ++ C ++ D))
     four A B C D ha hb hc hd =

@@ -1,4 +1,4 @@
--- The texts of a fetched feature as the code finds them: the tags' names by a walk through the header, the others as parts of the map.
+-- The texts of a fetched feature as the code finds them: the tags' names by their listed starts, the others as parts of the map.
 use Prim.Native.Nat.{ℕ, _-_, _^_}
 use mathlib.Core.Bool.{cond}
 use mathlib.Core.List.{List}
@@ -6,14 +6,13 @@ use lib.Dec.{leb, ltb}
 use lib.ListN.{length}
 use Rattle.format.specs.Lent.{front}
 use Rattle.types.specs.Types.{maybePart}
-use Rattle.tag_table.specs.Tables.{tableIn}
-use Rattle.fetched.specs.Fetched.{walkedName, buffered}
+use Rattle.fetched.specs.Fetched.{startedName, buffered}
 use Rattle.feature_texts.specs.declared.TextParts.{TextParts}
 
 -- all texts, one behind the other
-abbrev pub textsIn : TextParts → List ℕ → List ℕ → List ℕ
-textsIn p m ids =
-    buffered (walkedName (tableIn (p .table)) m) ids (maybePart m (p .name)) (maybePart m (p .«house_number»)) (maybePart m (p .reference))
+abbrev pub textsIn : (starts : List ℕ) → TextParts → List ℕ → List ℕ → List ℕ
+textsIn s p m ids =
+    buffered (startedName s (p .tags) m) ids (maybePart m (p .name)) (maybePart m (p .«house_number»)) (maybePart m (p .reference))
 
 -- at the front of a buffer that is long enough; a shorter one stays as it is. Texts of 2 ^ 64 - 1 bytes or more, which no feature has,
 -- are not written.

@@ -3,7 +3,7 @@
 use byte_source::SpanRead;
 use text::Written;
 use types::OptionalSpan;
-use types::TagTable;
+use types::TagRange;
 ghost use mathlib.Core.Path.{_≡_};
 ghost use Prim.Native.Nat.{_+_, _≤_};
 ghost use lib.ListN.{length};
@@ -11,23 +11,22 @@ ghost use lib.Seq.{sets};
 ghost use Rattle.arithmetic.specs.Cut.{cut};
 ghost use Rattle.text.specs.Utf8.{replaced};
 ghost use Rattle.types.specs.Types.{maybePart};
-ghost use Rattle.tag_table.specs.Tables.{tableIn};
-ghost use Rattle.fetched.specs.Fetched.{bytesOf, walkedName, idTexts};
+ghost use Rattle.fetched.specs.Fetched.{bytesOf, startedName, idTexts};
 ghost use Rattle.feature_texts.specs.FeatureTexts.{textsIn, writeTexts};
 
 // What a feature's texts are made of.
 pub struct TextParts {
-    pub table: TagTable,
+    pub tags: TagRange,
     pub name: OptionalSpan,
     pub house_number: OptionalSpan,
     pub reference: OptionalSpan,
 }
 
-// The stored bytes of a tag's name; none where the walk does not reach it.
-pub fn tag_name(map: &[u8], table: TagTable, id: u64) -> &[u8]
-    ensures { λ r. ⌜ now r ≡ walkedName (tableIn table) (now (map .entry)) id ⌝ }
+// The stored bytes of a tag's name, at its listed start; none where no text stands there.
+pub fn tag_name<'a>(map: &'a [u8], starts: &[u64], tags: TagRange, id: u64) -> &'a [u8]
+    ensures { λ r. ⌜ now r ≡ startedName (now (starts .entry)) tags (now (map .entry)) id ⌝ }
 {
-    let got = tag_table::tag_text(map, table, id as usize);
+    let got = tag_table::listed_text(map, starts, tags, id as usize);
     let SpanRead::Value(span, _) = got else {
         return &map[..0];
     };
@@ -45,13 +44,13 @@ pub fn optional_bytes(map: &[u8], text: OptionalSpan) -> &[u8]
 }
 
 // The length of the tags' strings; 2^64 - 1 stands for any larger one.
-fn ids_len(map: &[u8], table: TagTable, ids: &[u64]) -> usize
-    ensures { λ r. ⌜ r ≡ cut (length (idTexts (walkedName (tableIn table) (now (map .entry))) (now (ids .entry)))) ⌝ }
+fn ids_len(map: &[u8], starts: &[u64], tags: TagRange, ids: &[u64]) -> usize
+    ensures { λ r. ⌜ r ≡ cut (length (idTexts (startedName (now (starts .entry)) tags (now (map .entry))) (now (ids .entry)))) ⌝ }
 {
     let mut len = 0;
     let mut i = 0;
     while i < ids.len() {
-        let one = text::replaced_len(tag_name(map, table, ids[i]));
+        let one = text::replaced_len(tag_name(map, starts, tags, ids[i]));
         len = arithmetic::saturating_add_usize(len, one);
         i += 1;
     }
@@ -59,11 +58,11 @@ fn ids_len(map: &[u8], table: TagTable, ids: &[u64]) -> usize
 }
 
 // The length that a buffer needs for the texts of a feature with these tag ids.
-pub fn texts_len(map: &[u8], ids: &[u64], parts: TextParts) -> usize
-    ensures { λ r. ⌜ r ≡ cut (length (textsIn parts (now (map .entry)) (now (ids .entry)))) ⌝ }
+pub fn texts_len(map: &[u8], starts: &[u64], ids: &[u64], parts: TextParts) -> usize
+    ensures { λ r. ⌜ r ≡ cut (length (textsIn (now (starts .entry)) parts (now (map .entry)) (now (ids .entry)))) ⌝ }
 {
-    let table = parts.table;
-    let len = ids_len(map, table, ids);
+    let tags = parts.tags;
+    let len = ids_len(map, starts, tags, ids);
     let text = parts.name;
     let name = text::replaced_len(optional_bytes(map, text));
     let text = parts.house_number;
@@ -88,26 +87,26 @@ fn put(bytes: &[u8], buffer: &mut [u8], at: usize) -> usize
 }
 
 // The tags' strings at the front of a buffer that has room for them; the place behind them.
-fn put_ids(map: &[u8], table: TagTable, ids: &[u64], buffer: &mut [u8]) -> usize
-    requires { ⌜ length (idTexts (walkedName (tableIn table) (now map)) (now ids)) ≤ length (now buffer) ⌝ }
-    ensures { λ r. ⌜ (r ≡ length (idTexts (walkedName (tableIn table) (now (map .entry))) (now (ids .entry)))) × (now (buffer .exit) ≡ sets (now (buffer .entry)) 0 (idTexts (walkedName (tableIn table) (now (map .entry))) (now (ids .entry)))) ⌝ }
+fn put_ids(map: &[u8], starts: &[u64], tags: TagRange, ids: &[u64], buffer: &mut [u8]) -> usize
+    requires { ⌜ length (idTexts (startedName (now starts) tags (now map)) (now ids)) ≤ length (now buffer) ⌝ }
+    ensures { λ r. ⌜ (r ≡ length (idTexts (startedName (now (starts .entry)) tags (now (map .entry))) (now (ids .entry)))) × (now (buffer .exit) ≡ sets (now (buffer .entry)) 0 (idTexts (startedName (now (starts .entry)) tags (now (map .entry))) (now (ids .entry)))) ⌝ }
 {
     let mut at = 0;
     let mut i = 0;
     while i < ids.len() {
-        at = put(tag_name(map, table, ids[i]), buffer, at);
+        at = put(tag_name(map, starts, tags, ids[i]), buffer, at);
         i += 1;
     }
     at
 }
 
 // All texts at the front of a buffer that has room for them.
-fn put_texts(map: &[u8], ids: &[u64], parts: TextParts, buffer: &mut [u8])
-    requires { ⌜ length (textsIn parts (now map) (now ids)) ≤ length (now buffer) ⌝ }
-    ensures { λ r. ⌜ now (buffer .exit) ≡ sets (now (buffer .entry)) 0 (textsIn parts (now (map .entry)) (now (ids .entry))) ⌝ }
+fn put_texts(map: &[u8], starts: &[u64], ids: &[u64], parts: TextParts, buffer: &mut [u8])
+    requires { ⌜ length (textsIn (now starts) parts (now map) (now ids)) ≤ length (now buffer) ⌝ }
+    ensures { λ r. ⌜ now (buffer .exit) ≡ sets (now (buffer .entry)) 0 (textsIn (now (starts .entry)) parts (now (map .entry)) (now (ids .entry))) ⌝ }
 {
-    let table = parts.table;
-    let at = put_ids(map, table, ids, buffer);
+    let tags = parts.tags;
+    let at = put_ids(map, starts, tags, ids, buffer);
     let text = parts.name;
     let at = put(optional_bytes(map, text), buffer, at);
     let text = parts.house_number;
@@ -117,15 +116,15 @@ fn put_texts(map: &[u8], ids: &[u64], parts: TextParts, buffer: &mut [u8])
 }
 
 // Writes the texts of a feature with these tag ids to the front of a buffer, if it is long enough.
-pub fn write_texts(map: &[u8], ids: &[u64], parts: TextParts, buffer: &mut [u8])
-    ensures { λ r. ⌜ now (buffer .exit) ≡ writeTexts (textsIn parts (now (map .entry)) (now (ids .entry))) (now (buffer .entry)) ⌝ }
+pub fn write_texts(map: &[u8], starts: &[u64], ids: &[u64], parts: TextParts, buffer: &mut [u8])
+    ensures { λ r. ⌜ now (buffer .exit) ≡ writeTexts (textsIn (now (starts .entry)) parts (now (map .entry)) (now (ids .entry))) (now (buffer .entry)) ⌝ }
 {
-    let len = texts_len(map, ids, parts);
+    let len = texts_len(map, starts, ids, parts);
     if 18446744073709551614 < len {
         return;
     }
     if buffer.len() < len {
         return;
     }
-    put_texts(map, ids, parts, buffer);
+    put_texts(map, starts, ids, parts, buffer);
 }

@@ -17,25 +17,24 @@ use Rattle.error.specs.declared.Refusal.{Refusal}
 use Rattle.error.specs.declared.Refusal.the-variants.{Source}
 use Rattle.format.specs.Header.{Interval}
 use Rattle.format.specs.Index.{answer, answered, Grid, Located, locate, tileAt}
-use Rattle.format.specs.Kinds.{tagKinds}
 use Rattle.format.specs.Rows.{locatedHead}
 use Rattle.format.specs.Tile.{TileHead, Point, point, Head, head, Body, body}
 use Rattle.types.specs.Beside.{viewOr}
 use Rattle.types.specs.declared.End.{End}
 use Rattle.types.specs.declared.End.the-variants as end
-use Rattle.types.specs.declared.TagTable.{TagTable}
-use Rattle.tag_table.specs.Tables.{tableIn}
+use Rattle.types.specs.declared.TagRange.{TagRange}
+use Rattle.tag_table.specs.Tables.{kindsBy}
 use Rattle.agreement.specs.Format.{Format}
 use Rattle.agreement.specs.Collected as collected
 use Rattle.agreement.specs.Collected.{Way, way, StoredTile, storedTile, collect}
 use Rattle.agreement.proofs.Chain.{Chain, stop, link}
 use Rattle.agreement.proofs.TileAgrees as tile
-use Rattle.tile_layout.specs.TileLayout.{formatOf}
+use Rattle.tile_layout.specs.TileLayout.{kindsOf, formatOf}
 use Rattle.tile_layout.specs.declared.TileLayout.{TileLayout}
 use Rattle.feature_place.specs.FeaturePlace.{Place, pointAt, wayAt, placeRes, placeIn, featurePlace}
 use Rattle.feature_place.specs.declared.FeaturePlace.{FeaturePlace}
 use Rattle.feature_place.specs.declared.FeaturePlace.the-variants as place
-use Rattle.fetched.specs.Fetched.{walkedName, buffered, FetchLists, Fetched, fetchedPoint, poiLists, fetchedWay, fitsAll, FetchReply, deliverAll, endRes, FetchIs}
+use Rattle.fetched.specs.Fetched.{startedName, buffered, FetchLists, Fetched, fetchedPoint, poiLists, fetchedWay, fitsAll, FetchReply, deliverAll, endRes, FetchIs}
 use Rattle.fetched.specs.declared.FetchEnd.{FetchEnd}
 use Rattle.fetched.specs.declared.FetchEnd.the-variants as fetch-end
 use Rattle.fetched.specs.declared.FetchedPoi.{FetchedPoi}
@@ -125,29 +124,29 @@ poi-is stored l left g q = record {
     it (no n v) = refl
 
 -- a point's fetch leaves the lists alone
-module _ (debug : Bool) (t : TagTable) (m : List ℕ) (i : ℕ) (c : List ℕ) (la lo il io : List Float) where
+module _ (debug : Bool) (starts letters : List ℕ) (t : TagRange) (m : List ℕ) (i : ℕ) (c : List ℕ) (la lo il io : List Float) where
   abbrev full : List ℕ → FetchLists
   full b = lent c la lo il io b
 
-  room : (s : Point) (b : List ℕ) → fitsAll (poiLists (walkedName (tableIn t) m) s) (full b) ≡ leb (length (buffered (walkedName (tableIn t) m) (s .tagged .ids) (s .name) (s .houseNumber) none)) (length b)
+  room : (s : Point) (b : List ℕ) → fitsAll (poiLists (startedName starts t m) s) (full b) ≡ leb (length (buffered (startedName starts t m) (s .tagged .ids) (s .name) (s .houseNumber) none)) (length b)
   room s b = rw (le-leb 0 (length c) zero-le, le-leb 0 (length la) zero-le, le-leb 0 (length lo) zero-le, le-leb 0 (length il) zero-le, le-leb 0 (length io) zero-le) refl
 
   abbrev widened : List ℕ → FetchReply FetchedPoi → FetchReply FetchedPoi
   widened b r = record { answer = r .answer; lists = full (r .lists .buffer) }
 
-  wide : (b : List ℕ) → widened b (deliverAll (poiStored debug t m i) (bufferOnly b)) ≡ deliverAll (poiStored debug t m i) (full b)
-  wide b = go (point debug (tagKinds (tableIn t) m) m i)
+  wide : (b : List ℕ) → widened b (deliverAll (poiStored debug starts letters t m i) (bufferOnly b)) ≡ deliverAll (poiStored debug starts letters t m i) (full b)
+  wide b = go (point debug (kindsBy letters t) m i)
     where
-      tested : (s : Point) (e : ℕ) (x : Bool) → leb (length (buffered (walkedName (tableIn t) m) (s .tagged .ids) (s .name) (s .houseNumber) none)) (length b) ≡ x
-          → widened b (deliverAll (ok (fetchedPoint (walkedName (tableIn t) m) s) e) (bufferOnly b)) ≡ deliverAll (ok (fetchedPoint (walkedName (tableIn t) m) s) e) (full b)
+      tested : (s : Point) (e : ℕ) (x : Bool) → leb (length (buffered (startedName starts t m) (s .tagged .ids) (s .name) (s .houseNumber) none)) (length b) ≡ x
+          → widened b (deliverAll (ok (fetchedPoint (startedName starts t m) s) e) (bufferOnly b)) ≡ deliverAll (ok (fetchedPoint (startedName starts t m) s) e) (full b)
       tested s e true h = rw (room s b, h) refl
       tested s e false h = rw (room s b, h) refl
 
-      go : (r : Res Point) → widened b (deliverAll (mapRes (fetchedPoint (walkedName (tableIn t) m)) r) (bufferOnly b)) ≡ deliverAll (mapRes (fetchedPoint (walkedName (tableIn t) m)) r) (full b)
-      go (ok s e) = tested s e (leb (length (buffered (walkedName (tableIn t) m) (s .tagged .ids) (s .name) (s .houseNumber) none)) (length b)) refl
+      go : (r : Res Point) → widened b (deliverAll (mapRes (fetchedPoint (startedName starts t m)) r) (bufferOnly b)) ≡ deliverAll (mapRes (fetchedPoint (startedName starts t m)) r) (full b)
+      go (ok s e) = tested s e (leb (length (buffered (startedName starts t m) (s .tagged .ids) (s .name) (s .houseNumber) none)) (length b)) refl
       go (no n v) = refl
 
-  poi-wide : (b left : List ℕ) (g : PoiFetch) → PoiFetchIs (poiStored debug t m i) b g left → FetchIs emptyPoi (poiStored debug t m i) (full b) (g .poi) (g .end) (full left)
+  poi-wide : (b left : List ℕ) (g : PoiFetch) → PoiFetchIs (poiStored debug starts letters t m i) b g left → FetchIs emptyPoi (poiStored debug starts letters t m i) (full b) (g .poi) (g .end) (full left)
   poi-wide b left g q = record {
     reply = ap (widened b) (q .reply) ∙ wide b;
     whole = q .whole ∙ ap (λ (r : FetchReply FetchedPoi). viewOr (λ x. x) emptyPoi (r .answer)) (wide b);
@@ -164,16 +163,16 @@ pub nothing-there : (p : FeaturePlace) (x : Refusal) → p ≡ place.Refused x �
 nothing-there p x h = rw h
 
 -- at a place that is no way's
-module _ (l : TileLayout) (p : FeaturePlace) (m b : List ℕ) (r : Fetch) where
-  pub at-point : (i : ℕ) (g : PoiFetch) (left : List ℕ) → p ≡ place.Point i → PoiFetchIs (poiStored (l .debug) (l .«poi_tags») m i) b g left → r ≡ ofPoi g → OtherAt l p m b r left
+module _ (l : TileLayout) (starts letters : List ℕ) (p : FeaturePlace) (m b : List ℕ) (r : Fetch) where
+  pub at-point : (i : ℕ) (g : PoiFetch) (left : List ℕ) → p ≡ place.Point i → PoiFetchIs (poiStored (l .debug) starts letters (l .«poi_tags») m i) b g left → r ≡ ofPoi g → OtherAt l starts letters p m b r left
   at-point i g left h q e = record {
-    each = λ x w c la lo il io. rw (h, e) (poi-is (poiStored (l .debug) (l .«poi_tags») m i) (lent c la lo il io b) (lent c la lo il io left) g (poi-wide (l .debug) (l .«poi_tags») m i c la lo il io b left g q));
+    each = λ x w c la lo il io. rw (h, e) (poi-is (poiStored (l .debug) starts letters (l .«poi_tags») m i) (lent c la lo il io b) (lent c la lo il io left) g (poi-wide (l .debug) starts letters (l .«poi_tags») m i c la lo il io b left g q));
   }
 
-  pub at-none : (x : Refusal) → p ≡ place.Refused x → r ≡ noFetch x → OtherAt l p m b r b
+  pub at-none : (x : Refusal) → p ≡ place.Refused x → r ≡ noFetch x → OtherAt l starts letters p m b r b
   at-none x h e = record { each = λ y w c la lo il io. rw (h, e) (record { reply = refl; poi = refl; way = refl }) }
 
-  pub at-way : (i : ℕ) → p ≡ place.Way i → OtherAt l p m b r b
+  pub at-way : (i : ℕ) → p ≡ place.Way i → OtherAt l starts letters p m b r b
   at-way i h = record { each = λ y w c la lo il io. absurd (never (sym (ap wayEnd h) ∙ w)) }
     where
       isAt : End → ℕ
@@ -202,27 +201,27 @@ module _ {A : Type 0} (p : Parser A) (m : List ℕ) where
       record { before = a ∷ s .before; at = s .at; value = s .value; end = s .end; reached = rw (h, s .reached) refl; read = s .read; kth = s .kth }
 
 -- in a tile that collects, a read from where feature k stands gives what the fetch gives
-module _ (l : TileLayout) (H : Parser TileHead) (m : List ℕ) (i : ℕ) (t : StoredTile (formatOf l m)) (z : ℕ) (c : collect H (formatOf l m) m i ≡ ok t z) (e : formatOf l m .End) (k : ℕ) where
+module _ (l : TileLayout) (starts letters : List ℕ) (H : Parser TileHead) (m : List ℕ) (i : ℕ) (t : StoredTile (formatOf (kindsOf l letters))) (z : ℕ) (c : collect H (formatOf (kindsOf l letters)) m i ≡ ok t z) (e : formatOf (kindsOf l letters) .End) (k : ℕ) where
   abbrev F : Format
-  F = formatOf l m
+  F = formatOf (kindsOf l letters)
 
   abbrev reads : Res Place → Res (Fetched Feature)
-  reads r = answered (andThen r (λ p _. readAt l p m))
+  reads r = answered (andThen r (λ p _. readAt l starts letters p m))
 
   abbrev gives : collected.Feature (collected.storedCollection F) → Res (Fetched Feature)
-  gives f = given l m f
+  gives f = given l starts letters m f
 
   -- a way is its head and its body
-  way-stored : (x : ℕ) → wayStored (l .debug) (l .«way_tags») m x ≡ mapRes (λ w. fetchedWay (walkedName (tableIn (l .«way_tags»)) m) (w .head) (w .body)) (way F m x)
-  way-stored x = headed (head (l .debug) (tagKinds (tableIn (l .«way_tags»)) m) m x)
+  way-stored : (x : ℕ) → wayStored (l .debug) starts letters (l .«way_tags») m x ≡ mapRes (λ w. fetchedWay (startedName starts (l .«way_tags») m) (w .head) (w .body)) (way F m x)
+  way-stored x = headed (head (l .debug) (kindsBy letters (l .«way_tags»)) m x)
     where
-      bodied : (h : Head) (r : Res Body) → mapRes (fetchedWay (walkedName (tableIn (l .«way_tags»)) m) h) r
-          ≡ mapRes (λ w. fetchedWay (walkedName (tableIn (l .«way_tags»)) m) (w .head) (w .body)) (andThen {B = Way F} r (λ b y. ok (record { head = h; body = b; end = y }) y))
+      bodied : (h : Head) (r : Res Body) → mapRes (fetchedWay (startedName starts (l .«way_tags») m) h) r
+          ≡ mapRes (λ w. fetchedWay (startedName starts (l .«way_tags») m) (w .head) (w .body)) (andThen {B = Way F} r (λ b y. ok (record { head = h; body = b; end = y }) y))
       bodied h (ok b y) = refl
       bodied h (no n v) = refl
 
-      headed : (r : Res Head) → andThen r (λ h y. mapRes (fetchedWay (walkedName (tableIn (l .«way_tags»)) m) h) (body m y))
-          ≡ mapRes (λ w. fetchedWay (walkedName (tableIn (l .«way_tags»)) m) (w .head) (w .body)) (andThen {B = Way F} r (λ h y. andThen (body m y) (λ b u. ok (record { head = h; body = b; end = u }) u)))
+      headed : (r : Res Head) → andThen r (λ h y. mapRes (fetchedWay (startedName starts (l .«way_tags») m) h) (body m y))
+          ≡ mapRes (λ w. fetchedWay (startedName starts (l .«way_tags») m) (w .head) (w .body)) (andThen {B = Way F} r (λ h y. andThen (body m y) (λ b u. ok (record { head = h; body = b; end = u }) u)))
       headed (ok h y) = bodied h (body m y)
       headed (no n v) = refl
 
@@ -251,34 +250,34 @@ module _ (l : TileLayout) (H : Parser TileHead) (m : List ℕ) (i : ℕ) (t : St
       points false h = ways (ltb (k - length (t .points)) (length (t .ways))) refl
 
 -- fetching is reading from there
-module _ (l : TileLayout) (i : Maybe Interval) (grid : Grid) (number k : ℕ) (m : List ℕ) where
-  fetched-is : answered (andThen (featurePlace l i grid number k m) (λ p _. readAt l p m)) ≡ fetchTile l i grid number k m
+module _ (l : TileLayout) (starts letters : List ℕ) (i : Maybe Interval) (grid : Grid) (number k : ℕ) (m : List ℕ) where
+  fetched-is : answered (andThen (featurePlace (kindsOf l letters) i grid number k m) (λ p _. readAt l starts letters p m)) ≡ fetchTile l starts letters i grid number k m
   unfolding featurePlace fetchTile
   fetched-is = located (locate (l .debug) i grid number m)
     where
-      collects : (a : Located) (r : Res (StoredTile (formatOf l m))) → collect (locatedHead (l .debug) a) (formatOf l m) m (tileAt a) ≡ r
-          → answered (andThen (andThen r (λ t _. placeIn (formatOf l m) t k m)) (λ p _. readAt l p m))
-          ≡ andThen r (λ t _. given l m (collected.fetch (storedTile t (record { subFile = 0; water = a .entry .water })) k))
-      collects a (ok t z) c = place-gives l (locatedHead (l .debug) a) m (tileAt a) t z c (record { subFile = 0; water = a .entry .water }) k
+      collects : (a : Located) (r : Res (StoredTile (formatOf (kindsOf l letters)))) → collect (locatedHead (l .debug) a) (formatOf (kindsOf l letters)) m (tileAt a) ≡ r
+          → answered (andThen (andThen r (λ t _. placeIn (formatOf (kindsOf l letters)) t k m)) (λ p _. readAt l starts letters p m))
+          ≡ andThen r (λ t _. given l starts letters m (collected.fetch (storedTile t (record { subFile = 0; water = a .entry .water })) k))
+      collects a (ok t z) c = place-gives l starts letters (locatedHead (l .debug) a) m (tileAt a) t z c (record { subFile = 0; water = a .entry .water }) k
       collects a (no n v) c = refl
 
-      located : (r : Res Located) → answered (andThen (andThen r (λ a _. andThen (collect (locatedHead (l .debug) a) (formatOf l m) m (tileAt a)) (λ t _. placeIn (formatOf l m) t k m))) (λ p _. readAt l p m)) ≡ andThen r (λ a _. fetchAt l k a m)
-      located (ok a z) = collects a (collect (locatedHead (l .debug) a) (formatOf l m) m (tileAt a)) refl
+      located : (r : Res Located) → answered (andThen (andThen r (λ a _. andThen (collect (locatedHead (l .debug) a) (formatOf (kindsOf l letters)) m (tileAt a)) (λ t _. placeIn (formatOf (kindsOf l letters)) t k m))) (λ p _. readAt l starts letters p m)) ≡ andThen r (λ a _. fetchAt l starts letters k a m)
+      located (ok a z) = collects a (collect (locatedHead (l .debug) a) (formatOf (kindsOf l letters)) m (tileAt a)) refl
       located (no n v) = refl
 
-  feature-is : (p : Res Place) (lists left : FetchLists) (r : Fetch) → p ≡ featurePlace l i grid number k m → FetchedAt l p m lists r left → FeatureIs (fetchTile l i grid number k m) lists r left
+  feature-is : (p : Res Place) (lists left : FetchLists) (r : Fetch) → p ≡ featurePlace (kindsOf l letters) i grid number k m → FetchedAt l starts letters p m lists r left → FeatureIs (fetchTile l starts letters i grid number k m) lists r left
   feature-is p lists left r q f =
       subst (λ (x : Res (Fetched Feature)). FeatureIs x lists r left)
-      (ap (λ x. answered (andThen x (λ p _. readAt l p m))) q ∙ fetched-is) f
+      (ap (λ x. answered (andThen x (λ p _. readAt l starts letters p m))) q ∙ fetched-is) f
 
-  module _ (g : FeaturePlace) (r : Fetch) (q : placeRes g ≡ featurePlace l i grid number k m) (w : End) (f : w ≡ wayEnd g) (c : List ℕ) (la lo il io : List Float) (b : List ℕ) where
-    pub other-fetched : (x : Refusal) (left : List ℕ) → w ≡ end.Refused x → OtherAt l g m b r left → FeatureIs (fetchTile l i grid number k m) (lent c la lo il io b) r (lent c la lo il io left)
+  module _ (g : FeaturePlace) (r : Fetch) (q : placeRes g ≡ featurePlace (kindsOf l letters) i grid number k m) (w : End) (f : w ≡ wayEnd g) (c : List ℕ) (la lo il io : List Float) (b : List ℕ) where
+    pub other-fetched : (x : Refusal) (left : List ℕ) → w ≡ end.Refused x → OtherAt l starts letters g m b r left → FeatureIs (fetchTile l starts letters i grid number k m) (lent c la lo il io b) r (lent c la lo il io left)
     other-fetched x left d o = feature-is (placeRes g) (lent c la lo il io b) (lent c la lo il io left) r q (o .each x (sym f ∙ d) c la lo il io)
 
-    pub way-fetched : (at : ℕ) (y : WayFetch) (left : FetchLists) → w ≡ end.At at → WayFetchIs (wayStored (l .debug) (l .«way_tags») m at) (lent c la lo il io b) y left → r ≡ ofWay y
-        → FeatureIs (fetchTile l i grid number k m) (lent c la lo il io b) r left
+    pub way-fetched : (at : ℕ) (y : WayFetch) (left : FetchLists) → w ≡ end.At at → WayFetchIs (wayStored (l .debug) starts letters (l .«way_tags») m at) (lent c la lo il io b) y left → r ≡ ofWay y
+        → FeatureIs (fetchTile l starts letters i grid number k m) (lent c la lo il io b) r left
     way-fetched at y left d o v =
-        feature-is (answer (wayAt at)) (lent c la lo il io b) left r (sym (there g (sym f ∙ d)) ∙ q) (rw v (way-is (wayStored (l .debug) (l .«way_tags») m at) (lent c la lo il io b) left y o))
+        feature-is (answer (wayAt at)) (lent c la lo il io b) left r (sym (there g (sym f ∙ d)) ∙ q) (rw v (way-is (wayStored (l .debug) starts letters (l .«way_tags») m at) (lent c la lo il io b) left y o))
       where
         isAt : End → ℕ
         isAt (end.At n) = 0

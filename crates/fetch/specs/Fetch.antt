@@ -12,21 +12,20 @@ use Rattle.error.specs.declared.Refusal.{Refusal}
 use Rattle.error.specs.declared.Refusal.the-variants.{Source}
 use Rattle.format.specs.Header.{Interval}
 use Rattle.format.specs.Index.{answer, answered, Grid, Located, locate, tileAt}
-use Rattle.format.specs.Kinds.{tagKinds}
 use Rattle.format.specs.Rows.{locatedHead}
 use Rattle.types.specs.declared.End.{End}
 use Rattle.types.specs.declared.End.the-variants as end
-use Rattle.tag_table.specs.Tables.{tableIn}
+use Rattle.tag_table.specs.Tables.{kindsBy}
 use Rattle.tag.specs.declared.Kind.{Kind}
 use Rattle.agreement.specs.TileFormat.{tileFormat}
 use Rattle.agreement.specs.Collected as collected
 use Rattle.agreement.specs.Collected.{storedCollection, storedTile, collect}
-use Rattle.tile_layout.specs.TileLayout.{formatOf}
+use Rattle.tile_layout.specs.TileLayout.{kindsOf, formatOf}
 use Rattle.tile_layout.specs.declared.TileLayout.{TileLayout}
 use Rattle.feature_place.specs.FeaturePlace.{Place, pointAt, wayAt, placeRes}
 use Rattle.feature_place.specs.declared.FeaturePlace.{FeaturePlace}
 use Rattle.feature_place.specs.declared.FeaturePlace.the-variants as place
-use Rattle.fetched.specs.Fetched.{walkedName, FetchLists, Fetched, fetchedPoint, fetchedWay, FetchReply, deliverAll}
+use Rattle.fetched.specs.Fetched.{startedName, FetchLists, Fetched, fetchedPoint, fetchedWay, FetchReply, deliverAll}
 use Rattle.fetched.specs.declared.FetchEnd.{FetchEnd}
 use Rattle.fetched.specs.declared.FetchEnd.the-variants as fetch-end
 use Rattle.fetched.specs.declared.FetchedPoi.{FetchedPoi}
@@ -53,20 +52,20 @@ givenBy debug poiKinds wayKinds poiName wayName (collected.aPoint p) = answer (f
 givenBy debug poiKinds wayKinds poiName wayName (collected.aWay w) = answer (fetchedAs aWay (fetchedWay wayName (w .head) (w .body)))
 givenBy debug poiKinds wayKinds poiName wayName collected.missing = no 17 []
 
-abbrev pub given : (l : TileLayout) (m : List ℕ) → collected.Feature (storedCollection (formatOf l m)) → Res (Fetched Feature)
-given l m f =
-    givenBy (l .debug) (tagKinds (tableIn (l .«poi_tags»)) m) (tagKinds (tableIn (l .«way_tags»)) m) (walkedName (tableIn (l .«poi_tags»)) m)
-    (walkedName (tableIn (l .«way_tags»)) m) f
+abbrev pub given : (l : TileLayout) (starts letters : List ℕ) (m : List ℕ) → collected.Feature (storedCollection (formatOf (kindsOf l letters))) → Res (Fetched Feature)
+given l starts letters m f =
+    givenBy (l .debug) (kindsBy letters (l .«poi_tags»)) (kindsBy letters (l .«way_tags»)) (startedName starts (l .«poi_tags») m)
+    (startedName starts (l .«way_tags») m) f
 
 -- feature k of the tile at a place (what the end of its stream says plays no part in it)
-abbrev pub fetchAt : TileLayout → (k : ℕ) → Located → List ℕ → Res (Fetched Feature)
-fetchAt l k a m =
-    andThen (collect (locatedHead (l .debug) a) (formatOf l m) m (tileAt a)) (λ t _.
-    given l m (collected.fetch (storedTile t (record { subFile = 0; water = a .entry .water })) k))
+abbrev pub fetchAt : TileLayout → (starts letters : List ℕ) → (k : ℕ) → Located → List ℕ → Res (Fetched Feature)
+fetchAt l starts letters k a m =
+    andThen (collect (locatedHead (l .debug) a) (formatOf (kindsOf l letters)) m (tileAt a)) (λ t _.
+    given l starts letters m (collected.fetch (storedTile t (record { subFile = 0; water = a .entry .water })) k))
 
 -- refused as collecting is (sub file, grid, tile, its entry and the next one, interval, the tile's bytes), then 17
-unfoldable pub fetchTile : TileLayout → Maybe Interval → Grid → (number k : ℕ) → List ℕ → Res (Fetched Feature)
-fetchTile l i g n k m = andThen (locate (l .debug) i g n m) (λ a _. fetchAt l k a m)
+unfoldable pub fetchTile : TileLayout → (starts letters : List ℕ) → Maybe Interval → Grid → (number k : ℕ) → List ℕ → Res (Fetched Feature)
+fetchTile l starts letters i g n k m = andThen (locate (l .debug) i g n m) (λ a _. fetchAt l starts letters k a m)
 
 -- the answer of the code
 abbrev pub featureRes : FetchAnswer → FetchedPoi → FetchedWay → Res Feature
@@ -106,12 +105,12 @@ abbrev pub noFetch : Refusal → Fetch
 noFetch r = record { answer = fetch-answer.Refused (lent-refusal.Refused r); poi = emptyPoi; way = emptyWay }
 
 -- the feature that is read from a place, and what is delivered of it
-abbrev pub readAt : TileLayout → Place → List ℕ → Res (Fetched Feature)
-readAt l (pointAt i) m = mapRes (fetchedAs aPoi) (poiStored (l .debug) (l .«poi_tags») m i)
-readAt l (wayAt i) m = mapRes (fetchedAs aWay) (wayStored (l .debug) (l .«way_tags») m i)
+abbrev pub readAt : TileLayout → (starts letters : List ℕ) → Place → List ℕ → Res (Fetched Feature)
+readAt l starts letters (pointAt i) m = mapRes (fetchedAs aPoi) (poiStored (l .debug) starts letters (l .«poi_tags») m i)
+readAt l starts letters (wayAt i) m = mapRes (fetchedAs aWay) (wayStored (l .debug) starts letters (l .«way_tags») m i)
 
-abbrev pub FetchedAt : TileLayout → Res Place → List ℕ → (lent : FetchLists) → Fetch → (left : FetchLists) → Type 0
-FetchedAt l p m lists r left = FeatureIs (answered (andThen p (λ q _. readAt l q m))) lists r left
+abbrev pub FetchedAt : TileLayout → (starts letters : List ℕ) → Res Place → List ℕ → (lent : FetchLists) → Fetch → (left : FetchLists) → Type 0
+FetchedAt l starts letters p m lists r left = FeatureIs (answered (andThen p (λ q _. readAt l starts letters q m))) lists r left
 
 -- where a way starts, if it is one
 abbrev pub wayEnd : FeaturePlace → End
@@ -120,5 +119,5 @@ wayEnd (place.Way n) = end.At n
 wayEnd (place.Refused r) = end.Refused Source
 
 -- a place that is no way's: the lists keep their values
-pub record OtherAt (l : TileLayout) (p : FeaturePlace) (m buffer : List ℕ) (r : Fetch) (left : List ℕ) : Type 0 where
-  pub each : (x : Refusal) → wayEnd p ≡ end.Refused x → (c : List ℕ) (la lo il io : List Float) → FetchedAt l (placeRes p) m (lent c la lo il io buffer) r (lent c la lo il io left)
+pub record OtherAt (l : TileLayout) (starts letters : List ℕ) (p : FeaturePlace) (m buffer : List ℕ) (r : Fetch) (left : List ℕ) : Type 0 where
+  pub each : (x : Refusal) → wayEnd p ≡ end.Refused x → (c : List ℕ) (la lo il io : List Float) → FetchedAt l starts letters (placeRes p) m (lent c la lo il io buffer) r (lent c la lo il io left)

@@ -7,8 +7,6 @@ use fetch_way::WayFetch;
 use fetched::Fetch;
 use fetched::FetchAnswer;
 use fetched::FetchEnd;
-use fetched::FetchedPoi;
-use fetched::FetchedWay;
 use index::IntervalRead;
 use tile_layout::TileLayout;
 use types::End;
@@ -75,13 +73,20 @@ fn way_end(place: FeaturePlace) -> End
 }
 
 // The point at a place, or why there is no feature. A way is not read here: it needs more lists.
-fn of_place(map: &[u8], place: FeaturePlace, layout: TileLayout, buffer: &mut [u8]) -> Fetch
-    ensures { λ r. ⌜ OtherAt layout place (now (map .entry)) (now (buffer .entry)) r (now (buffer .exit)) ⌝ }
+fn of_place(
+    map: &[u8],
+    place: FeaturePlace,
+    layout: TileLayout,
+    starts: &[u64],
+    letters: &[u8],
+    buffer: &mut [u8],
+) -> Fetch
+    ensures { λ r. ⌜ OtherAt layout (now (starts .entry)) (now (letters .entry)) place (now (map .entry)) (now (buffer .entry)) r (now (buffer .exit)) ⌝ }
 {
     match place {
         FeaturePlace::Point(at) => {
-            let table = layout.poi_tags;
-            of_poi(fetch_poi::fetch_poi(map, at, layout.debug, table, buffer))
+            let tags = layout.poi_tags;
+            of_poi(fetch_poi::fetch_poi(map, at, layout.debug, starts, letters, tags, buffer))
         }
         FeaturePlace::Refused(r) => no_fetch(r),
         FeaturePlace::Way(_) => no_fetch(Refusal::Source),
@@ -94,6 +99,8 @@ fn of_place(map: &[u8], place: FeaturePlace, layout: TileLayout, buffer: &mut [u
 pub fn fetch_feature(
     map: &[u8],
     layout: TileLayout,
+    starts: &[u64],
+    letters: &[u8],
     found: IntervalRead,
     grid: Grid,
     tile: usize,
@@ -105,19 +112,21 @@ pub fn fetch_feature(
     initial_longitudes: &mut [f64],
     buffer: &mut [u8],
 ) -> Fetch
-    ensures { λ r. ⌜ FeatureIs (fetchTile layout (intervalFound found) (gridOf grid) tile feature (now (map .entry))) (lent (now («node_counts» .entry)) (now (latitudes .entry)) (now (longitudes .entry)) (now («initial_latitudes» .entry)) (now («initial_longitudes» .entry)) (now (buffer .entry))) r (lent (now («node_counts» .exit)) (now (latitudes .exit)) (now (longitudes .exit)) (now («initial_latitudes» .exit)) (now («initial_longitudes» .exit)) (now (buffer .exit))) ⌝ }
+    ensures { λ r. ⌜ FeatureIs (fetchTile layout (now (starts .entry)) (now (letters .entry)) (intervalFound found) (gridOf grid) tile feature (now (map .entry))) (lent (now («node_counts» .entry)) (now (latitudes .entry)) (now (longitudes .entry)) (now («initial_latitudes» .entry)) (now («initial_longitudes» .entry)) (now (buffer .entry))) r (lent (now («node_counts» .exit)) (now (latitudes .exit)) (now (longitudes .exit)) (now («initial_latitudes» .exit)) (now («initial_longitudes» .exit)) (now (buffer .exit))) ⌝ }
 {
-    let place = feature_place::find_feature(map, layout, found, grid, tile, feature);
+    let place = feature_place::find_feature(map, layout, letters, found, grid, tile, feature);
     let end = way_end(place);
     let End::At(at) = end else {
-        return of_place(map, place, layout, buffer);
+        return of_place(map, place, layout, starts, letters, buffer);
     };
-    let table = layout.way_tags;
+    let tags = layout.way_tags;
     of_way(fetch_way::fetch_way(
         map,
         at,
         layout.debug,
-        table,
+        starts,
+        letters,
+        tags,
         node_counts,
         latitudes,
         longitudes,

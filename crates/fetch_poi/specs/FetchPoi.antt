@@ -4,15 +4,14 @@ use mathlib.Core.Bool.{Bool}
 use mathlib.Core.Path.{_≡_}
 use mathlib.Core.List.{List, []}
 use Rattle.parsing.specs.Parse.{Res, ok, mapRes}
-use Rattle.format.specs.Kinds.{tagKinds}
 use Rattle.format.specs.Tile.{Point, point}
 use Rattle.types.specs.declared.OptionalSpan.the-variants.{Absent}
-use Rattle.types.specs.declared.TagTable.{TagTable}
-use Rattle.tag_table.specs.Tables.{tableIn}
+use Rattle.types.specs.declared.TagRange.{TagRange}
+use Rattle.tag_table.specs.Tables.{kindsBy}
 use Rattle.poi.specs.Poi as poi
 use Rattle.poi.specs.Poi.{poiOf}
 use Rattle.poi.specs.declared.Poi.{Poi}
-use Rattle.fetched.specs.Fetched.{walkedName, noTexts, Fetched, fetchedPoint, FetchLists, FetchIs}
+use Rattle.fetched.specs.Fetched.{startedName, noTexts, Fetched, fetchedPoint, FetchLists, FetchIs}
 use Rattle.fetched.specs.declared.FeatureTexts.{FeatureTexts}
 use Rattle.fetched.specs.declared.FetchedPoi.{FetchedPoi}
 use Rattle.feature_texts.specs.declared.TextParts.{TextParts}
@@ -20,8 +19,8 @@ use Rattle.feature_texts.specs.Known.{PointTexts}
 use Rattle.fetch_poi.specs.declared.PoiFetch.{PoiFetch}
 
 -- the point at a place
-abbrev pub poiStored : Bool → TagTable → List ℕ → ℕ → Res (Fetched FetchedPoi)
-poiStored debug t m at = mapRes (fetchedPoint (walkedName (tableIn t) m)) (point debug (tagKinds (tableIn t) m) m at)
+abbrev pub poiStored : Bool → (starts letters : List ℕ) → TagRange → List ℕ → ℕ → Res (Fetched FetchedPoi)
+poiStored debug starts letters t m at = mapRes (fetchedPoint (startedName starts t m)) (point debug (kindsBy letters t) m at)
 
 -- a buffer, and no lists
 abbrev pub bufferOnly : List ℕ → FetchLists
@@ -52,9 +51,9 @@ abbrev pub PoiFetchIs : Res (Fetched FetchedPoi) → (buffer : List ℕ) → Poi
 PoiFetchIs stored buffer r left = FetchIs emptyPoi stored (bufferOnly buffer) (r .poi) (r .end) (bufferOnly left)
 
 -- What private functions make, which need not be believed: what the texts of a point are made of
-abbrev pub poiParts : Poi → TagTable → TextParts
-poiParts p t = record { table = t; name = p .name; «house_number» = p .«house_number»; reference = Absent }
+abbrev pub poiParts : Poi → TagRange → TextParts
+poiParts p t = record { tags = t; name = p .name; «house_number» = p .«house_number»; reference = Absent }
 
 -- a point that was read, has these ids and ends at `next`, with its texts written
-pub record PoiWritten (t : TagTable) (p : Poi) (ids : List ℕ) (next : ℕ) (m buffer : List ℕ) (r : PoiFetch) (left : List ℕ) : Type 0 where
-  pub each : (s : Point) → p ≡ poiOf s → ids ≡ s .tagged .ids → PointTexts m s → PoiFetchIs (ok (fetchedPoint (walkedName (tableIn t) m) s) next) buffer r left
+pub record PoiWritten (starts : List ℕ) (t : TagRange) (p : Poi) (ids : List ℕ) (next : ℕ) (m buffer : List ℕ) (r : PoiFetch) (left : List ℕ) : Type 0 where
+  pub each : (s : Point) → p ≡ poiOf s → ids ≡ s .tagged .ids → PointTexts m s → PoiFetchIs (ok (fetchedPoint (startedName starts t m) s) next) buffer r left

@@ -10,7 +10,7 @@ use tagged::TagIds;
 use types::End;
 use types::OptionalSpan;
 use types::Position;
-use types::TagTable;
+use types::TagRange;
 ghost use mathlib.Core.Path.{_≡_};
 ghost use Rattle.fetch_poi.specs.FetchPoi.{poiParts, poiWith, emptyPoi, poiStored, PoiFetchIs, PoiWritten};
 
@@ -50,13 +50,13 @@ fn refused_poi(refusal: LentRefusal) -> PoiFetch
 }
 
 // What the texts of a point are made of.
-fn poi_parts(poi: Poi, table: TagTable) -> TextParts
-    ensures { λ r. ⌜ r ≡ poiParts poi table ⌝ }
+fn poi_parts(poi: Poi, tags: TagRange) -> TextParts
+    ensures { λ r. ⌜ r ≡ poiParts poi tags ⌝ }
 {
     let name = poi.name;
     let house_number = poi.house_number;
     TextParts {
-        table,
+        tags,
         name,
         house_number,
         reference: OptionalSpan::Absent,
@@ -86,18 +86,19 @@ fn write_poi(
     poi: Poi,
     ids: &[u64],
     next: usize,
-    table: TagTable,
+    starts: &[u64],
+    tags: TagRange,
     buffer: &mut [u8],
 ) -> PoiFetch
-    ensures { λ r. ⌜ PoiWritten table poi (now (ids .entry)) next (now (map .entry)) (now (buffer .entry)) r (now (buffer .exit)) ⌝ }
+    ensures { λ r. ⌜ PoiWritten (now (starts .entry)) tags poi (now (ids .entry)) next (now (map .entry)) (now (buffer .entry)) r (now (buffer .exit)) ⌝ }
 {
-    let parts = poi_parts(poi, table);
-    let len = feature_texts::texts_len(map, ids, parts);
+    let parts = poi_parts(poi, tags);
+    let len = feature_texts::texts_len(map, starts, ids, parts);
     if buffer.len() < len {
         return refused_poi(error::short_buffer(len as u64));
     }
-    feature_texts::write_texts(map, ids, parts, buffer);
-    let texts = feature_tags::texts_of(map, ids, parts);
+    feature_texts::write_texts(map, starts, ids, parts, buffer);
+    let texts = feature_tags::texts_of(map, starts, ids, parts);
     PoiFetch {
         poi: poi_with(poi, texts),
         end: FetchEnd::At(next),
@@ -105,10 +106,18 @@ fn write_poi(
 }
 
 // The point at a place. Refused as it is read; then 15 if the buffer is too short for its texts.
-pub fn fetch_poi(map: &[u8], at: usize, debug: bool, table: TagTable, buffer: &mut [u8]) -> PoiFetch
-    ensures { λ r. ⌜ PoiFetchIs (poiStored debug table (now (map .entry)) at) (now (buffer .entry)) r (now (buffer .exit)) ⌝ }
+pub fn fetch_poi(
+    map: &[u8],
+    at: usize,
+    debug: bool,
+    starts: &[u64],
+    letters: &[u8],
+    tags: TagRange,
+    buffer: &mut [u8],
+) -> PoiFetch
+    ensures { λ r. ⌜ PoiFetchIs (poiStored debug (now (starts .entry)) (now (letters .entry)) tags (now (map .entry)) at) (now (buffer .entry)) r (now (buffer .exit)) ⌝ }
 {
-    let got = poi::read_poi(map, at, debug, table);
+    let got = poi::read_poi(map, at, debug, letters, tags);
     let end = got.end;
     let End::At(next) = end else {
         return refused_poi(LentRefusal::Refused(types::end_refusal(end)));
@@ -117,5 +126,5 @@ pub fn fetch_poi(map: &[u8], at: usize, debug: bool, table: TagTable, buffer: &m
     let tag_ids = poi.tag_ids;
     let ids = tag_ids.ids;
     let count = tag_ids.count;
-    write_poi(map, poi, &ids[..count], next, table, buffer)
+    write_poi(map, poi, &ids[..count], next, starts, tags, buffer)
 }

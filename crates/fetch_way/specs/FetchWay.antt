@@ -41,5 +41,5 @@ roomOf l = record {
 abbrev pub answerOf : MeasuredWay → WayFetch
 answerOf g = record { way = g .way; end = g .end }
 
-abbrev pub textsWritten : List ℕ → TextPlan → List ℕ → List ℕ
-textsWritten m p buffer = writeTexts (textsIn (p .parts) m (take (p .«tag_ids» .count) (p .«tag_ids» .ids))) buffer
+abbrev pub textsWritten : (starts m : List ℕ) → TextPlan → List ℕ → List ℕ
+textsWritten starts m p buffer = writeTexts (textsIn starts (p .parts) m (take (p .«tag_ids» .count) (p .«tag_ids» .ids))) buffer

@@ -20,8 +20,9 @@ use Rattle.format.specs.Lent.{front, LentLists, Replied, fits, written, deliver
 use Rattle.format.specs.WayData.{concat, nodeCount}
 use Rattle.format.specs.Nodes.{initialLatitudes, initialLongitudes}
 use Rattle.format.specs.BodyLists.{bodyLists}
-use Rattle.format.specs.TagTable.{Table, tagText}
+use Rattle.format.specs.TagLists.{listedText}
 use Rattle.format.specs.Tile.{Point, Head, Body, doubleDelta}
+use Rattle.types.specs.declared.TagRange.{TagRange}
 use Rattle.types.specs.Types.{optionalSpan, nodePosition, optionalPosition}
 use Rattle.types.specs.Beside.{viewOr}
 use Rattle.tagged.specs.TagIds.{tagIds}
@@ -35,7 +36,7 @@ use Rattle.fetched.specs.declared.FetchEnd.the-variants as end
 use Rattle.fetched.specs.declared.FetchedPoi.{FetchedPoi}
 use Rattle.fetched.specs.declared.FetchedWay.{FetchedWay}
 
--- the name of an id: of a list of names, or by a walk through the header
+-- the name of an id: of a list of names, or the text at its listed start
 abbrev pub bytesOf : Maybe Part → List ℕ
 bytesOf none = []
 bytesOf (some p) = p .bytes
@@ -43,13 +44,13 @@ bytesOf (some p) = p .bytes
 abbrev pub listedName : List Part → ℕ → List ℕ
 listedName names i = bytesOf (nth names i)
 
--- a name that the walk does not reach is empty; in a map that was opened it reaches every one
+-- where no text stands, the name is empty; where lists were filled from the map by opening, every name is there
 abbrev pub foundBytes : Res Part → List ℕ
 foundBytes (ok p e) = p .bytes
 foundBytes (no n v) = []
 
-abbrev pub walkedName : Table → List ℕ → ℕ → List ℕ
-walkedName t m i = foundBytes (tagText t i m)
+abbrev pub startedName : (starts : List ℕ) → TagRange → List ℕ → ℕ → List ℕ
+startedName starts r m i = foundBytes (listedText starts (r .first) (r .count) i m)
 
 -- the strings of the tags with these ids, one behind the other, each replaced
 abbrev pub idTexts : (ℕ → List ℕ) → List ℕ → List ℕ

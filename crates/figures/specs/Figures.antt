@@ -5,7 +5,7 @@ use mathlib.Core.Path.{_≡_, refl}
 use mathlib.Core.Bool.{Bool, true, false}
 use mathlib.Core.List.{List, [], _∷_}
 use lib.IntN.{ℤ, pos, negsuc}
-use Rattle.parsing.specs.Parse.{Res, ok, no, Part, part}
+use Rattle.parsing.specs.Parse.{ok, no, part}
 use Rattle.byte_source.specs.BigEndian.{valueOf, bigEndian}
 use Rattle.utils.specs.Vbe.{groups, unsigned, signed, coordinate, text}
 use Rattle.text.specs.Utf8.{follow, sequenceBy, sequencesFrom, allChars, valid, codesOf, codePoints, bytesOfAll, replaced}
@@ -13,7 +13,7 @@ use Rattle.text.specs.Hash.{hashFrom, hash}
 use Rattle.tag.specs.Tag.{equalsAt, keyOf, valueOf as tagValue, letterAfter, kind}
 use Rattle.tag.specs.declared.Kind.{Kind}
 use Rattle.tag.specs.declared.Kind.the-variants as kinds
-use Rattle.format.specs.Index.{Entry, entry}
+use Rattle.format.specs.Index.{entry}
 
 pub data Figure : Type 0 where
   -- these bytes are this number, and there are so many of them

@@ -1,4 +1,5 @@
 pub mod TagLaws
+pub mod ListLaws
 pub mod IntervalLaws
 pub mod CutOffLaws
 pub mod EmptyFigures

@@ -3,6 +3,7 @@ pub mod Header
 pub mod TagTable
 pub mod IntervalTable
 pub mod Kinds
+pub mod TagLists
 pub mod Index
 pub mod WayData
 pub mod Nodes

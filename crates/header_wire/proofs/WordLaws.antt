@@ -11,8 +11,8 @@ use Rattle.header_wire.specs.Header.{layoutIn}
 
 pub layout-made : (l : List ℕ) (t : Bool) → t ≡ truth (getD l 0 0) → _≡_ {A = TileLayout} (record {
   debug = t;
-  «poi_tags» = record { start = getD l 1 0; count = getD l 2 0 };
-  «way_tags» = record { start = getD l 3 0; count = getD l 4 0 };
+  «poi_tags» = record { first = 0; count = getD l 2 0 };
+  «way_tags» = record { first = getD l 2 0; count = getD l 4 0 };
 }) (layoutIn l)
 layout-made l t h = rw h refl
 

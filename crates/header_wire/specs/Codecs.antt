@@ -7,10 +7,10 @@ use Rattle.types.specs.declared.OptionalByte.{OptionalByte}
 use Rattle.types.specs.declared.OptionalByte.the-variants as byte
 use Rattle.types.specs.declared.OptionalPosition.{OptionalPosition}
 use Rattle.types.specs.declared.HeaderFields.{HeaderFields}
-use Rattle.header.specs.declared.FieldsRead.{FieldsRead}
-use Rattle.header.specs.declared.FieldsRead.the-variants as fields
+use Rattle.opening.specs.declared.ListedRead.{ListedRead}
+use Rattle.opening.specs.declared.ListedRead.the-variants as listed
 use Rattle.wire.specs.Wire.{Wire, Lent, Codec, word, there}
-use Rattle.wire.specs.Codecs.{settle, settled, spanIn, span-back, placeIn, place-back, degree}
+use Rattle.wire.specs.Codecs.{settleLent, settled-lent, spanIn, span-back, placeIn, place-back, degree}
 use Rattle.wire.specs.Spread.{spreadWire, spread-out}
 use Rattle.header_wire.specs.Header.{headerWire, byteWords}
 
@@ -44,8 +44,8 @@ fieldsIn w = record {
   «num_zoom_intervals» = word w 0 33;
 }
 
-abbrev pub headerIn : Wire → FieldsRead
-headerIn w = settle fields.Refused (fields.Value (fieldsIn w) (word w 0 6)) w
+abbrev pub headerIn : Wire → ListedRead
+headerIn w = settleLent listed.Refused (listed.Value (fieldsIn w) (word w 0 6)) w
 
 abbrev headerPart : OptionalPosition → OptionalByte → (language comment createdBy : OptionalSpan) → HeaderFields → HeaderFields
 headerPart p z a b d h = record {
@@ -68,18 +68,18 @@ headerPart p z a b d h = record {
   «num_zoom_intervals» = h .«num_zoom_intervals»;
 }
 
-header-with : (h : HeaderFields) (e : ℕ) (p p′ : OptionalPosition) (z z′ : OptionalByte) (a a′ b b′ d d′ : OptionalSpan) → p ≡ p′ → z ≡ z′ → a ≡ a′ → b ≡ b′ → d ≡ d′ → fields.Value (headerPart p z a b d h) e ≡ fields.Value (headerPart p′ z′ a′ b′ d′ h) e
+header-with : (h : HeaderFields) (e : ℕ) (p p′ : OptionalPosition) (z z′ : OptionalByte) (a a′ b b′ d d′ : OptionalSpan) → p ≡ p′ → z ≡ z′ → a ≡ a′ → b ≡ b′ → d ≡ d′ → listed.Value (headerPart p z a b d h) e ≡ listed.Value (headerPart p′ z′ a′ b′ d′ h) e
 header-with h e p p′ z z′ a a′ b b′ d d′ q1 q2 q3 q4 q5 = rw (q1, q2, q3, q4, q5) refl
 
 abbrev pub HeaderLent : Wire → Type 0
 HeaderLent = Lent (34 ∷ 7 ∷ []) 0 6
 
-pub header-back : (w : Wire) → HeaderLent w → (r : FieldsRead) → headerIn (headerWire w r) ≡ r
+pub header-back : (w : Wire) → HeaderLent w → (r : ListedRead) → headerIn (headerWire w r) ≡ r
 header-back w k r = spread-out (34 ∷ 7 ∷ []) 0 6 w k (λ v. headerIn (headerWire v r) ≡ r) (go r)
   where
-    go : (r : FieldsRead) → headerIn (headerWire (spreadWire (34 ∷ 7 ∷ []) 0 6 w) r) ≡ r
-    go (fields.Value h e) = header-with h e _ _ _ _ _ _ _ _ _ _ (place-back (h .«map_start_position»)) (byte-back (h .«start_zoom_level»)) (span-back (h .«language_preference»)) (span-back (h .comment)) (span-back (h .«created_by»))
-    go (fields.Refused r) = settled fields.Refused _ _ _ r
+    go : (r : ListedRead) → headerIn (headerWire (spreadWire (34 ∷ 7 ∷ []) 0 6 w) r) ≡ r
+    go (listed.Value h e) = header-with h e _ _ _ _ _ _ _ _ _ _ (place-back (h .«map_start_position»)) (byte-back (h .«start_zoom_level»)) (span-back (h .«language_preference»)) (span-back (h .comment)) (span-back (h .«created_by»))
+    go (listed.Refused r) = settled-lent listed.Refused _ _ _ _ _ _ _ _ r
 
 abbrev pub headerCodec : (w : Wire) → HeaderLent w → Codec (headerWire w)
 headerCodec w h = record { decode = headerIn; back = header-back w h }

@@ -11,10 +11,10 @@ use Rattle.types.specs.declared.OptionalByte.{OptionalByte}
 use Rattle.types.specs.declared.OptionalByte.the-variants as byte
 use Rattle.types.specs.declared.OptionalSpan.{OptionalSpan}
 use Rattle.zoom_intervals.specs.Rows.{tableBefore}
-use Rattle.header.specs.declared.FieldsRead.{FieldsRead}
-use Rattle.header.specs.declared.FieldsRead.the-variants as fields
+use Rattle.opening.specs.declared.ListedRead.{ListedRead}
+use Rattle.opening.specs.declared.ListedRead.the-variants as listed
 use Rattle.tile_layout.specs.declared.TileLayout.{TileLayout}
-use Rattle.wire.specs.Wire.{Wire, put, putDegrees, numbered, putRefusal, truth}
+use Rattle.wire.specs.Wire.{Wire, put, putDegrees, numbered, putLentRefusal, truth}
 use Rattle.wire.specs.Verdicts.{spanWords, placeWords}
 use Rattle.header_wire.specs.declared.ByteWords.{ByteWords}
 
@@ -52,17 +52,18 @@ layoutWords h e =
     cond (bit 7 (h .flags)) 1 0 ∷ h .«poi_tags» .start ∷ h .«poi_tags» .count ∷ h .«way_tags» .start ∷ h .«way_tags» .count ∷
     tableBefore e (h .«num_zoom_intervals») .start ∷ tableBefore e (h .«num_zoom_intervals») .count ∷ []
 
+-- what a tile needs of it: the debug flag, and how many tags are listed, those of points first
 abbrev pub layoutIn : List ℕ → TileLayout
 layoutIn w = record {
   debug = truth (getD w 0 0);
-  «poi_tags» = record { start = getD w 1 0; count = getD w 2 0 };
-  «way_tags» = record { start = getD w 3 0; count = getD w 4 0 };
+  «poi_tags» = record { first = 0; count = getD w 2 0 };
+  «way_tags» = record { first = getD w 2 0; count = getD w 4 0 };
 }
 
 abbrev pub intervalsIn : List ℕ → IntervalTable
 intervalsIn w = record { start = getD w 5 0; count = getD w 6 0 % 256 }
 
-abbrev pub headerWire : (before : Wire) → FieldsRead → Wire
-headerWire w (fields.Value h e) =
+abbrev pub headerWire : (before : Wire) → ListedRead → Wire
+headerWire w (listed.Value h e) =
     numbered 0 (put 0 17 (optionWords h) (put 0 29 (tableWords h) (put 0 6 (fieldWords h e) (put 1 0 (layoutWords h e) (putDegrees 0 (degreesOf h) w)))))
-headerWire w (fields.Refused r) = putRefusal r w
+headerWire w (listed.Refused r) = putLentRefusal r w

@@ -1,10 +1,10 @@
 // The header as words, and what tiles and sub files need of it, which other calls take back.
-use header::FieldsRead;
+use opening::ListedRead;
 use tile_layout::TileLayout;
 use types::HeaderFields;
 use types::IntervalTable;
 use types::OptionalByte;
-use types::TagTable;
+use types::TagRange;
 ghost use mathlib.Core.Path.{_≡_};
 ghost use mathlib.Core.List.{[], _∷_};
 ghost use mathlib.Core.Bool.{cond};
@@ -75,21 +75,22 @@ fn put_layout(fields: HeaderFields, end: usize, layout: &mut [u64; 7])
     layout[6] = count;
 }
 
+// The listed tags: those of points come first, then those of ways.
 pub fn layout_in(words: [u64; 7]) -> TileLayout
     ensures { λ r. ⌜ r ≡ layoutIn words ⌝ }
 {
-    let poi_tags = TagTable {
-        start: words[1] as usize,
-        count: words[2] as usize,
-    };
-    let way_tags = TagTable {
-        start: words[3] as usize,
-        count: words[4] as usize,
-    };
+    let points = words[2] as usize;
+    let ways = words[4] as usize;
     TileLayout {
         debug: wire::truth_of(words[0]),
-        poi_tags,
-        way_tags,
+        poi_tags: TagRange {
+            first: 0,
+            count: points,
+        },
+        way_tags: TagRange {
+            first: points,
+            count: ways,
+        },
     }
 }
 
@@ -177,7 +178,7 @@ fn put_fields(fields: HeaderFields, end: usize, words: &mut [u64; 34])
 }
 
 pub fn put_header(
-    got: FieldsRead,
+    got: ListedRead,
     words: &mut [u64; 34],
     degrees: &mut [f64; 6],
     layout: &mut [u64; 7],
@@ -185,13 +186,13 @@ pub fn put_header(
     ensures { λ r. ⌜ wire r (now (words .exit) ∷ now (layout .exit) ∷ []) [] (now (degrees .exit)) ≡ headerWire (lending (now (words .entry) ∷ now (layout .entry) ∷ []) [] (now (degrees .entry))) got ⌝ }
 {
     match got {
-        FieldsRead::Value(fields, end) => {
+        ListedRead::Value(fields, end) => {
             put_fields(fields, end, words);
             put_options(fields, words);
             put_degrees(fields, degrees);
             put_layout(fields, end, layout);
             0
         }
-        FieldsRead::Refused(r) => wire::put_refusal(r, words),
+        ListedRead::Refused(r) => wire::put_lent_refusal(r, words),
     }
 }

@@ -1,6 +1,6 @@
 -- Laws of a header's fields as words, for `search`: a field behind what came before it, and each case of one that may be absent.
 use Prim.Native.Nat.{ℕ}
-use mathlib.Core.Path.{_≡_, refl, sym, ap, _∙_}
+use mathlib.Core.Path.{_≡_, sym, ap, _∙_}
 use mathlib.Core.List.{List}
 use lib.ListN.{length}
 use Rattle.arithmetic.specs.Cut.{cut}

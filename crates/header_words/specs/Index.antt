@@ -1,7 +1,7 @@
 -- The answers of the index as words (compare/src/maps has the same): 0 for none, 1 in front of what there is.
 use Prim.Native.Nat.{ℕ}
 use mathlib.Core.Bool.{cond}
-use mathlib.Core.List.{List, [], _∷_}
+use mathlib.Core.List.{[], _∷_}
 use Rattle.index.specs.declared.SubFile.{SubFile}
 use Rattle.index.specs.declared.SubFile.the-variants as files
 use Rattle.index.specs.declared.CountRead.{CountRead}

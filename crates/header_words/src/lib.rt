@@ -12,8 +12,6 @@ use types::OptionalSpan;
 use types::Position;
 use types::ZoomInterval;
 ghost use mathlib.Core.Path.{_≡_};
-ghost use mathlib.Core.List.{[], _∷_};
-ghost use Rattle.questions.specs.Answers.{answered};
 ghost use Rattle.header_words.specs.Fields.{textPushed, optionalTextPushed, positionPushed, boxPushed, optionalPositionPushed, optionalBytePushed, tagMixed, intervalMixed};
 ghost use Rattle.header_words.specs.Index.{subFileWords, countWords, indexWords, entryWords};
 

@@ -5,8 +5,7 @@ use mathlib.Core.List.{List, [], _∷_}
 use Rattle.format.specs.Lent.{Reply}
 use Rattle.format.specs.Tile.{Point, Head, Body}
 use Rattle.way_data.specs.Reply.{lent}
-use Rattle.tile_layout.specs.TileLayout.{formatOf}
-use Rattle.tile_layout.specs.declared.TileLayout.{TileLayout}
+use Rattle.tile_layout.specs.TileLayout.{TileKinds, formatOf}
 use Rattle.agreement.specs.Calls.{Answer, Call, next, accept, decline, Step, run, plain}
 use Rattle.agreement.specs.Stream.{State, stream}
 use Rattle.agreement.specs.TileFormat as tile
@@ -23,21 +22,21 @@ abbrev ShownStep : Type 0
 ShownStep = Step ShownAnswer (State tile.TileEnd)
 
 -- one step, and the rest
-joined : (m : List ℕ) (l : TileLayout) (ds : List Call) (qs : List (Reply ShownAnswer)) (x : Step (Answer Point Head Body tile.TileEnd) (State tile.TileEnd)) (y : ShownStep)
-    → y ≡ shownStep x → qs ≡ shownReplies (run (stream (formatOf l m) m) (y .left) ds)
-    → y .reply ∷ qs ≡ shownReplies (x .reply ∷ run (stream (formatOf l m) m) (x .left) ds)
+joined : (m : List ℕ) (l : TileKinds) (ds : List Call) (qs : List (Reply ShownAnswer)) (x : Step (Answer Point Head Body tile.TileEnd) (State tile.TileEnd)) (y : ShownStep)
+    → y ≡ shownStep x → qs ≡ shownReplies (run (stream (formatOf l) m) (y .left) ds)
+    → y .reply ∷ qs ≡ shownReplies (x .reply ∷ run (stream (formatOf l) m) (x .left) ds)
 joined m l ds qs x y e q =
     ap (λ (b : ShownStep). b .reply ∷ qs) e
-    ∙ ap (λ b. shownStep x .reply ∷ b) (q ∙ ap (λ (b : ShownStep). shownReplies (run (stream (formatOf l m) m) (b .left) ds)) e)
+    ∙ ap (λ b. shownStep x .reply ∷ b) (q ∙ ap (λ (b : ShownStep). shownReplies (run (stream (formatOf l) m) (b .left) ds)) e)
 
-pub called-run : (m : List ℕ) (l : TileLayout) (s : Stream) (cs : List Call) (rs : List (Reply ShownAnswer)) → Called m l s cs rs → rs ≡ shownReplies (run (stream (formatOf l m) m) (stateOf s) cs)
+pub called-run : (m : List ℕ) (l : TileKinds) (s : Stream) (cs : List Call) (rs : List (Reply ShownAnswer)) → Called m l s cs rs → rs ≡ shownReplies (run (stream (formatOf l) m) (stateOf s) cs)
 called-run m l s cs rs no-call = refl
 called-run m l s cs rs (call-next r {cs = ds} {rs = qs} k c) =
-    joined m l ds qs (stream (formatOf l m) m (stateOf s) next) (plain (nextAnswer (r .answer) (r .poi) (r .head)) (stateOf (r .stream))) (k .answer)
+    joined m l ds qs (stream (formatOf l) m (stateOf s) next) (plain (nextAnswer (r .answer) (r .poi) (r .head)) (stateOf (r .stream))) (k .answer)
     (called-run m l (r .stream) ds qs c)
 called-run m l s cs rs (call-accept r c₀ c la₀ lo₀ la lo {cs = ds} {rs = qs} k d) =
-    joined m l ds qs (stream (formatOf l m) m (stateOf s) (accept (lent c₀ la₀ lo₀))) (acceptStep r c la lo) k
+    joined m l ds qs (stream (formatOf l) m (stateOf s) (accept (lent c₀ la₀ lo₀))) (acceptStep r c la lo) k
     (called-run m l (r .stream) ds qs d)
 called-run m l s cs rs (call-decline r {cs = ds} {rs = qs} k d) =
-    joined m l ds qs (stream (formatOf l m) m (stateOf s) decline) (declineStep r) k
+    joined m l ds qs (stream (formatOf l) m (stateOf s) decline) (declineStep r) k
     (called-run m l (r .stream) ds qs d)

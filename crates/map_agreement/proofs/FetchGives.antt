@@ -1,4 +1,4 @@
--- What the fetches give is what the book is fed: the tag names that are found by a walk through the header are those of its value.
+-- What the fetches give is what the book is fed: the tag names at their listed starts are those of the header's value.
 use Prim.Native.Nat.{ℕ, zero, suc, _-_}
 use mathlib.Core.Path.{_≡_, refl, sym, ap, _∙_}
 use mathlib.Core.Bool.{Bool, true, false, cond}
@@ -9,14 +9,16 @@ use Rattle.parsing.specs.Parse.{Res, Part, Maybe, none, some, nth}
 use Rattle.text.specs.Utf8.{replaced}
 use Rattle.format.specs.Header.{Tags}
 use Rattle.format.specs.Index.{answer}
-use Rattle.format.specs.TagTable.{tableOf, tagText, named}
+use Rattle.format.specs.TagTable.{named}
+use Rattle.format.specs.TagLists.{listedText}
+use Rattle.types.specs.declared.TagRange.{TagRange}
 use Rattle.format.specs.Tile.{Point, Head, Body}
 use Rattle.tag.specs.declared.Kind.{Kind}
 use Rattle.agreement.specs.Collected as collected
 use Rattle.agreement.specs.Collected.{Way, StoredTile, storedCollection, storedTile, fetch}
 use Rattle.agreement.specs.View.{View, collectedTile}
 use Rattle.agreement.specs.TileFormat.{TileEnd, tileFormat}
-use Rattle.fetched.specs.Fetched.{bytesOf, foundBytes, listedName, walkedName, idTexts, present, tagString, filledTexts, Fetched, fetchedPoint, poiRecord, poiLists, fetchedWay, wayRecord, wayLists}
+use Rattle.fetched.specs.Fetched.{bytesOf, foundBytes, listedName, startedName, idTexts, present, tagString, filledTexts, Fetched, fetchedPoint, poiRecord, poiLists, fetchedWay, wayRecord, wayLists}
 use Rattle.fetched.specs.declared.TagText.{TagText}
 use Rattle.fetched.specs.declared.FetchedPoi.{FetchedPoi}
 use Rattle.fetched.specs.declared.FetchedWay.{FetchedWay}
@@ -24,8 +26,8 @@ use Rattle.fetch.specs.Fetch.{Feature, aPoi, aWay, fetchedAs, givenBy}
 use Rattle.map_agreement.specs.TileView.{tileView, fetchGives}
 
 -- the names
-pub name-is : (m : List ℕ) (t : Tags) → ((k : ℕ) → tagText (tableOf t) k m ≡ named k (nth (t .texts) k)) → (i : ℕ) → walkedName (tableOf t) m i ≡ listedName (t .texts) i
-name-is m t q i = ap foundBytes (q i) ∙ go (nth (t .texts) i)
+pub name-is : (starts m : List ℕ) (r : TagRange) (t : Tags) → ((k : ℕ) → listedText starts (r .first) (r .count) k m ≡ named k (nth (t .texts) k)) → (i : ℕ) → startedName starts r m i ≡ listedName (t .texts) i
+name-is starts m r t q i = ap foundBytes (q i) ∙ go (nth (t .texts) i)
   where
     go : (r : Maybe Part) → foundBytes (named i r) ≡ bytesOf r
     go none = refl

@@ -1,45 +1,16 @@
--- What a map that was opened with header h reads by its tables, and what the header's value says.
+-- Opening, as the machine of a whole map has it.
 use Prim.Native.Nat.{ℕ}
-use mathlib.Core.Path.{_≡_, refl, ap, _∙_, subst}
+use mathlib.Core.Path.{_≡_, refl, ap, _∙_}
 use mathlib.Core.Bool.{Bool, true, false, cond}
 use mathlib.Core.List.{List, [], _∷_, map}
-use lib.Dec.{eqb}
 use Rattle.parsing.specs.Parse.{Res, ok, no, andThen}
-use Rattle.parsing.specs.Good.{split, ok-val, no-ok}
-use Rattle.format.specs.Header.{Front, Options, Tags, Interval, Header, front, options, tags, intervals, tables, header, signature, signatures, opened, debug}
-use Rattle.format.specs.Kinds.{kindOfText, tagKinds}
-use Rattle.format.specs.TagTable.{tableOf}
-use Rattle.tag_kinds.proofs.KindLaws.{tagKinds-read}
+use Rattle.parsing.specs.Good.{split}
+use Rattle.format.specs.Header.{Interval, Header, intervals, header, signature, signatures, opened, debug}
 use Rattle.agreement.specs.MapLayout as layout
 use Rattle.agreement.specs.MapLayout.{openMap}
 use Rattle.format.specs.Index.{Grid}
 use Rattle.map_agreement.specs.MapsforgeMap.{signaturePlaces, mapsforge}
 
--- the kinds of both tables' tags
-pub record HeaderKinds (m : List ℕ) (h : Header) : Type 0 where
-  pub poi : tagKinds (tableOf (h .poiTags)) m ≡ map kindOfText (h .poiTags .texts)
-  pub way : tagKinds (tableOf (h .wayTags)) m ≡ map kindOfText (h .wayTags .texts)
-
-kept : (c : Bool) (f : Front) (o : Options) (p w : Tags) (z : List Interval) (x : ℕ) (h : Header) (e : ℕ) → cond c (no 5 []) (ok (record { front = f; options = o; poiTags = p; wayTags = w; intervals = z }) x) ≡ ok h e → record { front = f; options = o; poiTags = p; wayTags = w; intervals = z } ≡ h
-kept true f o p w z x h e q = no-ok q
-kept false f o p w z x h e q = ok-val q
-
-pub header-kinds : (m : List ℕ) (i : ℕ) (h : Header) (e : ℕ) → header m i ≡ ok h e → HeaderKinds m h
-unfolding header tables
-header-kinds m i h e q =
-    let f = split (front m i) _ h e q in
-    let o = split (options (f .val .flags) m (f .mid)) _ h e (f .second) in
-    let p = split (tags m (o .mid)) _ h e (o .second) in
-    let w = split (tags m (p .mid)) _ h e (p .second) in
-    let z = split (intervals m (w .mid)) _ h e (w .second) in
-    let g = kept (eqb (f .val .preamble .size) 0) (f .val) (o .val) (p .val) (w .val) (z .val) (z .mid) h e (z .second) in
-    subst (λ (h : Header). HeaderKinds m h) g
-    (record {
-      poi = tagKinds-read m (o .mid) (p .val) (p .mid) (p .first);
-      way = tagKinds-read m (p .mid) (w .val) (w .mid) (w .first);
-    })
-
--- opening, as the machine of a whole map has it
 same-signatures : (l : List Interval) (m : List ℕ) → signatures l m ≡ layout.signatures signature (map (λ z. z .start) l) m
 unfolding signatures
 same-signatures [] m = refl

@@ -2,25 +2,30 @@
 -- and what a program sees of such a map, where the machine's replies are the book's.
 use Prim.Native.Nat.{ℕ}
 use mathlib.Core.Path.{_≡_, refl, sym, ap, _∙_, subst}
-use mathlib.Core.Bool.{Bool}
+use mathlib.Core.Bool.{Bool, true, cond}
 use mathlib.Core.List.{List, [], _∷_, map}
+use lib.ListN.{length}
 use Rattle.parsing.specs.Parse.{Res, ok, no, andThen, mapRes, Part, Maybe, none, some, nth}
 use Rattle.parsing.specs.Good.{split, ok-val, ok-at, no-ok}
 use Rattle.format.specs.Header.{Interval, Header, header, opened, debug}
 use Rattle.format.specs.Index.{answer, answered, Grid, Located, located, locate, locateIn, inSubFile}
 use Rattle.format.specs.Index as index
-use Rattle.format.specs.Kinds.{kindOfText, tagKinds}
-use Rattle.format.specs.TagTable.{tableOf}
-use Rattle.format.specs.Lent.{Reply}
+use Rattle.format.specs.Kinds.{kindOfText}
+use Rattle.format.specs.TagLists.{TagLists, tagLists, listsFit, listsWritten, listsNeeded, kindsIn}
+use Rattle.format.proofs.ListLaws.{ListedKinds, kinds-listed}
+use Rattle.format.specs.Lent.{Replied, Reply}
 use Rattle.format.specs.Rows.{rowsUpto}
 use Rattle.format.specs.Tile.{tileHead, Point, Head, Body}
 use Rattle.tag.specs.declared.Kind.{Kind}
-use Rattle.types.specs.Types.{endRes, intervalsOf}
-use Rattle.types.specs.declared.End.the-variants as end
-use Rattle.header.specs.HeaderView.{mapHeader, HeaderIs}
-use Rattle.header.specs.declared.HeaderRead.{HeaderRead}
+use Rattle.types.specs.Types.{intervalsOf}
+use Rattle.header.specs.HeaderView.{mapHeader, emptyHeader}
+use Rattle.types.specs.Beside.{viewOr}
+use Rattle.opening.specs.Opening.{openEndRes, OpenIs}
+use Rattle.opening.specs.declared.MapRead.{MapRead}
+use Rattle.opening.specs.declared.OpenEnd.{OpenEnd}
+use Rattle.opening.specs.declared.OpenEnd.the-variants as end
 use Rattle.header.proofs.HeaderLaws.{intervals-back}
-use Rattle.tile_layout.specs.TileLayout.{layoutOf}
+use Rattle.tile_layout.specs.TileLayout.{layoutOf, kindsOf}
 use Rattle.tile_layout.specs.declared.TileLayout.{TileLayout}
 use Rattle.agreement.specs.Calls.{Answer, Call, run}
 use Rattle.tile_place.proofs.PlaceLaws.{located-found}
@@ -39,16 +44,14 @@ use Rattle.visit.specs.declared.OpenRead.the-variants as open-read
 use Rattle.tile.specs.Tile.{shownTile, collectTile}
 use Rattle.tile.specs.declared.Tile.{Tile}
 use Rattle.agreement.specs.Collected as collected
-use Rattle.fetched.specs.Fetched.{walkedName, Fetched}
+use Rattle.fetched.specs.Fetched.{startedName, Fetched}
 use Rattle.fetch.specs.Fetch as fetch
 use Rattle.map_agreement.specs.TileView.{tileView}
 use Rattle.map_agreement.specs.MapsforgeMap.{valueOf, interval, lowest, highest, mapsforge}
 use Rattle.map_agreement.specs.BookSays.{Opens, opens, bookAt, SeesBook}
 use Rattle.map_agreement.proofs.Chain.{shownReplies, called-run}
 use Rattle.map_agreement.proofs.MapLaws.{located-at}
-use Rattle.map_agreement.proofs.HeaderFacts.{HeaderKinds, header-kinds, header-of}
 use Rattle.types.specs.declared.MapHeader.{MapHeader}
-use Rattle.types.specs.declared.End.{End}
 use Rattle.index.specs.Answers.{heldEntry, heldRes, entryRes}
 use Rattle.index.specs.declared.TileIndexEntry.{TileIndexEntry}
 use Rattle.index.specs.declared.EntryRead.{EntryRead}
@@ -80,22 +83,47 @@ entry-answer : (r : EntryRead) {a : TileIndexEntry} → entryRes r ≡ answer a 
 entry-answer (entry-read.Entry b) q = ap entry-read.Entry (ok-val q)
 entry-answer (entry-read.Refused r) q = no-ok q
 
--- `from_source` has one answer
-ended-at : (v : MapHeader) (x : End) {w : MapHeader} {e : ℕ} → endRes v x ≡ ok w e → x ≡ end.At e
+-- `open_map` has one answer
+ended-at : (v : MapHeader) (x : OpenEnd) {w : MapHeader} {e : ℕ} → openEndRes v x ≡ ok w e → x ≡ end.At e
 ended-at v (end.At n) q = ap end.At (ok-at q)
 ended-at v (end.Refused r) q = no-ok q
 
-header-same : (h : Header) (e : ℕ) (a b : HeaderRead) → HeaderIs (ok h e) a → HeaderIs (ok h e) b → a ≡ b
-header-same h e a b p q =
-    ap (λ v. record { header = v; end = a .end }) (p .whole ∙ sym (q .whole))
-    ∙ ap (λ x. record { header = b .header; end = x }) (ended-at (a .header) (a .end) (p .answer) ∙ sym (ended-at (b .header) (b .end) (q .answer)))
+-- where the lists have room: the header, where it ends, and the tags listed
+pub record Listed (h : Header) (e : ℕ) (lent : TagLists) (b : MapRead) (t : TagLists) : Type 0 where
+  pub header : b .header ≡ mapHeader h
+  pub ends : b .end ≡ end.At e
+  pub tags : t ≡ listsWritten (tagLists h) lent
+
+module _ (h : Header) (e : ℕ) (lent : TagLists) (b : MapRead) (t : TagLists) (i : OpenIs (ok h e) lent b t) where
+  abbrev room : Bool
+  room = listsFit (tagLists h) lent
+
+  abbrev replied : Bool → Replied TagLists (Res Header)
+  replied c = cond c (record { answer = ok h e; lists = listsWritten (tagLists h) lent }) (record { answer = no 15 (listsNeeded (tagLists h)); lists = lent })
+
+  abbrev viewed : Replied TagLists (Res Header) → Replied TagLists (Res MapHeader)
+  viewed x = record { answer = mapRes mapHeader (x .answer); lists = x .lists }
+
+  pub listed-by : room ≡ true → Listed h e lent b t
+  listed-by r =
+      let q = i .answer ∙ ap (λ c. viewed (replied c)) r in
+      record {
+        header = i .whole ∙ ap (λ c. viewOr mapHeader emptyHeader (replied c .answer)) r;
+        ends = ended-at (b .header) (b .end) (ap (λ (x : Replied TagLists (Res MapHeader)). x .answer) q);
+        tags = ap (λ (x : Replied TagLists (Res MapHeader)). x .lists) q;
+      }
+
+open-same : (h : Header) (e : ℕ) (lent : TagLists) (a b : MapRead) (s t : TagLists) → Listed h e lent a s → Listed h e lent b t → a ≡ b
+open-same h e lent a b s t p q =
+    ap (λ v. record { header = v; end = a .end }) (p .header ∙ sym (q .header))
+    ∙ ap (λ x. record { header = b .header; end = x }) (p .ends ∙ sym (q .ends))
 
 -- a stream that opens is not refused
 pub never-refused : (q : OpenRead) {a : State TileEnd} → openRes q ≡ answer a → Opens q
 never-refused (open-read.Stream st) d = opens st
 never-refused (open-read.Refused r) d = no-ok d
 
-module _ (s : ℕ) (grid : Grid) (number : ℕ) (h : Header) where
+module _ (s : ℕ) (grid : Grid) (number : ℕ) (h : Header) (lent : TagLists) where
   abbrev C : MapLayout
   C = mapsforge s grid number
 
@@ -112,10 +140,18 @@ module _ (s : ℕ) (grid : Grid) (number : ℕ) (h : Header) where
   abbrev found : Maybe Interval
   found = nth (intervalsOf (mapHeader h)) s
 
-  module _ (m : List ℕ) (e : ℕ) (o : opened m ≡ ok h e) where
-    pub kinds : HeaderKinds m h
-    kinds = header-kinds m 0 h e (header-of m h e o)
+  -- and the tags that opening listed
+  abbrev tags : TagLists
+  tags = listsWritten (tagLists h) lent
 
+  kinds : ListedKinds h (tags .letters)
+  kinds = kinds-listed h lent
+
+  -- the kinds of the way tags
+  abbrev wayLetters : List Kind
+  wayLetters = kindsIn (tags .letters) (length (h .poiTags .texts)) (length (h .wayTags .texts))
+
+  module _ (m : List ℕ) (e : ℕ) (o : opened m ≡ ok h e) where
     pub located-as : locate (lay .debug) found grid number m ≡ answered (C .entry h m (C .entryAt h))
     unfolding locate
     located-as = ap (λ zs. inSubFile (nth zs s) (no 8 []) (λ z. locateIn (debug h) z grid number m)) (intervals-back h) ∙ located-at grid number (debug h) m (nth (h .intervals) s)
@@ -131,24 +167,24 @@ module _ (s : ℕ) (grid : Grid) (number : ℕ) (h : Header) where
       collects p w = answered (mapRes shownTile (collect (C .tileHead h l) (tileFormat (debug h) p w) m (C .tileAt h l)))
 
       -- collecting, by the header's value
-      pub collected-as : collectTile lay found grid number m ≡ collects poiKinds wayKinds
+      pub collected-as : collectTile (kindsOf lay (tags .letters)) found grid number m ≡ collects poiKinds wayKinds
       unfolding collectTile
       collected-as =
-          ap (λ r. andThen {B = Tile} r (λ l _. answered (mapRes shownTile (collect (C .tileHead h l) (formatOf lay m) m (C .tileAt h l))))) (located-as ∙ ap answered en)
-          ∙ ap (λ p. collects p (tagKinds (tableOf (h .wayTags)) m)) (kinds .poi)
+          ap (λ r. andThen {B = Tile} r (λ l _. answered (mapRes shownTile (collect (C .tileHead h l) (formatOf (kindsOf lay (tags .letters))) m (C .tileAt h l))))) (located-as ∙ ap answered en)
+          ∙ ap (λ p. collects p wayLetters) (kinds .poi)
           ∙ ap (λ w. collects poiKinds w) (kinds .way)
 
       -- fetching, by the header's value
       abbrev pub fetchesAt : (k : ℕ) (p w : List Kind) → Res (Fetched fetch.Feature)
       fetchesAt k p w =
           andThen (collect (C .tileHead h l) (tileFormat (debug h) p w) m (C .tileAt h l)) (λ t _.
-          fetch.givenBy (debug h) p w (walkedName (tableOf (h .poiTags)) m) (walkedName (tableOf (h .wayTags)) m) (collected.fetch (collected.storedTile t (record { subFile = s; water = l .entry .water })) k))
+          fetch.givenBy (debug h) p w (startedName (tags .starts) (lay .«poi_tags») m) (startedName (tags .starts) (lay .«way_tags») m) (collected.fetch (collected.storedTile t (record { subFile = s; water = l .entry .water })) k))
 
-      pub fetched-as : (k : ℕ) → fetch.fetchTile lay found grid number k m ≡ fetchesAt k poiKinds wayKinds
+      pub fetched-as : (k : ℕ) → fetch.fetchTile lay (tags .starts) (tags .letters) found grid number k m ≡ fetchesAt k poiKinds wayKinds
       unfolding fetch.fetchTile
       fetched-as k =
-          ap (λ r. andThen {B = Fetched fetch.Feature} r (λ l _. fetch.fetchAt lay k l m)) (located-as ∙ ap answered en)
-          ∙ ap (λ p. fetchesAt k p (tagKinds (tableOf (h .wayTags)) m)) (kinds .poi)
+          ap (λ r. andThen {B = Fetched fetch.Feature} r (λ l _. fetch.fetchAt lay (tags .starts) (tags .letters) k l m)) (located-as ∙ ap answered en)
+          ∙ ap (λ p. fetchesAt k p wayLetters) (kinds .poi)
           ∙ ap (λ w. fetchesAt k poiKinds w) (kinds .way)
 
       abbrev opensAt : (low high zoom : ℕ) → Res (State TileEnd)
@@ -178,16 +214,15 @@ module _ (s : ℕ) (grid : Grid) (number : ℕ) (h : Header) where
       says-book : machine poiKinds wayKinds (freshTile C h n t zoom) ≡ bookAt s grid number h n t zoom cs
       says-book = shown-same (debug h) poiKinds wayKinds (h .poiTags .texts) (h .wayTags .texts) (run (stream (C .format h) m) (freshTile C h n t zoom) cs) ∙ a .shown
 
-      pub sees-book : (b : HeaderRead) → HeaderIs (ok h e) b → SeesBook s grid number h n t m b lay found zoom cs
-      sees-book b d = record {
-        answers = λ h′ l′ i′ k.
-            let p : h′ ≡ b = header-same h e h′ b (subst (λ r. HeaderIs r h′) o (k .header)) d in
-            let q : h′ .header ≡ mapHeader h = ap (λ (x : HeaderRead). x .header) p ∙ d .whole in
-            (p, k .layout ∙ ap layoutOf q, k .interval ∙ ap (λ x. nth (intervalsOf x) s) q);
+      pub sees-book : listsFit (tagLists h) lent ≡ true → (b : MapRead) → Listed h e lent b tags → SeesBook s grid number h n t m lent b tags lay found zoom cs
+      sees-book r b d = record {
+        answers = λ h′ t′ l′ i′ k.
+            let f = listed-by h e lent h′ t′ (subst (λ x. OpenIs x lent h′ t′) o (k .header)) r in
+            (open-same h e lent h′ b t′ tags f d, f .tags, k .layout ∙ ap layoutOf (f .header), k .interval ∙ ap (λ x. nth (intervalsOf x) s) (f .header));
         streams = λ q r. never-refused q (r ∙ fresh-opens);
         replies = λ st r rs k.
-            called-run m lay st cs rs k
-            ∙ ap (λ p. machine p (tagKinds (tableOf (h .wayTags)) m) (stateOf st)) (kinds .poi)
+            called-run m (kindsOf lay (tags .letters)) st cs rs k
+            ∙ ap (λ p. machine p wayLetters (stateOf st)) (kinds .poi)
             ∙ ap (λ w. machine poiKinds w (stateOf st)) (kinds .way)
             ∙ ap (machine poiKinds wayKinds) (ok-val (r ∙ fresh-opens))
             ∙ says-book;

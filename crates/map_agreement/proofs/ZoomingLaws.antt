@@ -14,7 +14,7 @@ use Rattle.format.specs.Rows.{rowsUpto, locatedHead}
 use Rattle.format.specs.Tile.{Point, Head, Body}
 use Rattle.tagged.specs.declared.TagIds.{TagIds}
 use Rattle.poi.specs.declared.Poi.{Poi}
-use Rattle.tile_layout.specs.TileLayout.{formatOf}
+use Rattle.tile_layout.specs.TileLayout.{TileKinds, kindsOf, formatOf}
 use Rattle.tile_layout.specs.declared.TileLayout.{TileLayout}
 use Rattle.agreement.specs.Calls.{next, accept, decline, Answer, gotPoint, gotHead, gotBody, declined, ended, refused, Step, run, noLists, lending}
 use Rattle.agreement.specs.Format.{Format}
@@ -118,9 +118,9 @@ decides-first rule (suc n) no-way = no-way
 decides-first rule (suc n) (declines c d) = declines c (decides-first rule n d)
 decides-first rule (suc n) (accepts c d) = accepts c (decides-first rule n d)
 
-module _ (m : List ℕ) (l : TileLayout) (rule : (bitmap : ℕ) → TagIds → Bool) where
+module _ (m : List ℕ) (l : TileKinds) (rule : (bitmap : ℕ) → TagIds → Bool) where
   abbrev F : Format
-  F = formatOf l m
+  F = formatOf l
 
   -- the rule on a stored head
   abbrev stored : ℕ → Head → Bool
@@ -220,8 +220,8 @@ answered-read : {A : Type 0} (r : Res A) (a : A) → answered r ≡ answer a →
 answered-read (ok b x) a q = record { past = x; read = ap (λ y. ok y x) (ok-val q) }
 answered-read (no k v) a q = no-ok q
 
-module _ (m : List ℕ) (l : TileLayout) (i : Maybe Interval) (subFile : ℕ) (grid : Grid) (number zoom : ℕ) (rule : (bitmap : ℕ) → TagIds → Bool)
-    (lists : List LentLists) (points : List Poi) (ways : List SeenWay) (z : TileEnd) (saw : Saw m l i subFile grid number zoom rule lists points ways z) where
+module _ (m : List ℕ) (l : TileLayout) (letters : List ℕ) (i : Maybe Interval) (subFile : ℕ) (grid : Grid) (number zoom : ℕ) (rule : (bitmap : ℕ) → TagIds → Bool)
+    (lists : List LentLists) (points : List Poi) (ways : List SeenWay) (z : TileEnd) (saw : Saw m l letters i subFile grid number zoom rule lists points ways z) where
   module _ (place : Located) (at : ℕ) (found : locate (l .debug) i grid number m ≡ ok place at) where
     abbrev upto : ℕ → ℕ
     upto zoom = rowsUpto (place .interval .min) (place .interval .max) zoom
@@ -234,14 +234,14 @@ module _ (m : List ℕ) (l : TileLayout) (i : Maybe Interval) (subFile : ℕ) (g
     opened-at zoom = rw found
 
     -- what was seen, as the machine streams it
-    was : Streamed m l rule 0 (stateOf (saw .stream)) points ways z
+    was : Streamed m (kindsOf l letters) rule 0 (stateOf (saw .stream)) points ways z
     was =
-        streamed-points m l rule (stateOf (saw .stream)) z points (saw .decides)
-        (called-run m l (saw .stream) (callsOf points ways) (repliesOf points ways z) (saw .calls))
+        streamed-points m (kindsOf l letters) rule (stateOf (saw .stream)) z points (saw .decides)
+        (called-run m (kindsOf l letters) (saw .stream) (callsOf points ways) (repliesOf points ways z) (saw .calls))
 
-    adds : OnlyAdds (locatedHead (l .debug) place) (formatOf l m) m (stored m l rule) (tileAt place) end (upto zoom) (was .lent) (was .points) (was .ways) z
+    adds : OnlyAdds (locatedHead (l .debug) place) (formatOf (kindsOf l letters)) m (stored m (kindsOf l letters) rule) (tileAt place) end (upto zoom) (was .lent) (was .points) (was .ways) z
     adds =
-        zooming-in (locatedHead (l .debug) place) (head-counts (place .empty) (l .debug) _) (formatOf l m) (tile-laws _ _ _) (tile-advances _ _ _) m (saw .small) (stored m l rule) (tileAt place) end (upto zoom)
+        zooming-in (locatedHead (l .debug) place) (head-counts (place .empty) (l .debug) _) (formatOf (kindsOf l letters)) (tile-laws _ _ _) (tile-advances _ _ _) m (saw .small) (stored m (kindsOf l letters) rule) (tileAt place) end (upto zoom)
         (answered-read _ _ (sym (opened-at zoom) ∙ sym (saw .opens)) .read) (was .ends)
 
     module _ (zoom′ : ℕ) (le : zoom′ ≤ zoom) where
@@ -257,7 +257,7 @@ module _ (m : List ℕ) (l : TileLayout) (i : Maybe Interval) (subFile : ℕ) (g
       first-ways : map seen (take wayCount (was .ways)) ≡ take wayCount ways
       first-ways = sym (take-map seen wayCount (was .ways)) ∙ ap (take wayCount) (was .ways-shown)
 
-      will-see : WillSee m l i subFile grid number zoom′ pointCount wayCount rule lists points ways z
+      will-see : WillSee m l letters i subFile grid number zoom′ pointCount wayCount rule lists points ways z
       will-see =
           let f = adds .fewer (upto zoom′) (lower-zoom (place .interval .min) (place .interval .max) zoom zoom′ le) in
           let o : openTile l i subFile grid number zoom′ m ≡ answer (f .start) = opened-at zoom′ ∙ ap answered (f .opens) in
@@ -265,16 +265,16 @@ module _ (m : List ℕ) (l : TileLayout) (i : Maybe Interval) (subFile : ℕ) (g
             opens = λ r e. never-refused r (e ∙ o);
             decides = decides-first rule wayCount (saw .decides);
             replies = λ s e rs c.
-                called-run m l s (callsOf (take pointCount points) (take wayCount ways)) rs c
-                ∙ ap (λ x. shownReplies (run (stream (formatOf l m) m) x (callsOf (take pointCount points) (take wayCount ways)))) (ok-val (e ∙ o))
-                ∙ subst (λ ws. shownReplies (run (stream (formatOf l m) m) (f .start) (callsOf (take pointCount points) ws)) ≡ repliesOf (take pointCount points) ws z) first-ways
-                (subst (λ ps. shownReplies (run (stream (formatOf l m) m) (f .start) (callsOf ps (map seen (take wayCount (was .ways))))) ≡ repliesOf ps (map seen (take wayCount (was .ways))) z) first-points
-                (shown-all m l rule (f .ends)));
+                called-run m (kindsOf l letters) s (callsOf (take pointCount points) (take wayCount ways)) rs c
+                ∙ ap (λ x. shownReplies (run (stream (formatOf (kindsOf l letters)) m) x (callsOf (take pointCount points) (take wayCount ways)))) (ok-val (e ∙ o))
+                ∙ subst (λ ws. shownReplies (run (stream (formatOf (kindsOf l letters)) m) (f .start) (callsOf (take pointCount points) ws)) ≡ repliesOf (take pointCount points) ws z) first-ways
+                (subst (λ ps. shownReplies (run (stream (formatOf (kindsOf l letters)) m) (f .start) (callsOf ps (map seen (take wayCount (was .ways))))) ≡ repliesOf ps (map seen (take wayCount (was .ways))) z) first-points
+                (shown-all m (kindsOf l letters) rule (f .ends)));
             point-count = ap length (sym first-points) ∙ length-map (take pointCount (was .points)) shownPoint ∙ f .point-count;
             way-count = ap length (sym first-ways) ∙ length-map (take wayCount (was .ways)) seen ∙ f .way-count;
           }
 
-    from-place : ZoomingIn m l i subFile grid number zoom rule lists points ways z
+    from-place : ZoomingIn m l letters i subFile grid number zoom rule lists points ways z
     from-place = record {
       place = place;
       located = ap answered found;
@@ -285,12 +285,12 @@ module _ (m : List ℕ) (l : TileLayout) (i : Maybe Interval) (subFile : ℕ) (g
     }
 
   -- Zooming in only adds, from the contracts
-  pub zooming-says : ZoomingIn m l i subFile grid number zoom rule lists points ways z
+  pub zooming-says : ZoomingIn m l letters i subFile grid number zoom rule lists points ways z
   unfolding openTile
   zooming-says = go (locate (l .debug) i grid number m) refl (saw .opens)
     where
       go : (r : Res Located) → locate (l .debug) i grid number m ≡ r
           → openRes (open-read.Stream (saw .stream)) ≡ andThen {B = State TileEnd} r (λ a _. answered (openStream (locatedHead (l .debug) a) (rowsUpto (a .interval .min) (a .interval .max) zoom) (record { subFile = subFile; water = a .entry .water }) m (tileAt a)))
-          → ZoomingIn m l i subFile grid number zoom rule lists points ways z
+          → ZoomingIn m l letters i subFile grid number zoom rule lists points ways z
       go (ok a e) f q = from-place a e f
       go (no k v) f q = no-ok (sym q)

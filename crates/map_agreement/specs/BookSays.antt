@@ -9,15 +9,16 @@ use Rattle.parsing.specs.Parse.{Part, Maybe, nth}
 use Rattle.format.specs.Header.{Interval, Header, opened}
 use Rattle.format.specs.Index.{Grid, Located, tileIndexEntry}
 use Rattle.format.specs.Lent.{Reply}
-use Rattle.types.specs.declared.End.the-variants as end
+use Rattle.format.specs.TagLists.{TagLists}
 use Rattle.types.specs.Types.{intervalsOf}
-use Rattle.header.specs.HeaderView.{HeaderIs}
-use Rattle.header.specs.declared.HeaderRead.{HeaderRead}
+use Rattle.opening.specs.Opening.{OpenIs}
+use Rattle.opening.specs.declared.MapRead.{MapRead}
+use Rattle.opening.specs.declared.OpenEnd.the-variants as end
 use Rattle.index.specs.Answers.{intervalFound, heldEntry, heldRes, entryRes}
 use Rattle.index.specs.declared.IntervalRead.{IntervalRead}
 use Rattle.index.specs.declared.EntryRead.{EntryRead}
 use Rattle.index.specs.declared.EntryRead.the-variants as entry-read
-use Rattle.tile_layout.specs.TileLayout.{layoutOf}
+use Rattle.tile_layout.specs.TileLayout.{layoutOf, kindsOf}
 use Rattle.tile_layout.specs.declared.TileLayout.{TileLayout}
 use Rattle.agreement.specs.Calls.{Call}
 use Rattle.agreement.specs.Book.{bookReplies}
@@ -41,20 +42,20 @@ use Rattle.map_agreement.specs.MapsforgeMap.{mapsforge}
 use Rattle.map_agreement.specs.Called.{Called}
 use Rattle.map_agreement.specs.Texts.{textsFound, textsStored}
 
--- the contracts of `from_source`, `layout_of` and `interval_of`: what they answer of a map
-pub record Answers (m : List ℕ) (subFile : ℕ) (h : HeaderRead) (l : TileLayout) (i : Maybe Interval) : Type 0 where
-  pub header : HeaderIs (opened m) h
+-- the contracts of `open_map`, `layout_of` and `interval_of`: what they answer of a map, and what opening leaves of the lists that it was lent
+pub record Answers (m : List ℕ) (subFile : ℕ) (lent : TagLists) (h : MapRead) (t : TagLists) (l : TileLayout) (i : Maybe Interval) : Type 0 where
+  pub header : OpenIs (opened m) lent h t
   pub layout : l ≡ layoutOf (h .header)
   pub interval : i ≡ nth (intervalsOf (h .header)) subFile
 
--- and that of `read_tile`: the map opened, the tile collected, and collecting said that every stored size is the decoded length. (No
--- lent map has 2 ^ 64 bytes.)
-pub record Collected (m : List ℕ) (subFile : ℕ) (grid : Grid) (number : ℕ) (h : HeaderRead) (l : TileLayout) (i : IntervalRead) (t : TileRead) : Type 0 where
+-- and that of `read_tile`: the map opened, the tile collected, and collecting said that every stored size is the decoded length. The tags
+-- are those that opening listed, and nobody has written the lists since. (No lent map has 2 ^ 64 bytes.)
+pub record Collected (m : List ℕ) (subFile : ℕ) (grid : Grid) (number : ℕ) (lent : TagLists) (h : MapRead) (tags : TagLists) (l : TileLayout) (i : IntervalRead) (t : TileRead) : Type 0 where
   pub small : length m < 2 ^ 64
-  pub answers : Answers m subFile h l (intervalFound i)
+  pub answers : Answers m subFile lent h tags l (intervalFound i)
   pub headerEnd : ℕ
   pub opens : h .end ≡ end.At headerEnd
-  pub tile : TileIs (collectTile l (intervalFound i) grid number m) t
+  pub tile : TileIs (collectTile (kindsOf l (tags .letters)) (intervalFound i) grid number m) t
   pub collects : t .answer ≡ tile-answer.Collected
   pub exact : t .tile .exact ≡ true
 
@@ -62,14 +63,14 @@ pub record Collected (m : List ℕ) (subFile : ℕ) (grid : Grid) (number : ℕ)
 pub data Opens : OpenRead → Type 0 where
   opens : (s : Stream) → Opens (open-read.Stream s)
 
--- What a program sees of a map at a zoom, when it makes the calls cs. However it opens the map, it is answered h, l and i. The tile's
--- stream opens; the calls get these replies, in answers and lent lists; and where the replies give texts, these stand in the map.
-pub record Sees (m : List ℕ) (subFile : ℕ) (grid : Grid) (number zoom : ℕ) (h : HeaderRead) (l : TileLayout) (i : Maybe Interval) (cs : List Call)
+-- What a program sees of a map at a zoom, when it makes the calls cs. However it opens the map, with the same lent lists, it is answered h,
+-- l and i, and the lists are left as t. The tile's stream opens; the calls get these replies, in answers and lent lists; and where the replies give texts, these stand in the map.
+pub record Sees (m : List ℕ) (subFile : ℕ) (grid : Grid) (number zoom : ℕ) (lent : TagLists) (h : MapRead) (t : TagLists) (l : TileLayout) (i : Maybe Interval) (cs : List Call)
     (replied : List (Reply ShownAnswer)) (spelled : List (List (Maybe Part))) : Type 0 where
-  pub answers : (h′ : HeaderRead) (l′ : TileLayout) (i′ : Maybe Interval) → Answers m subFile h′ l′ i′ → (h′ ≡ h) × (l′ ≡ l) × (i′ ≡ i)
+  pub answers : (h′ : MapRead) (t′ : TagLists) (l′ : TileLayout) (i′ : Maybe Interval) → Answers m subFile lent h′ t′ l′ i′ → (h′ ≡ h) × (t′ ≡ t) × (l′ ≡ l) × (i′ ≡ i)
   pub streams : (o : OpenRead) → openRes o ≡ openTile l i subFile grid number zoom m → Opens o
   pub replies : (s : Stream) → openRes (open-read.Stream s) ≡ openTile l i subFile grid number zoom m
-      → (rs : List (Reply ShownAnswer)) → Called m l s cs rs → rs ≡ replied
+      → (rs : List (Reply ShownAnswer)) → Called m (kindsOf l (t .letters)) s cs rs → rs ≡ replied
   pub texts : textsFound m replied ≡ spelled
 
 -- the book, by the map's stored header, the tile's place and the tile as stored: it knows nothing of the map's bytes
@@ -86,28 +87,28 @@ module _ (subFile : ℕ) (grid : Grid) (number : ℕ) (stored : Header) (place :
   textsAt zoom cs = textsStored (mapReplies (mapsforge subFile grid number) stored place tile zoom cs)
 
   -- what a program is to see of the map x
-  abbrev pub SeesBook : (x : List ℕ) → HeaderRead → TileLayout → Maybe Interval → (zoom : ℕ) → List Call → Type 0
-  SeesBook x h l i zoom cs = Sees x subFile grid number zoom h l i cs (bookAt zoom cs) (textsAt zoom cs)
+  abbrev pub SeesBook : (x : List ℕ) → (lent : TagLists) → MapRead → TagLists → TileLayout → Maybe Interval → (zoom : ℕ) → List Call → Type 0
+  SeesBook x lent h t l i zoom cs = Sees x subFile grid number zoom lent h t l i cs (bookAt zoom cs) (textsAt zoom cs)
 
 -- The map's stored header and the tile as stored, of which demand 3 holds. `shows`, `entry`, `fetches`: what the book is fed is what
 -- collecting answers, what `tile_index_entry` answers, and what the fetches give. `sees`: whatever a program calls, it sees the book's
 -- replies. `altered`, `literal`: so it does on a map of the same length that is altered in ways declined untried, though the tile need
 -- not collect there (agreement, Demand3.antt, says why there are two).
-pub record BookSays (m : List ℕ) (subFile : ℕ) (grid : Grid) (number : ℕ) (h : HeaderRead) (l : TileLayout) (i : Maybe Interval) : Type 0 where
+pub record BookSays (m : List ℕ) (subFile : ℕ) (grid : Grid) (number : ℕ) (lent : TagLists) (h : MapRead) (tags : TagLists) (l : TileLayout) (i : Maybe Interval) : Type 0 where
   pub stored : Header
   pub place : Located
   pub tile : StoredTile (mapsforge subFile grid number .format stored)
   pub collects : MapCollects (mapsforge subFile grid number) m stored place tile
   pub demand-3 : Demand3 (mapsforge subFile grid number) m stored place tile
-  pub shows : (t : TileRead) → TileIs (collectTile l i grid number m) t → t .tile ≡ shownTile tile
+  pub shows : (t : TileRead) → TileIs (collectTile (kindsOf l (tags .letters)) i grid number m) t → t .tile ≡ shownTile tile
   pub entry : (r : EntryRead) → entryRes r ≡ heldRes (tileIndexEntry (l .debug) i grid number m) → r ≡ entry-read.Entry (heldEntry (place .entry))
-  pub fetches : (k : ℕ) (lent left : FetchLists) (r : Fetch) → FeatureIs (fetchTile l i grid number k m) lent r left
-      → FeatureIs (fetchGives (fetch (fedTile subFile grid number stored place tile) k)) lent r left
-  pub sees : (zoom : ℕ) (cs : List Call) → SeesBook subFile grid number stored place tile m h l i zoom cs
+  pub fetches : (k : ℕ) (lists left : FetchLists) (r : Fetch) → FeatureIs (fetchTile l (tags .starts) (tags .letters) i grid number k m) lists r left
+      → FeatureIs (fetchGives (fetch (fedTile subFile grid number stored place tile) k)) lists r left
+  pub sees : (zoom : ℕ) (cs : List Call) → SeesBook subFile grid number stored place tile m lent h tags l i zoom cs
   pub altered : (zoom : ℕ) (cs : List Call) (m′ : List ℕ)
       → DifferOnly m m′ (MapAlterable (mapsforge subFile grid number) m stored tile zoom cs (mapReplies (mapsforge subFile grid number) stored place tile zoom cs))
-      → SeesBook subFile grid number stored place tile m′ h l i zoom cs
+      → SeesBook subFile grid number stored place tile m′ lent h tags l i zoom cs
   pub literal : (zoom : ℕ) (cs : List Call) (m′ : List ℕ)
       → WaysBehind (mapsforge subFile grid number .format stored) m tile (rowsAt (mapsforge subFile grid number) stored zoom)
       → DifferOnly m m′ (OnlyDeclined (mapsforge subFile grid number) m stored cs (mapReplies (mapsforge subFile grid number) stored place tile zoom cs))
-      → SeesBook subFile grid number stored place tile m′ h l i zoom cs
+      → SeesBook subFile grid number stored place tile m′ lent h tags l i zoom cs

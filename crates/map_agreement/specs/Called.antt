@@ -9,8 +9,7 @@ use Rattle.format.specs.BodyLists.{bodyLists}
 use Rattle.format.specs.Lent.{Reply}
 use Rattle.format.specs.Tile.{body}
 use Rattle.way_data.specs.Reply.{lent}
-use Rattle.tile_layout.specs.TileLayout.{formatOf}
-use Rattle.tile_layout.specs.declared.TileLayout.{TileLayout}
+use Rattle.tile_layout.specs.TileLayout.{TileKinds, formatOf}
 use Rattle.agreement.specs.Calls.{Call, next, accept, decline, noLists}
 use Rattle.agreement.specs.Stream.{onNext, onAccept, onDecline}
 use Rattle.visit.specs.Visit.{stateOf, ShownAnswer, shownStep, nextAnswer, NextIs, acceptAnswer, acceptStep, declineAnswer, declineStep}
@@ -19,11 +18,11 @@ use Rattle.visit.specs.declared.NextStep.{NextStep}
 use Rattle.visit.specs.declared.Accepted.{Accepted}
 use Rattle.visit.specs.declared.Declined.{Declined}
 
--- calls on the map m from stream s on, and the replies that the program saw
-pub data Called (m : List ℕ) (l : TileLayout) : Stream → List Call → List (Reply ShownAnswer) → Type 0 where
+-- calls on the map m from stream s on, with one layout and one list of letters, and the replies that the program saw
+pub data Called (m : List ℕ) (l : TileKinds) : Stream → List Call → List (Reply ShownAnswer) → Type 0 where
   no-call : {s : Stream} → Called m l s [] []
   call-next : (r : NextStep) {s : Stream} {cs : List Call} {rs : List (Reply ShownAnswer)}
-      → NextIs (shownStep (onNext (formatOf l m) m (stateOf s))) r
+      → NextIs (shownStep (onNext (formatOf l) m (stateOf s))) r
       → Called m l (r .stream) cs rs
       → Called m l s (next ∷ cs) (record { answer = nextAnswer (r .answer) (r .poi) (r .head); lists = noLists } ∷ rs)
   call-accept : (r : Accepted) (c₀ c : List ℕ) (la₀ lo₀ la lo : List Float) {s : Stream} {cs : List Call} {rs : List (Reply ShownAnswer)}

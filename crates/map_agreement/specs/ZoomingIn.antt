@@ -1,5 +1,6 @@
 -- Zooming in only adds (request 12, document 02), from the functions' contracts: what a program saw of a tile's stream at one zoom tells
--- what it will see at every lower one. Nothing is supposed of collecting or of stored sizes, nor that layout and interval are the map's own.
+-- what it will see at every lower one. Nothing is supposed of collecting or of stored sizes, nor that layout, interval
+-- and letters are the map's own.
 use Prim.Native.Nat.{ℕ, _^_, _≤_, _<_}
 use mathlib.Core.Path.{_≡_}
 use mathlib.Core.Bool.{Bool, true, false}
@@ -13,6 +14,7 @@ use Rattle.format.specs.Rows.{rowsUpto, locatedHead}
 use Rattle.format.specs.Tile.{TileHead}
 use Rattle.tagged.specs.declared.TagIds.{TagIds}
 use Rattle.poi.specs.declared.Poi.{Poi}
+use Rattle.tile_layout.specs.TileLayout.{kindsOf}
 use Rattle.tile_layout.specs.declared.TileLayout.{TileLayout}
 use Rattle.agreement.specs.Calls.{Call, next, accept, decline, Answer, gotPoint, gotHead, gotBody, declined, ended, noLists}
 use Rattle.agreement.specs.Heads.{pointsUpTo, waysUpTo}
@@ -65,35 +67,35 @@ pub data Decides (rule : (bitmap : ℕ) → TagIds → Bool) : (lists : List Len
 
 -- What the program saw at a zoom: the contract of `open`, which gave a stream, and those of `next`, `accept` and `decline`, call for call,
 -- to a good end. (No lent map has 2 ^ 64 bytes.)
-pub record Saw (m : List ℕ) (l : TileLayout) (i : Maybe Interval) (subFile : ℕ) (grid : Grid) (number zoom : ℕ) (rule : (bitmap : ℕ) → TagIds → Bool) (lists : List LentLists) (points : List Poi) (ways : List SeenWay) (z : TileEnd) : Type 0 where
+pub record Saw (m : List ℕ) (l : TileLayout) (letters : List ℕ) (i : Maybe Interval) (subFile : ℕ) (grid : Grid) (number zoom : ℕ) (rule : (bitmap : ℕ) → TagIds → Bool) (lists : List LentLists) (points : List Poi) (ways : List SeenWay) (z : TileEnd) : Type 0 where
   pub small : length m < 2 ^ 64
   pub stream : Stream
   pub opens : openRes (open-read.Stream stream) ≡ openTile l i subFile grid number zoom m
   pub decides : Decides rule lists ways
-  pub calls : Called m l stream (callsOf points ways) (repliesOf points ways z)
+  pub calls : Called m (kindsOf l letters) stream (callsOf points ways) (repliesOf points ways z)
 
 -- What it will see at a lower zoom, of which the zoom table counts so many points and ways: the stream opens; the rule decides the first
 -- ways as it did, with the same lists from the first on; and the replies to the calls that it then makes are the first points and the
 -- first ways, field for field and list for list, and the same end. There are as many of them as are counted.
-pub record WillSee (m : List ℕ) (l : TileLayout) (i : Maybe Interval) (subFile : ℕ) (grid : Grid) (number zoom pointCount wayCount : ℕ) (rule : (bitmap : ℕ) → TagIds → Bool) (lists : List LentLists) (points : List Poi) (ways : List SeenWay) (z : TileEnd) : Type 0 where
+pub record WillSee (m : List ℕ) (l : TileLayout) (letters : List ℕ) (i : Maybe Interval) (subFile : ℕ) (grid : Grid) (number zoom pointCount wayCount : ℕ) (rule : (bitmap : ℕ) → TagIds → Bool) (lists : List LentLists) (points : List Poi) (ways : List SeenWay) (z : TileEnd) : Type 0 where
   pub opens : (o : OpenRead) → openRes o ≡ openTile l i subFile grid number zoom m → Opens o
   pub decides : Decides rule lists (take wayCount ways)
   pub replies : (s : Stream) → openRes (open-read.Stream s) ≡ openTile l i subFile grid number zoom m
-      → (rs : List (Reply ShownAnswer)) → Called m l s (callsOf (take pointCount points) (take wayCount ways)) rs
+      → (rs : List (Reply ShownAnswer)) → Called m (kindsOf l letters) s (callsOf (take pointCount points) (take wayCount ways)) rs
       → rs ≡ repliesOf (take pointCount points) (take wayCount ways) z
   pub point-count : length (take pointCount points) ≡ pointCount
   pub way-count : length (take wayCount ways) ≡ wayCount
 
 -- The tile has a head, at the place that its entry names; marked empty, it has an empty one. At every lower zoom the program sees the first points and the first ways, as
 -- many as the head's zoom table counts up to that zoom, clamped into the interval.
-pub record ZoomingIn (m : List ℕ) (l : TileLayout) (i : Maybe Interval) (subFile : ℕ) (grid : Grid) (number zoom : ℕ) (rule : (bitmap : ℕ) → TagIds → Bool) (lists : List LentLists) (points : List Poi) (ways : List SeenWay) (z : TileEnd) : Type 0 where
+pub record ZoomingIn (m : List ℕ) (l : TileLayout) (letters : List ℕ) (i : Maybe Interval) (subFile : ℕ) (grid : Grid) (number zoom : ℕ) (rule : (bitmap : ℕ) → TagIds → Bool) (lists : List LentLists) (points : List Poi) (ways : List SeenWay) (z : TileEnd) : Type 0 where
   pub place : Located
   pub located : answered (locate (l .debug) i grid number m) ≡ answer place
   pub head : TileHead
   pub behind : ℕ
   pub read : locatedHead (l .debug) place m (tileAt place) ≡ ok head behind
   pub lower : (zoom′ : ℕ) → zoom′ ≤ zoom
-      → WillSee m l i subFile grid number zoom′
+      → WillSee m l letters i subFile grid number zoom′
       (pointsUpTo (head .table) (rowsUpto (place .interval .min) (place .interval .max) zoom′))
       (waysUpTo (head .table) (rowsUpto (place .interval .min) (place .interval .max) zoom′))
       rule lists points ways z

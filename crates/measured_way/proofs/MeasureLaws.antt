@@ -17,15 +17,14 @@ use Rattle.error.specs.declared.LentRefusal.the-variants as lent-refusal
 use Rattle.error.specs.declared.Refusal.{Refusal}
 use Rattle.arithmetic.specs.Cut.{cut}
 use Rattle.arithmetic.proofs.CutLaws.{cut-fits}
-use Rattle.format.specs.Kinds.{tagKinds}
 use Rattle.format.specs.WayData.{Node, concat, nodeCount}
 use Rattle.format.specs.Nodes.{latitudeOf, longitudeOf, nodeCounts, latitudes, longitudes, initialLatitudes, initialLongitudes}
 use Rattle.format.specs.Tile.{Head, head, Body, body, doubleDelta}
 use Rattle.types.specs.Types.{endRes, endRefusal, maybePart}
 use Rattle.types.specs.Beside.{viewOr}
 use Rattle.types.specs.declared.End.the-variants as end
-use Rattle.types.specs.declared.TagTable.{TagTable}
-use Rattle.tag_table.specs.Tables.{tableIn}
+use Rattle.types.specs.declared.TagRange.{TagRange}
+use Rattle.tag_table.specs.Tables.{kindsBy}
 use Rattle.tagged.specs.TagIds.{tagIds}
 use Rattle.way.specs.Way.{bodyOf, bodyRes, bodyRefusal}
 use Rattle.way.specs.declared.WayBody.{WayBody}
@@ -35,7 +34,7 @@ use Rattle.way_data.proofs.BlockLaws.{length-along}
 use Rattle.way_head.specs.WayHead.{headOf, HeadIs}
 use Rattle.way_head.specs.declared.WayHead.{WayHead}
 use Rattle.way_head.specs.declared.WayHeadRead.{WayHeadRead}
-use Rattle.fetched.specs.Fetched.{walkedName, buffered, featureTexts, noTexts, wayLists, wayRecord, neededAll}
+use Rattle.fetched.specs.Fetched.{startedName, buffered, featureTexts, noTexts, wayLists, wayRecord, neededAll}
 use Rattle.fetched.specs.declared.FeatureTexts.{FeatureTexts}
 use Rattle.fetched.specs.declared.FetchEnd.{FetchEnd}
 use Rattle.fetched.specs.declared.FetchEnd.the-variants as fetch-end
@@ -93,9 +92,9 @@ module _ (blocks nodes texts : ℕ) (l : Lengths) where
       other false q = lt-ltb (l .buffer) texts (leb-false texts (l .buffer) q)
 
 -- a way that was read
-module _ (t : TagTable) (m : List ℕ) (s : Head) (d : Body) (start next : ℕ) (few : length (s .tagged .ids) ≤ 15) (rd : body m start ≡ ok d next) where
+module _ (starts : List ℕ) (t : TagRange) (m : List ℕ) (s : Head) (d : Body) (start next : ℕ) (few : length (s .tagged .ids) ≤ 15) (rd : body m start ≡ ok d next) where
   abbrev pub name : ℕ → List ℕ
-  name = walkedName (tableIn t) m
+  name = startedName starts t m
 
   abbrev pub bytes : List ℕ
   bytes = buffered name (s .tagged .ids) (d .fields .name) (d .fields .houseNumber) (d .fields .reference)
@@ -109,16 +108,16 @@ module _ (t : TagTable) (m : List ℕ) (s : Head) (d : Body) (start next : ℕ) 
   texts-in : WayTexts m (d .fields)
   texts-in = body-texts m .holds start d next rd
 
-  pub texts-are : textsIn parts m (s .tagged .ids) ≡ bytes
+  pub texts-are : textsIn starts parts m (s .tagged .ids) ≡ bytes
   texts-are =
       ap (λ x. buffered name (s .tagged .ids) x (maybePart m (bodyOf d .«house_number»)) (maybePart m (bodyOf d .reference))) (texts-in .name .same)
       ∙ ap (λ x. buffered name (s .tagged .ids) (d .fields .name) x (maybePart m (bodyOf d .reference))) (texts-in .houseNumber .same)
       ∙ ap (λ x. buffered name (s .tagged .ids) (d .fields .name) (d .fields .houseNumber) x) (texts-in .reference .same)
 
   pub few-bytes : length bytes < 2 ^ 64 - 1
-  few-bytes = texts-short (tableIn t) m (s .tagged .ids) (d .fields .name) (d .fields .houseNumber) (d .fields .reference) few (texts-in .name) (texts-in .houseNumber) (texts-in .reference)
+  few-bytes = texts-short starts t m (s .tagged .ids) (d .fields .name) (d .fields .houseNumber) (d .fields .reference) few (texts-in .name) (texts-in .houseNumber) (texts-in .reference)
 
-  described : textsOf parts m (s .tagged .ids) ≡ featureTexts name (s .tagged .ids) (d .fields .name) (d .fields .houseNumber) (d .fields .reference)
+  described : textsOf starts parts m (s .tagged .ids) ≡ featureTexts name (s .tagged .ids) (d .fields .name) (d .fields .houseNumber) (d .fields .reference)
   described =
       ap (λ x. featureTexts name (take 15 (s .tagged .ids)) x (maybePart m (bodyOf d .«house_number»)) (maybePart m (bodyOf d .reference))) (texts-in .name .same)
       ∙ ap (λ x. featureTexts name (take 15 (s .tagged .ids)) (d .fields .name) x (maybePart m (bodyOf d .reference))) (texts-in .houseNumber .same)
@@ -147,88 +146,88 @@ module _ (t : TagTable) (m : List ℕ) (s : Head) (d : Body) (start next : ℕ) 
   needed-is : neededAll (wayLists name s d) ≡ lengths (length all) (nodeCount all) (nodeCount all) (length all) (length all) (length bytes)
   needed-is = rw (counts-length, lats-length, lons-length, initial-lats-length, initial-lons-length) refl
 
-  measured-short : (room : Lengths) → roomy (length all) (nodeCount all) (length bytes) room ≡ false → lentRefused (tooShort (length all) (nodeCount all) (length bytes)) ≡ measured room (ok (toldOf t m s start d) next)
+  measured-short : (room : Lengths) → roomy (length all) (nodeCount all) (length bytes) room ≡ false → lentRefused (tooShort (length all) (nodeCount all) (length bytes)) ≡ measured room (ok (toldOf starts t m s start d) next)
   measured-short room q = ap (no 15) (sym needed-is) ∙ rw (fits-is room, q) refl
 
-  measured-done : (room : Lengths) → roomy (length all) (nodeCount all) (length bytes) room ≡ true → ok (toldOf t m s start d) next ≡ measured room (ok (toldOf t m s start d) next)
+  measured-done : (room : Lengths) → roomy (length all) (nodeCount all) (length bytes) room ≡ true → ok (toldOf starts t m s start d) next ≡ measured room (ok (toldOf starts t m s start d) next)
   measured-done room q = rw (fits-is room, q) refl
 
 -- told by what was measured
-module _ (t : TagTable) (h : WayHead) (b : WayBody) (ids : List ℕ) (start next : ℕ) (room : Lengths) (m : List ℕ) (pr : TextParts) (k : pr ≡ wayParts b t) (len : ℕ) (l : len ≡ cut (length (textsIn pr m ids)))
+module _ (starts : List ℕ) (t : TagRange) (h : WayHead) (b : WayBody) (ids : List ℕ) (start next : ℕ) (room : Lengths) (m : List ℕ) (pr : TextParts) (k : pr ≡ wayParts b t) (len : ℕ) (l : len ≡ cut (length (textsIn starts pr m ids)))
     (g : Bool) (j : g ≡ not (roomy (b .blocks) (b .nodes) len room)) where
   module _ (s : Head) (d : Body) (hs : h ≡ headOf s) (is : ids ≡ s .tagged .ids) (few : length ids ≤ 15) (bd : b ≡ bodyOf d) (rd : body m start ≡ ok d next) where
     few-ids : length (s .tagged .ids) ≤ 15
     few-ids = let e = ap length is in omega arith
 
-    measured-bytes : len ≡ length (bytes t m s d start next few-ids rd)
+    measured-bytes : len ≡ length (bytes starts t m s d start next few-ids rd)
     measured-bytes =
-        let f = few-bytes t m s d start next few-ids rd in
-        l ∙ ap (λ x. cut (length (textsIn x m ids))) k ∙ ap (λ x. cut (length (textsIn (wayParts x t) m ids))) bd ∙ ap (λ x. cut (length (textsIn (wayParts (bodyOf d) t) m x))) is
-        ∙ ap (λ x. cut (length x)) (texts-are t m s d start next few-ids rd) ∙ cut-fits (length (bytes t m s d start next few-ids rd)) (omega arith)
+        let f = few-bytes starts t m s d start next few-ids rd in
+        l ∙ ap (λ x. cut (length (textsIn starts x m ids))) k ∙ ap (λ x. cut (length (textsIn starts (wayParts x t) m ids))) bd ∙ ap (λ x. cut (length (textsIn starts (wayParts (bodyOf d) t) m x))) is
+        ∙ ap (λ x. cut (length x)) (texts-are starts t m s d start next few-ids rd) ∙ cut-fits (length (bytes starts t m s d start next few-ids rd)) (omega arith)
 
-    tested : (c : Bool) → roomy (b .blocks) (b .nodes) len room ≡ c → roomy (length (concat (d .dataBlocks))) (nodeCount (concat (d .dataBlocks))) (length (bytes t m s d start next few-ids rd)) room ≡ c
+    tested : (c : Bool) → roomy (b .blocks) (b .nodes) len room ≡ c → roomy (length (concat (d .dataBlocks))) (nodeCount (concat (d .dataBlocks))) (length (bytes starts t m s d start next few-ids rd)) room ≡ c
     tested c q = ap (λ x. roomy (length (concat (d .dataBlocks))) (nodeCount (concat (d .dataBlocks))) x room) (sym measured-bytes) ∙ ap (λ (x : WayBody). roomy (x .blocks) (x .nodes) len room) (sym bd) ∙ q
 
-    refused-as : (x : LentRefusal) → x ≡ tooShort (b .blocks) (b .nodes) len → x ≡ tooShort (length (concat (d .dataBlocks))) (nodeCount (concat (d .dataBlocks))) (length (bytes t m s d start next few-ids rd))
+    refused-as : (x : LentRefusal) → x ≡ tooShort (b .blocks) (b .nodes) len → x ≡ tooShort (length (concat (d .dataBlocks))) (nodeCount (concat (d .dataBlocks))) (length (bytes starts t m s d start next few-ids rd))
     refused-as x q = q ∙ ap (λ (y : WayBody). tooShort (y .blocks) (y .nodes) len) bd ∙ ap (tooShort (length (concat (d .dataBlocks))) (nodeCount (concat (d .dataBlocks)))) measured-bytes
 
-    shown-as : (tx : FeatureTexts) (v : FetchedWay) → tx ≡ textsOf pr m ids → v ≡ wayWith h b tx → _≡_ {A = Shown} (record { way = v; texts = textsWith h pr; lists = listsWith b start }) (shownOf (toldOf t m s start d))
+    shown-as : (tx : FeatureTexts) (v : FetchedWay) → tx ≡ textsOf starts pr m ids → v ≡ wayWith h b tx → _≡_ {A = Shown} (record { way = v; texts = textsWith h pr; lists = listsWith b start }) (shownOf (toldOf starts t m s start d))
     shown-as tx v q w =
-        let x : tx ≡ featureTexts (walkedName (tableIn t) m) (s .tagged .ids) (d .fields .name) (d .fields .houseNumber) (d .fields .reference) =
-        q ∙ ap (λ x. textsOf x m ids) k ∙ ap (λ x. textsOf (wayParts x t) m ids) bd ∙ ap (textsOf (wayParts (bodyOf d) t) m) is ∙ described t m s d start next few-ids rd in
-        let y : v ≡ wayRecord (walkedName (tableIn t) m) s d = w ∙ ap (λ x. wayWith x b tx) hs ∙ ap (λ x. wayWith (headOf s) x tx) bd ∙ ap (wayWith (headOf s) (bodyOf d)) x in
+        let x : tx ≡ featureTexts (startedName starts t m) (s .tagged .ids) (d .fields .name) (d .fields .houseNumber) (d .fields .reference) =
+        q ∙ ap (λ x. textsOf starts x m ids) k ∙ ap (λ x. textsOf starts (wayParts x t) m ids) bd ∙ ap (textsOf starts (wayParts (bodyOf d) t) m) is ∙ described starts t m s d start next few-ids rd in
+        let y : v ≡ wayRecord (startedName starts t m) s d = w ∙ ap (λ x. wayWith x b tx) hs ∙ ap (λ x. wayWith (headOf s) x tx) bd ∙ ap (wayWith (headOf s) (bodyOf d)) x in
         ap (λ x. record { way = x; texts = textsWith h pr; lists = listsWith b start }) y
-        ∙ ap (λ x. record { way = wayRecord (walkedName (tableIn t) m) s d; texts = textsWith x pr; lists = listsWith b start }) hs
-        ∙ ap (λ x. record { way = wayRecord (walkedName (tableIn t) m) s d; texts = textsWith (headOf s) x; lists = listsWith b start }) k
-        ∙ ap (λ x. record { way = wayRecord (walkedName (tableIn t) m) s d; texts = textsWith (headOf s) (wayParts x t); lists = listsWith x start }) bd
+        ∙ ap (λ x. record { way = wayRecord (startedName starts t m) s d; texts = textsWith x pr; lists = listsWith b start }) hs
+        ∙ ap (λ x. record { way = wayRecord (startedName starts t m) s d; texts = textsWith (headOf s) x; lists = listsWith b start }) k
+        ∙ ap (λ x. record { way = wayRecord (startedName starts t m) s d; texts = textsWith (headOf s) (wayParts x t); lists = listsWith x start }) bd
 
-  pub told-short : (x : LentRefusal) (r : MeasuredWay) → g ≡ true → x ≡ tooShort (b .blocks) (b .nodes) len → r ≡ noWay x → WayTold t h b ids start next room m r
+  pub told-short : (x : LentRefusal) (r : MeasuredWay) → g ≡ true → x ≡ tooShort (b .blocks) (b .nodes) len → r ≡ noWay x → WayTold starts t h b ids start next room m r
   told-short x r q e v = record {
     each = λ s d hs is few bd rd.
-        told-no (measured room (ok (toldOf t m s start d) next)) (shown r) (r .end) x (ap shown v) (ap (λ (y : MeasuredWay). y .end) v)
-        (ap lentRefused (refused-as s d hs is few bd rd x e) ∙ measured-short t m s d start next (few-ids s d hs is few bd rd) rd room (tested s d hs is few bd rd false (not-true _ (sym j ∙ q))));
+        told-no (measured room (ok (toldOf starts t m s start d) next)) (shown r) (r .end) x (ap shown v) (ap (λ (y : MeasuredWay). y .end) v)
+        (ap lentRefused (refused-as s d hs is few bd rd x e) ∙ measured-short starts t m s d start next (few-ids s d hs is few bd rd) rd room (tested s d hs is few bd rd false (not-true _ (sym j ∙ q))));
   }
 
-  pub told-done : (tx : FeatureTexts) (v : FetchedWay) → g ≡ false → tx ≡ textsOf pr m ids → v ≡ wayWith h b tx → WayTold t h b ids start next room m (record { way = v; texts = textsWith h pr; lists = listsWith b start; end = fetch-end.At next })
+  pub told-done : (tx : FeatureTexts) (v : FetchedWay) → g ≡ false → tx ≡ textsOf starts pr m ids → v ≡ wayWith h b tx → WayTold starts t h b ids start next room m (record { way = v; texts = textsWith h pr; lists = listsWith b start; end = fetch-end.At next })
   told-done tx v q e w = record {
     each = λ s d hs is few bd rd.
-        told-at (measured room (ok (toldOf t m s start d) next)) (record { way = v; texts = textsWith h pr; lists = listsWith b start }) next
-        (ap (λ x. ok x next) (shown-as s d hs is few bd rd tx v e w) ∙ ap (mapRes shownOf) (measured-done t m s d start next (few-ids s d hs is few bd rd) rd room (tested s d hs is few bd rd true (not-false _ (sym j ∙ q)))));
+        told-at (measured room (ok (toldOf starts t m s start d) next)) (record { way = v; texts = textsWith h pr; lists = listsWith b start }) next
+        (ap (λ x. ok x next) (shown-as s d hs is few bd rd tx v e w) ∙ ap (mapRes shownOf) (measured-done starts t m s d start next (few-ids s d hs is few bd rd) rd room (tested s d hs is few bd rd true (not-false _ (sym j ∙ q)))));
   }
 
 -- the body, behind the head
-module _ (t : TagTable) (h : WayHead) (ids : List ℕ) (start : ℕ) (room : Lengths) (m : List ℕ) (g : WayBodyRead) (q : bodyRes g ≡ mapRes bodyOf (body m start)) where
-  pub body-no : (x y : Refusal) (r : MeasuredWay) → g ≡ body-read.Refused x → y ≡ bodyRefusal g → r ≡ noWay (lent-refusal.Refused y) → BodyMeasured t h ids start room m r
+module _ (starts : List ℕ) (t : TagRange) (h : WayHead) (ids : List ℕ) (start : ℕ) (room : Lengths) (m : List ℕ) (g : WayBodyRead) (q : bodyRes g ≡ mapRes bodyOf (body m start)) where
+  pub body-no : (x y : Refusal) (r : MeasuredWay) → g ≡ body-read.Refused x → y ≡ bodyRefusal g → r ≡ noWay (lent-refusal.Refused y) → BodyMeasured starts t h ids start room m r
   body-no x y r e w v = record {
     each = λ s hs is few.
-        told-no (measured room (mapRes (toldOf t m s start) (body m start))) (shown r) (r .end) (lent-refusal.Refused y) (ap shown v) (ap (λ (z : MeasuredWay). z .end) v)
+        told-no (measured room (mapRes (toldOf starts t m s start) (body m start))) (shown r) (r .end) (lent-refusal.Refused y) (ap shown v) (ap (λ (z : MeasuredWay). z .end) v)
         (ap refused (w ∙ ap bodyRefusal e) ∙ go s (body m start) (ap bodyRes (sym e) ∙ q));
   }
     where
-      go : (s : Head) (d : Res Body) → refused x ≡ mapRes bodyOf d → refused x ≡ measured room (mapRes (toldOf t m s start) d)
+      go : (s : Head) (d : Res Body) → refused x ≡ mapRes bodyOf d → refused x ≡ measured room (mapRes (toldOf starts t m s start) d)
       go s (ok d e) f = no-ok f
       go s (no n v) f = cc
 
-  pub body-on : (b : WayBody) (n : ℕ) (r : MeasuredWay) → g ≡ body-read.Value b n → WayTold t h b ids start n room m r → BodyMeasured t h ids start room m r
+  pub body-on : (b : WayBody) (n : ℕ) (r : MeasuredWay) → g ≡ body-read.Value b n → WayTold starts t h b ids start n room m r → BodyMeasured starts t h ids start room m r
   body-on b n r e w = record { each = λ s hs is few. go s hs is few (body m start) refl (ap bodyRes (sym e) ∙ q) }
     where
-      go : (s : Head) → h ≡ headOf s → ids ≡ s .tagged .ids → length ids ≤ 15 → (d : Res Body) → body m start ≡ d → ok b n ≡ mapRes bodyOf d → ToldAs (measured room (mapRes (toldOf t m s start) d)) (shown r) (r .end)
+      go : (s : Head) → h ≡ headOf s → ids ≡ s .tagged .ids → length ids ≤ 15 → (d : Res Body) → body m start ≡ d → ok b n ≡ mapRes bodyOf d → ToldAs (measured room (mapRes (toldOf starts t m s start) d)) (shown r) (r .end)
       go s hs is few (ok d x) f i =
-          subst (λ (y : ℕ). ToldAs (measured room (ok (toldOf t m s start d) y)) (shown r) (r .end)) (ok-at i)
+          subst (λ (y : ℕ). ToldAs (measured room (ok (toldOf starts t m s start d) y)) (shown r) (r .end)) (ok-at i)
           (w .each s d hs is few (ok-val i) (f ∙ ap (ok d) (sym (ok-at i))))
       go s hs is few (no k v) f i = no-ok (sym i)
 
 -- the way, read from its place
-module _ (debug : Bool) (t : TagTable) (room : Lengths) (m : List ℕ) (at : ℕ) (g : WayHeadRead) (q : HeadIs (head debug (tagKinds (tableIn t) m) m at) g) where
+module _ (debug : Bool) (starts letters : List ℕ) (t : TagRange) (room : Lengths) (m : List ℕ) (at : ℕ) (g : WayHeadRead) (q : HeadIs (head debug (kindsBy letters t) m at) g) where
   abbrev stored : Res Head
-  stored = head debug (tagKinds (tableIn t) m) m at
+  stored = head debug (kindsBy letters t) m at
 
-  pub head-no : (r : MeasuredWay) (x y : Refusal) → g .end ≡ end.Refused x → y ≡ endRefusal (g .end) → r ≡ noWay (lent-refusal.Refused y) → MeasuredIs debug t room m at r
+  pub head-no : (r : MeasuredWay) (x y : Refusal) → g .end ≡ end.Refused x → y ≡ endRefusal (g .end) → r ≡ noWay (lent-refusal.Refused y) → MeasuredIs debug starts letters t room m at r
   head-no r x y e w v =
-      told-no (measured room (toldWay debug t m at)) (shown r) (r .end) (lent-refusal.Refused y) (ap shown v) (ap (λ (z : MeasuredWay). z .end) v)
+      told-no (measured room (toldWay debug starts letters t m at)) (shown r) (r .end) (lent-refusal.Refused y) (ap shown v) (ap (λ (z : MeasuredWay). z .end) v)
       (ap refused (w ∙ ap endRefusal e) ∙ go stored (ap (endRes (g .head)) (sym e) ∙ q .answer))
     where
-      go : (s : Res Head) → refused x ≡ mapRes headOf s → refused x ≡ measured room (andThen s (λ h e. mapRes (toldOf t m h e) (body m e)))
+      go : (s : Res Head) → refused x ≡ mapRes headOf s → refused x ≡ measured room (andThen s (λ h e. mapRes (toldOf starts t m h e) (body m e)))
       go (ok s e) d = no-ok d
       go (no n v) d = cc
 
@@ -245,10 +244,10 @@ module _ (debug : Bool) (t : TagTable) (room : Lengths) (m : List ℕ) (at : ℕ
     pub ids-sized : g .head .«tag_ids» .count ≡ length (take (g .head .«tag_ids» .count) (g .head .«tag_ids» .ids))
     ids-sized = ids-counted (g .head .«tag_ids») (known .value .tagged .ids) ids-told
 
-    pub head-on : (r : MeasuredWay) → BodyMeasured t (g .head) (take (g .head .«tag_ids» .count) (g .head .«tag_ids» .ids)) n room m r → MeasuredIs debug t room m at r
+    pub head-on : (r : MeasuredWay) → BodyMeasured starts t (g .head) (take (g .head .«tag_ids» .count) (g .head .«tag_ids» .ids)) n room m r → MeasuredIs debug starts letters t room m at r
     head-on r w =
         let i = ids-are (g .head .«tag_ids») (known .value .tagged .ids) ids-told in
-        let few = head-few m debug (tagKinds (tableIn t) m) .holds at (known .value) n (known .same) in
+        let few = head-few m debug (kindsBy letters t) .holds at (known .value) n (known .same) in
         let j = ap length i in
-        subst (λ (s : Res Head). ToldAs (measured room (andThen s (λ h e. mapRes (toldOf t m h e) (body m e)))) (shown r) (r .end)) (sym (known .same))
+        subst (λ (s : Res Head). ToldAs (measured room (andThen s (λ h e. mapRes (toldOf starts t m h e) (body m e)))) (shown r) (r .end)) (sym (known .same))
         (w .each (known .value) (known .shown) i (omega arith))

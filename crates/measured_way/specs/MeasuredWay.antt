@@ -9,21 +9,20 @@ use Rattle.parsing.specs.Parse.{Res, ok, no, andThen, mapRes}
 use Rattle.error.specs.declared.Lengths.{Lengths}
 use Rattle.error.specs.declared.LentRefusal.{LentRefusal}
 use Rattle.error.specs.declared.LentRefusal.the-variants.{Short}
-use Rattle.format.specs.Kinds.{tagKinds}
 use Rattle.format.specs.WayData.{concat}
 use Rattle.format.specs.Tile.{Head, head, Body, body}
 use Rattle.types.specs.Beside.{viewOr}
 use Rattle.types.specs.declared.OptionalPosition.the-variants as position
 use Rattle.types.specs.declared.OptionalSpan.the-variants as span
-use Rattle.types.specs.declared.TagTable.{TagTable}
-use Rattle.tag_table.specs.Tables.{tableIn}
+use Rattle.types.specs.declared.TagRange.{TagRange}
+use Rattle.tag_table.specs.Tables.{kindsBy}
 use Rattle.tagged.specs.TagIds.{tagIds}
 use Rattle.way.specs.Way.{bodyOf}
 use Rattle.way.specs.declared.WayBody.{WayBody}
 use Rattle.way_head.specs.WayHead.{headOf, emptyHead}
 use Rattle.way_head.specs.declared.WayHead.{WayHead}
 use Rattle.way_lists.specs.declared.ListPlan.{ListPlan}
-use Rattle.fetched.specs.Fetched.{walkedName, noTexts, FetchLists, Fetched, wayRecord, wayLists, fetchedWay, neededAll, endRes}
+use Rattle.fetched.specs.Fetched.{startedName, noTexts, FetchLists, Fetched, fetchedWay, neededAll, endRes}
 use Rattle.fetched.specs.declared.FetchEnd.{FetchEnd}
 use Rattle.fetched.specs.declared.FetchEnd.the-variants as end
 use Rattle.fetched.specs.declared.FeatureTexts.{FeatureTexts}
@@ -33,12 +32,12 @@ use Rattle.measured_way.specs.declared.TextPlan.{TextPlan}
 use Rattle.measured_way.specs.declared.MeasuredWay.{MeasuredWay}
 
 -- the way at a place
-abbrev pub wayStored : Bool → TagTable → List ℕ → ℕ → Res (Fetched FetchedWay)
-wayStored debug t m at = andThen (head debug (tagKinds (tableIn t) m) m at) (λ h e. mapRes (fetchedWay (walkedName (tableIn t) m) h) (body m e))
+abbrev pub wayStored : Bool → (starts letters : List ℕ) → TagRange → List ℕ → ℕ → Res (Fetched FetchedWay)
+wayStored debug starts letters t m at = andThen (head debug (kindsBy letters t) m at) (λ h e. mapRes (fetchedWay (startedName starts t m) h) (body m e))
 
 -- what the texts of a way are made of
-abbrev pub wayParts : WayBody → TagTable → TextParts
-wayParts b t = record { table = t; name = b .name; «house_number» = b .«house_number»; reference = b .reference }
+abbrev pub wayParts : WayBody → TagRange → TextParts
+wayParts b t = record { tags = t; name = b .name; «house_number» = b .«house_number»; reference = b .reference }
 
 -- the same with what is to be written, its body starting at `e`
 pub record Told : Type 0 where
@@ -46,15 +45,15 @@ pub record Told : Type 0 where
   pub texts : TextPlan
   pub lists : ListPlan
 
-abbrev pub toldOf : TagTable → List ℕ → Head → ℕ → Body → Told
-toldOf t m h e b = record {
-  fetched = fetchedWay (walkedName (tableIn t) m) h b;
+abbrev pub toldOf : (starts : List ℕ) → TagRange → List ℕ → Head → ℕ → Body → Told
+toldOf starts t m h e b = record {
+  fetched = fetchedWay (startedName starts t m) h b;
   texts = record { «tag_ids» = tagIds (h .tagged .ids); parts = wayParts (bodyOf b) t };
   lists = record { present = true; start = e; blocks = length (concat (b .dataBlocks)) };
 }
 
-abbrev pub toldWay : Bool → TagTable → List ℕ → ℕ → Res Told
-toldWay debug t m at = andThen (head debug (tagKinds (tableIn t) m) m at) (λ h e. mapRes (toldOf t m h e) (body m e))
+abbrev pub toldWay : Bool → (starts letters : List ℕ) → TagRange → List ℕ → ℕ → Res Told
+toldWay debug starts letters t m at = andThen (head debug (kindsBy letters t) m at) (λ h e. mapRes (toldOf starts t m h e) (body m e))
 
 -- lists of these lengths have room for what goes to them (`fitsAll`)
 abbrev pub fitsIn : FetchLists → Lengths → Bool
@@ -103,7 +102,7 @@ emptyWay = record {
 }
 
 abbrev pub emptyParts : TextParts
-emptyParts = record { table = record { start = 0; count = 0 }; name = span.Absent; «house_number» = span.Absent; reference = span.Absent }
+emptyParts = record { tags = record { first = 0; count = 0 }; name = span.Absent; «house_number» = span.Absent; reference = span.Absent }
 
 abbrev pub noTextPlan : TextPlan
 noTextPlan = record { «tag_ids» = emptyHead .«tag_ids»; parts = emptyParts }
@@ -134,8 +133,8 @@ pub record ToldAs (stored : Res Told) (r : Shown) (end : FetchEnd) : Type 0 wher
   pub answer : endRes r end ≡ mapRes shownOf stored
   pub whole : r ≡ viewOr shownOf nothing stored
 
-abbrev pub MeasuredIs : Bool → TagTable → Lengths → List ℕ → (at : ℕ) → MeasuredWay → Type 0
-MeasuredIs debug t room m at r = ToldAs (measured room (toldWay debug t m at)) (shown r) (r .end)
+abbrev pub MeasuredIs : Bool → (starts letters : List ℕ) → TagRange → Lengths → List ℕ → (at : ℕ) → MeasuredWay → Type 0
+MeasuredIs debug starts letters t room m at r = ToldAs (measured room (toldWay debug starts letters t m at)) (shown r) (r .end)
 
 -- What private functions test and tell, which need not be believed.
 abbrev pub roomy : (blocks nodes texts : ℕ) → Lengths → Bool
@@ -145,10 +144,10 @@ abbrev pub tooShort : (blocks nodes texts : ℕ) → LentRefusal
 tooShort blocks nodes texts = Short (record { list1 = blocks; list2 = nodes; list3 = nodes; list4 = blocks; list5 = blocks; buffer = texts })
 
 -- a way that was read, with this head, body and ids, its body from `start` to `next`
-pub record WayTold (t : TagTable) (h : WayHead) (b : WayBody) (ids : List ℕ) (start next : ℕ) (room : Lengths) (m : List ℕ) (r : MeasuredWay) : Type 0 where
+pub record WayTold (starts : List ℕ) (t : TagRange) (h : WayHead) (b : WayBody) (ids : List ℕ) (start next : ℕ) (room : Lengths) (m : List ℕ) (r : MeasuredWay) : Type 0 where
   pub each : (s : Head) (d : Body) → h ≡ headOf s → ids ≡ s .tagged .ids → length ids ≤ 15 → b ≡ bodyOf d → body m start ≡ ok d next
-      → ToldAs (measured room (ok (toldOf t m s start d) next)) (shown r) (r .end)
+      → ToldAs (measured room (ok (toldOf starts t m s start d) next)) (shown r) (r .end)
 
 -- the rest of a way with this head and these ids
-pub record BodyMeasured (t : TagTable) (h : WayHead) (ids : List ℕ) (start : ℕ) (room : Lengths) (m : List ℕ) (r : MeasuredWay) : Type 0 where
-  pub each : (s : Head) → h ≡ headOf s → ids ≡ s .tagged .ids → length ids ≤ 15 → ToldAs (measured room (mapRes (toldOf t m s start) (body m start))) (shown r) (r .end)
+pub record BodyMeasured (starts : List ℕ) (t : TagRange) (h : WayHead) (ids : List ℕ) (start : ℕ) (room : Lengths) (m : List ℕ) (r : MeasuredWay) : Type 0 where
+  pub each : (s : Head) → h ≡ headOf s → ids ≡ s .tagged .ids → length ids ≤ 15 → ToldAs (measured room (mapRes (toldOf starts t m s start) (body m start))) (shown r) (r .end)

@@ -9,7 +9,7 @@ use tagged::TagIds;
 use types::End;
 use types::OptionalPosition;
 use types::OptionalSpan;
-use types::TagTable;
+use types::TagRange;
 use way::WayBody;
 use way::WayBodyRead;
 use way_head::WayHead;
@@ -61,7 +61,7 @@ fn no_text_plan() -> TextPlan
             count: 0,
         },
         parts: TextParts {
-            table: TagTable { start: 0, count: 0 },
+            tags: TagRange { first: 0, count: 0 },
             name: OptionalSpan::Absent,
             house_number: OptionalSpan::Absent,
             reference: OptionalSpan::Absent,
@@ -85,14 +85,14 @@ fn refused_way(refusal: LentRefusal) -> MeasuredWay
 }
 
 // What the texts of a way are made of.
-fn way_parts(body: WayBody, table: TagTable) -> TextParts
-    ensures { λ r. ⌜ r ≡ wayParts body table ⌝ }
+fn way_parts(body: WayBody, tags: TagRange) -> TextParts
+    ensures { λ r. ⌜ r ≡ wayParts body tags ⌝ }
 {
     let name = body.name;
     let house_number = body.house_number;
     let reference = body.reference;
     TextParts {
-        table,
+        tags,
         name,
         house_number,
         reference,
@@ -162,18 +162,19 @@ fn tell_way(
     ids: &[u64],
     start: usize,
     next: usize,
-    table: TagTable,
+    starts: &[u64],
+    tags: TagRange,
     room: Lengths,
 ) -> MeasuredWay
-    ensures { λ r. ⌜ WayTold table head body (now (ids .entry)) start next room (now (map .entry)) r ⌝ }
+    ensures { λ r. ⌜ WayTold (now (starts .entry)) tags head body (now (ids .entry)) start next room (now (map .entry)) r ⌝ }
 {
-    let parts = way_parts(body, table);
-    let len = feature_texts::texts_len(map, ids, parts);
+    let parts = way_parts(body, tags);
+    let len = feature_texts::texts_len(map, starts, ids, parts);
     let short = is_short(body.blocks, body.nodes, len as u64, room);
     if short {
         return refused_way(too_short(body.blocks, body.nodes, len as u64));
     }
-    let texts = feature_tags::texts_of(map, ids, parts);
+    let texts = feature_tags::texts_of(map, starts, ids, parts);
     let tag_ids = head.tag_ids;
     MeasuredWay {
         way: way_with(head, body, texts),
@@ -193,16 +194,17 @@ fn measure_body(
     head: WayHead,
     ids: &[u64],
     start: usize,
-    table: TagTable,
+    starts: &[u64],
+    tags: TagRange,
     room: Lengths,
 ) -> MeasuredWay
-    ensures { λ r. ⌜ BodyMeasured table head (now (ids .entry)) start room (now (map .entry)) r ⌝ }
+    ensures { λ r. ⌜ BodyMeasured (now (starts .entry)) tags head (now (ids .entry)) start room (now (map .entry)) r ⌝ }
 {
     let got = way::measure_way_body(map, start);
     let WayBodyRead::Value(body, next) = got else {
         return refused_way(LentRefusal::Refused(way::way_body_refusal(got)));
     };
-    tell_way(map, head, body, ids, start, next, table, room)
+    tell_way(map, head, body, ids, start, next, starts, tags, room)
 }
 
 // The way at a place. Refused as it is read; then 15, with every length needed, if one of these lengths is too short.
@@ -210,12 +212,14 @@ pub fn measure_way(
     map: &[u8],
     at: usize,
     debug: bool,
-    table: TagTable,
+    starts: &[u64],
+    letters: &[u8],
+    tags: TagRange,
     room: Lengths,
 ) -> MeasuredWay
-    ensures { λ r. ⌜ MeasuredIs debug table room (now (map .entry)) at r ⌝ }
+    ensures { λ r. ⌜ MeasuredIs debug (now (starts .entry)) (now (letters .entry)) tags room (now (map .entry)) at r ⌝ }
 {
-    let got = way_head::read_way_head(map, at, debug, table);
+    let got = way_head::read_way_head(map, at, debug, letters, tags);
     let end = got.end;
     let End::At(start) = end else {
         return refused_way(LentRefusal::Refused(types::end_refusal(end)));
@@ -224,5 +228,5 @@ pub fn measure_way(
     let tag_ids = head.tag_ids;
     let ids = tag_ids.ids;
     let count = tag_ids.count;
-    measure_body(map, head, &ids[..count], start, table, room)
+    measure_body(map, head, &ids[..count], start, starts, tags, room)
 }

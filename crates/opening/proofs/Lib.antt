@@ -1,2 +1,4 @@
 pub mod OpeningLaws
 pub mod OpenedLaws
+pub mod ListingLaws
+pub mod ReplyLaws

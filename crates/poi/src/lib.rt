@@ -7,17 +7,16 @@ use tagged::TagIds;
 use types::End;
 use types::OptionalSpan;
 use types::Position;
-use types::TagTable;
+use types::TagRange;
 use utils::SignedRead;
 ghost use mathlib.Core.Path.{_≡_};
 ghost use Rattle.parsing.specs.Parse.{mapRes, optional, Part, Maybe};
 ghost use Rattle.utils.specs.Vbe.{signed};
 ghost use Rattle.format.specs.Elevation.{lowBits, low32};
-ghost use Rattle.format.specs.Kinds.{tagKinds};
 ghost use Rattle.format.specs.WayData.{Node};
 ghost use Rattle.format.specs.Tile.{pointFields, behindPosition, point};
 ghost use Rattle.types.specs.Types.{optionalSpan, nodePosition};
-ghost use Rattle.tag_table.specs.Tables.{tableIn};
+ghost use Rattle.tag_table.specs.Tables.{kindsBy};
 ghost use Rattle.poi.specs.Poi.{elevationRes, elevationRefusal, optionalElevation, poiFieldsRes, poiFieldsRefusal, poiFieldsOf, emptyPoi, PoiIs, streamedPoi};
 
 // In metres.
@@ -172,22 +171,23 @@ fn refused_poi(refusal: Refusal) -> PoiRead
 fn read_behind_position(
     map: &[u8],
     at: usize,
-    table: TagTable,
+    letters: &[u8],
+    tags: TagRange,
     signature: OptionalSpan,
     position: Position,
 ) -> PoiRead
-    ensures { λ r. ⌜ ((g : Maybe Part) (p : Node) → signature ≡ optionalSpan g → position ≡ nodePosition p → PoiIs (behindPosition (tagKinds (tableIn table) (now (map .entry))) g p (now (map .entry)) at) r) ⌝ }
+    ensures { λ r. ⌜ ((g : Maybe Part) (p : Node) → signature ≡ optionalSpan g → position ≡ nodePosition p → PoiIs (behindPosition (kindsBy (now (letters .entry)) tags) g p (now (map .entry)) at) r) ⌝ }
 {
-    let tags = tagged::read_tagged(map, at, table);
-    let end = tags.end;
+    let got = tagged::read_tagged(map, at, letters, tags);
+    let end = got.end;
     let End::At(at) = end else {
         return refused_poi(types::end_refusal(end));
     };
-    let got = read_poi_fields(map, at);
-    let PoiFieldsRead::Value(rest, at) = got else {
-        return refused_poi(poi_fields_refusal(got));
+    let read = read_poi_fields(map, at);
+    let PoiFieldsRead::Value(rest, at) = read else {
+        return refused_poi(poi_fields_refusal(read));
     };
-    let tag_ids = tags.tag_ids;
+    let tag_ids = got.tag_ids;
     let name = rest.name;
     let house_number = rest.house_number;
     let elevation = rest.elevation;
@@ -195,7 +195,7 @@ fn read_behind_position(
         poi: Poi {
             signature,
             position,
-            layer: tags.layer,
+            layer: got.layer,
             tag_ids,
             name,
             house_number,
@@ -206,8 +206,8 @@ fn read_behind_position(
 }
 
 // A point with raw texts, and the place behind it.
-pub fn read_poi(map: &[u8], at: usize, debug: bool, table: TagTable) -> PoiRead
-    ensures { λ r. ⌜ PoiIs (point debug (tagKinds (tableIn table) (now (map .entry))) (now (map .entry)) at) r ⌝ }
+pub fn read_poi(map: &[u8], at: usize, debug: bool, letters: &[u8], tags: TagRange) -> PoiRead
+    ensures { λ r. ⌜ PoiIs (point debug (kindsBy (now (letters .entry)) tags) (now (map .entry)) at) r ⌝ }
 {
     let got = fields::read_signature(map, at, debug);
     let OptionalSpanRead::Value(signature, at) = got else {
@@ -217,7 +217,7 @@ pub fn read_poi(map: &[u8], at: usize, debug: bool, table: TagTable) -> PoiRead
     let PositionRead::Value(position, at) = got else {
         return refused_poi(fields::position_refusal(got));
     };
-    read_behind_position(map, at, table, signature, position)
+    read_behind_position(map, at, letters, tags, signature, position)
 }
 
 // A point as it is streamed.

@@ -1,7 +1,7 @@
 -- The records that the runs against the Rust are asked by (compare/src/records.rs writes them).
 use Prim.Native.Nat.{ℕ}
 use mathlib.Core.List.{List}
-use Rattle.parsing.specs.Parse.{Res, ok, no, Parser, _>>=_, return, byte, Part, part}
+use Rattle.parsing.specs.Parse.{Res, ok, Parser, _>>=_, return, byte, Part, part}
 use Rattle.byte_source.specs.BigEndian.{bigEndian}
 use Rattle.byte_source.specs.Answers.{partIn}
 use Rattle.error.specs.Refusals.{refused}

@@ -1,6 +1,6 @@
 // What the programs that are run against the Rust print: an answer as a list of words, and digests of many answers.
 ghost use mathlib.Core.Path.{_≡_};
-ghost use Prim.Native.Nat.{_+_, _*_, _%_, _^_, min};
+ghost use Prim.Native.Nat.{_+_, _%_, min};
 ghost use Rattle.report.specs.Words.{noWords, pushed, mixed, mixedUpto, mixedAll, digestOf, signOf, bitsOf, floatOf};
 ghost use Rattle.report.specs.Texts.{room, zeros, mixedReplaced};
 ghost use Rattle.text.specs.Writing.{writing};

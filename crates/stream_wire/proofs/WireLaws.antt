@@ -1,19 +1,14 @@
 -- Words made of the parts that other calls gave, and a stream from its words.
 use Prim.Native.Nat.{ℕ, _<_, _≤_}
-use mathlib.Core.Bool.{Bool, cond}
-use mathlib.Core.Path.{_≡_, refl, sym, ap}
-use mathlib.Core.List.{List, [], _∷_}
+use mathlib.Core.Bool.{Bool}
+use mathlib.Core.Path.{_≡_, refl}
+use mathlib.Core.List.{List}
 use lib.ListN.{getD}
 use borrow.Author.Needs.{needs}
 use borrow.Author.Tests.{lt-ltb, le-ltb}
-use Rattle.poi.specs.declared.Poi.{Poi}
-use Rattle.visit.specs.declared.Remaining.{Remaining}
-use Rattle.visit.specs.declared.WaitingWay.{WaitingWay}
-use Rattle.visit.specs.declared.TileEnd.{TileEnd}
 use Rattle.visit.specs.declared.Turn.{Turn}
 use Rattle.visit.specs.declared.Turn.the-variants as turn
 use Rattle.visit.specs.declared.Stream.{Stream}
-use Rattle.visit.specs.declared.StreamedBody.{StreamedBody}
 use Rattle.wire.specs.Wire.{truth}
 use Rattle.stream_wire.specs.Streams.{turnIn, streamIn}
 

@@ -1,8 +1,8 @@
 -- How the other program reads the words of a stream, and that nothing is lost on the way, whatever words it lent.
 use Prim.Native.Nat.{ℕ}
-use mathlib.Core.Bool.{Bool, true, false, cond}
+use mathlib.Core.Bool.{Bool, cond}
 use mathlib.Core.Path.{_≡_, refl, ap, _∙_}
-use mathlib.Core.List.{List, [], _∷_}
+use mathlib.Core.List.{[], _∷_}
 use lib.ListN.{getD}
 use lib.Seq.{sets}
 use Rattle.error.specs.declared.Refusal.{Refusal}

@@ -6,7 +6,7 @@ ghost use lib.ListN.{length};
 ghost use Rattle.byte_source.specs.Answers.{spanRes};
 ghost use Rattle.text.specs.Utf8.{codePoints, replaced};
 ghost use Rattle.text.specs.Hash.{hash};
-ghost use Rattle.tag.specs.Tag.{equalsAt, newTag, tagOf, keyBytes, mark, letterAfter, kindOf, kind};
+ghost use Rattle.tag.specs.Tag.{equalsAt, newTag, tagOf, keyBytes, mark, letterAfter, letterOf, kindOf, kind};
 ghost use Rattle.tag.specs.Value.{value, sized};
 
 // The lengths in bytes of a tag's key and value, and their hashes, all of the replaced text.
@@ -146,7 +146,8 @@ pub enum Kind {
     Nothing,
 }
 
-fn kind_of(letter: u8) -> Kind
+// By its letter.
+pub fn kind_of(letter: u8) -> Kind
     ensures { λ r. ⌜ r ≡ kindOf letter ⌝ }
 {
     if letter == 98 {
@@ -165,6 +166,20 @@ fn kind_of(letter: u8) -> Kind
         return Kind::Text;
     }
     Kind::Nothing
+}
+
+// The letter of a kind, or 0.
+pub fn letter_of(kind: Kind) -> u8
+    ensures { λ r. ⌜ r ≡ letterOf kind ⌝ }
+{
+    match kind {
+        Kind::Byte => 98,
+        Kind::Short => 104,
+        Kind::Int => 105,
+        Kind::Float => 102,
+        Kind::Text => 115,
+        Kind::Nothing => 0,
+    }
 }
 
 // The kind by the letter behind the first `=%`. U+FFFD is no letter and no mark, so the stored bytes tell it.

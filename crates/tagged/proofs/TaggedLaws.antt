@@ -25,10 +25,10 @@ use Rattle.tag.specs.Value.{value}
 use Rattle.tag.specs.declared.Kind.{Kind}
 use Rattle.byte_source.specs.declared.NumberRead.{NumberRead}
 use Rattle.byte_source.specs.declared.NumberRead.the-variants as number
-use Rattle.format.specs.TagTable.{Table}
-use Rattle.format.specs.Kinds.{tagKind, tagKinds}
-use Rattle.format.specs.Tile.{Tagged, tagId, values, layerOf}
-use Rattle.tag_kinds.proofs.KindLaws.{kindAt-tagKinds, length-tagKinds}
+use Rattle.types.specs.declared.TagRange.{TagRange}
+use Rattle.format.specs.Tile.{Tagged, kindAt, tagId, values, layerOf}
+use Rattle.tag_table.specs.Tables.{kindsBy}
+use Rattle.tag_table.proofs.KindLaws.{length-kinds}
 use Rattle.types.specs.Types.{endRes, endRefusal}
 use Rattle.types.specs.declared.End.{End}
 use Rattle.types.specs.declared.End.the-variants as end
@@ -59,44 +59,44 @@ module _ (t : ℕ) (m : List ℕ) (i at n k : ℕ) (l : List ℕ) where
 pub ruleset ids = (types.besides, ids-none, ids-more, ids-no, counted)
 
 -- values behind the ids, by what is left of the ids
-module _ (t : Table) (m : List ℕ) (ids : List ℕ) (i n : ℕ) (T : Res Unit) where
-  values-step : (e : ℕ) (x : Part) (rest : List ℕ) (v : ℕ) → value (tagKind t v m) m n ≡ ok x e → passed (values (tagKinds t m) (v ∷ rest) m n) ≡ passed (values (tagKinds t m) rest m e)
+module _ (kinds : List Kind) (m : List ℕ) (ids : List ℕ) (i n : ℕ) (T : Res Unit) where
+  values-step : (e : ℕ) (x : Part) (rest : List ℕ) (v : ℕ) → value (kindAt kinds v) m n ≡ ok x e → passed (values kinds (v ∷ rest) m n) ≡ passed (values kinds rest m e)
   unfolding values
-  values-step e x rest v h = rw (kindAt-tagKinds t m v, h) (behind (values (tagKinds t m) rest m e))
+  values-step e x rest v h = rw h (behind (values kinds rest m e))
     where
       behind : (r : Res (List Part)) → passed (andThen r (λ l y. ok (x ∷ l) y)) ≡ passed r
       behind (ok l y) = refl
       behind (no k y) = refl
 
-  pub values-more : (e : ℕ) (k : Kind) (g : SpanRead) (s : Span) → passed (values (tagKinds t m) (drop i ids) m n) ≡ T → i < length ids → k ≡ tagKind t (getD ids i 0) m → spanRes m g ≡ value k m n → g ≡ span.Value s e → passed (values (tagKinds t m) (drop (i + 1) ids) m e) ≡ T
+  pub values-more : (e : ℕ) (k : Kind) (g : SpanRead) (s : Span) → passed (values kinds (drop i ids) m n) ≡ T → i < length ids → k ≡ kindAt kinds (getD ids i 0) → spanRes m g ≡ value k m n → g ≡ span.Value s e → passed (values kinds (drop (i + 1) ids) m e) ≡ T
   values-more e k g s h b q d z =
-      let one : value (tagKind t (getD ids i 0) m) m n ≡ ok (partIn m s) e = rw (← q) (sym d ∙ ap (spanRes m) z) in
+      let one : value (kindAt kinds (getD ids i 0)) m n ≡ ok (partIn m s) e = rw (← q) (sym d ∙ ap (spanRes m) z) in
       rw add-one (sym (values-step e (partIn m s) (drop (suc i) ids) (getD ids i 0) one) ∙ (rw (drop-cons ids i 0 b) at h))
 
-  pub values-no : (k : Kind) (g : SpanRead) (e′ e : Refusal) → passed (values (tagKinds t m) (drop i ids) m n) ≡ T → i < length ids → k ≡ tagKind t (getD ids i 0) m → spanRes m g ≡ value k m n → g ≡ span.Refused e → e′ ≡ spanRefusal g → refused e′ ≡ T
+  pub values-no : (k : Kind) (g : SpanRead) (e′ e : Refusal) → passed (values kinds (drop i ids) m n) ≡ T → i < length ids → k ≡ kindAt kinds (getD ids i 0) → spanRes m g ≡ value k m n → g ≡ span.Refused e → e′ ≡ spanRefusal g → refused e′ ≡ T
   unfolding values
   values-no k g e′ e h b q d z p =
-      let one : value (tagKind t (getD ids i 0) m) m n ≡ refused e = rw (← q) (sym d ∙ ap (spanRes m) z) in
-      ap refused (p ∙ ap spanRefusal z) ∙ (rw (drop-cons ids i 0 b, kindAt-tagKinds t m (getD ids i 0), one) at h)
+      let one : value (kindAt kinds (getD ids i 0)) m n ≡ refused e = rw (← q) (sym d ∙ ap (spanRes m) z) in
+      ap refused (p ∙ ap spanRefusal z) ∙ (rw (drop-cons ids i 0 b, one) at h)
 
-  pub values-done : passed (values (tagKinds t m) (drop i ids) m n) ≡ T → length ids ≤ i → ok tt n ≡ T
+  pub values-done : passed (values kinds (drop i ids) m n) ≡ T → length ids ≤ i → ok tt n ≡ T
   unfolding values
   values-done h b = rw (drop-of-length-le ids b) at h
 
 pub ruleset skips = (types.besides, values-more, values-no, values-done)
 
 -- ids and values, in a definition that goes on from them
-module _ {B : Type 0} (t : Table) (m : List ℕ) (k at : ℕ) (l : List ℕ) where
-  pub ids-ok : (g : End) (n : ℕ) (f : List ℕ → ℕ → Res B) (x : Res B) → endRes l g ≡ mapRes filledIds (many (tagId (t .count)) k m at) → g ≡ end.At n → ((a : List ℕ) → l ≡ filledIds a → k ≡ length a → x ≡ f a n) → x ≡ andThen (many (tagId (length (tagKinds t m))) k m at) f
-  ids-ok g n f x q h p = rw (length-tagKinds t m) (found (many (tagId (t .count)) k m at) refl (sym q ∙ ap (endRes l) h))
+module _ {B : Type 0} (s : List ℕ) (t : TagRange) (m : List ℕ) (k at : ℕ) (l : List ℕ) where
+  pub ids-ok : (g : End) (n : ℕ) (f : List ℕ → ℕ → Res B) (x : Res B) → endRes l g ≡ mapRes filledIds (many (tagId (t .count)) k m at) → g ≡ end.At n → ((a : List ℕ) → l ≡ filledIds a → k ≡ length a → x ≡ f a n) → x ≡ andThen (many (tagId (length (kindsBy s t))) k m at) f
+  ids-ok g n f x q h p = rw (length-kinds s (t .first) (t .count)) (found (many (tagId (t .count)) k m at) refl (sym q ∙ ap (endRes l) h))
     where
       found : (r : Res (List ℕ)) → many (tagId (t .count)) k m at ≡ r → mapRes filledIds r ≡ ok l n → x ≡ andThen r f
       found (ok a e) d z = p a (sym (ok-val z)) (sym (many-count (tagId (t .count)) m k at a e d)) ∙ ap (f a) (sym (ok-at z))
       found (no i v) d z = no-ok z
 
-  pub ids-stop : (g : End) (e′ e : Refusal) (f : List ℕ → ℕ → Res B) → endRes l g ≡ mapRes filledIds (many (tagId (t .count)) k m at) → g ≡ end.Refused e → e′ ≡ endRefusal g → refused e′ ≡ andThen (many (tagId (length (tagKinds t m))) k m at) f
+  pub ids-stop : (g : End) (e′ e : Refusal) (f : List ℕ → ℕ → Res B) → endRes l g ≡ mapRes filledIds (many (tagId (t .count)) k m at) → g ≡ end.Refused e → e′ ≡ endRefusal g → refused e′ ≡ andThen (many (tagId (length (kindsBy s t))) k m at) f
   ids-stop g e′ e f q h p =
-      rw (length-tagKinds t m) (ap refused (p ∙ ap endRefusal h) ∙ view-stop filledIds (many (tagId (t .count)) k m at) f (sym q ∙ ap (endRes l) h))
+      rw (length-kinds s (t .first) (t .count)) (ap refused (p ∙ ap endRefusal h) ∙ view-stop filledIds (many (tagId (t .count)) k m at) f (sym q ∙ ap (endRes l) h))
 
 -- the number of ids is the special byte's low four bits
 module _ (t s at n : ℕ) (m l : List ℕ) (g : End) where

@@ -4,16 +4,15 @@ use byte_source::NumberRead;
 use byte_source::SpanRead;
 use error::Refusal;
 use types::End;
-use types::TagTable;
+use types::TagRange;
 ghost use mathlib.Core.Path.{_≡_};
 ghost use Prim.Native.Nat.{_≤_};
 ghost use lib.ListN.{replicate};
 ghost use Rattle.parsing.specs.Parse.{many, mapRes, passed};
 ghost use Rattle.byte_source.specs.Answers.{numberRes};
-ghost use Rattle.format.specs.Kinds.{tagKinds};
 ghost use Rattle.format.specs.Tile.{tagId, values, layerOf, behindSpecial, tagged};
 ghost use Rattle.types.specs.Types.{endRes};
-ghost use Rattle.tag_table.specs.Tables.{tableIn};
+ghost use Rattle.tag_table.specs.Tables.{kindsBy};
 ghost use Rattle.tagged.specs.TagIds.{filledIds, noTags, TaggedIs, shownTags};
 
 // Up to 15 tag ids from the front, zeros behind them.
@@ -70,13 +69,13 @@ fn read_tag_ids(map: &[u8], at: usize, tags: usize, count: usize, ids: &mut [u64
 }
 
 // The place behind the inline values of the tags with these ids, in the order of the ids.
-fn skip_values(map: &[u8], at: usize, table: TagTable, ids: &[u64]) -> End
-    ensures { λ r. ⌜ endRes tt r ≡ passed (values (tagKinds (tableIn table) (now (map .entry))) (now (ids .entry)) (now (map .entry)) at) ⌝ }
+fn skip_values(map: &[u8], at: usize, letters: &[u8], tags: TagRange, ids: &[u64]) -> End
+    ensures { λ r. ⌜ endRes tt r ≡ passed (values (kindsBy (now (letters .entry)) tags) (now (ids .entry)) (now (map .entry)) at) ⌝ }
 {
     let mut next = at;
     let mut i = 0;
     while i < ids.len() {
-        let kind = tag_kinds::tag_kind(map, table, ids[i] as usize);
+        let kind = tag_table::listed_kind(letters, tags, ids[i] as usize);
         let got = tag::skip_inline_value(map, next, kind);
         let SpanRead::Value(_, after) = got else {
             return End::Refused(byte_source::span_refusal(got));
@@ -101,16 +100,16 @@ fn refused_tagged(refusal: Refusal) -> TaggedRead
 }
 
 // The ids, as many as the special byte's low four bits say, and behind all ids the values that they announce.
-fn read_tags(map: &[u8], at: usize, special: u8, table: TagTable) -> TaggedRead
-    ensures { λ r. ⌜ TaggedIs (behindSpecial (tagKinds (tableIn table) (now (map .entry))) special (now (map .entry)) at) r ⌝ }
+fn read_tags(map: &[u8], at: usize, special: u8, letters: &[u8], tags: TagRange) -> TaggedRead
+    ensures { λ r. ⌜ TaggedIs (behindSpecial (kindsBy (now (letters .entry)) tags) special (now (map .entry)) at) r ⌝ }
 {
     let mut ids = [0u64; 15];
     let count = (special % 16) as usize;
-    let end = read_tag_ids(map, at, table.count, count, &mut ids);
+    let end = read_tag_ids(map, at, tags.count, count, &mut ids);
     let End::At(at) = end else {
         return refused_tagged(types::end_refusal(end));
     };
-    let end = skip_values(map, at, table, &ids[..count]);
+    let end = skip_values(map, at, letters, tags, &ids[..count]);
     let End::At(at) = end else {
         return refused_tagged(types::end_refusal(end));
     };
@@ -121,13 +120,13 @@ fn read_tags(map: &[u8], at: usize, special: u8, table: TagTable) -> TaggedRead
     }
 }
 
-// The special byte, then the tags.
-pub fn read_tagged(map: &[u8], at: usize, table: TagTable) -> TaggedRead
-    ensures { λ r. ⌜ TaggedIs (tagged (tagKinds (tableIn table) (now (map .entry))) (now (map .entry)) at) r ⌝ }
+// The special byte, then the tags. Values are skipped by the listed letters.
+pub fn read_tagged(map: &[u8], at: usize, letters: &[u8], tags: TagRange) -> TaggedRead
+    ensures { λ r. ⌜ TaggedIs (tagged (kindsBy (now (letters .entry)) tags) (now (map .entry)) at) r ⌝ }
 {
     let got = byte_source::read_u8(map, at);
     let ByteRead::Value(special, at) = got else {
         return refused_tagged(byte_source::byte_refusal(got));
     };
-    read_tags(map, at, special, table)
+    read_tags(map, at, special, letters, tags)
 }

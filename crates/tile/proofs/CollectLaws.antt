@@ -19,8 +19,7 @@ use Rattle.blocks.specs.declared.ZoomRow.{ZoomRow}
 use Rattle.blocks.specs.declared.ZoomTableRead.{ZoomTableRead}
 use Rattle.agreement.specs.Collected.{StoredTile, collect}
 use Rattle.agreement.proofs.TileAgrees.{collected}
-use Rattle.tile_layout.specs.TileLayout.{formatOf}
-use Rattle.tile_layout.specs.declared.TileLayout.{TileLayout}
+use Rattle.tile_layout.specs.TileLayout.{TileKinds, formatOf}
 use Rattle.tile.specs.Tile.{shownTile, emptyTile, collectAt, TileIs, summaryOf, rowsOfTile, rowPoints, rowWays, summaryRes, summaryRefusal, CollectIs, rowsRead, RowsPut}
 use Rattle.tile.specs.declared.Tile.{Tile}
 use Rattle.tile.specs.declared.TileAnswer.{TileAnswer}
@@ -90,13 +89,13 @@ put f g t rows l c a b =
     let e : mapped zoomRow rows ≡ rowsOfTile t = front-rows rows ∙ rw (← a, ← b) in
     ap (sets l 0) (fused f g c rows ∙ ap (mapped f) e)
 
-module _ (l : TileLayout) (empty : Bool) (low high : ℕ) (m : List ℕ) (at : ℕ) (o : low ≤ high) where
+module _ (l : TileKinds) (empty : Bool) (low high : ℕ) (m : List ℕ) (at : ℕ) (o : low ≤ high) where
   rows-stored : (t : Tile) → collectAt l empty low high at m ≡ answer t → Rows empty (l .debug) low high m at t
-  rows-stored t h = go (collect (markedHead empty (l .debug) (rowsOfInterval low high)) (formatOf l m) m at) refl h
+  rows-stored t h = go (collect (markedHead empty (l .debug) (rowsOfInterval low high)) (formatOf l) m at) refl h
     where
-      go : (r : Res (StoredTile (formatOf l m))) → collect (markedHead empty (l .debug) (rowsOfInterval low high)) (formatOf l m) m at ≡ r → answered (mapRes shownTile r) ≡ answer t → Rows empty (l .debug) low high m at t
+      go : (r : Res (StoredTile (formatOf l))) → collect (markedHead empty (l .debug) (rowsOfInterval low high)) (formatOf l) m at ≡ r → answered (mapRes shownTile r) ≡ answer t → Rows empty (l .debug) low high m at t
       go (ok s e) c d =
-          let k = head-table empty (l .debug) low high m at o (s .head) (s .start) (collected (markedHead empty (l .debug) (rowsOfInterval low high)) (formatOf l m) m at s e c .head) in
+          let k = head-table empty (l .debug) low high m at o (s .head) (s .start) (collected (markedHead empty (l .debug) (rowsOfInterval low high)) (formatOf l) m at s e c .head) in
           record {
             table = s .head .table;
             behind = k .behind;

@@ -15,14 +15,12 @@ use Rattle.error.specs.declared.Refusal.{Refusal}
 use Rattle.arithmetic.specs.Cut.{cut}
 use Rattle.format.specs.Header.{Interval}
 use Rattle.format.specs.Index.{answer, answered, Grid, Located, locate, tileAt}
-use Rattle.format.specs.Kinds.{tagKinds}
 use Rattle.format.specs.Rows.{markedHead, locatedHead, rowsOfInterval, intervalHead, pointsOf, waysOf}
 use Rattle.format.specs.Tile as format
 use Rattle.format.specs.Tile.{Point, point}
 use Rattle.types.specs.Types.{optionalSpan, endRes, endRefusal}
 use Rattle.types.specs.declared.End.{End}
 use Rattle.types.specs.declared.End.the-variants as end
-use Rattle.tag_table.specs.Tables.{tableIn}
 use Rattle.blocks.specs.Blocks.{rowsOf}
 use Rattle.tile_head.specs.TileHead.{headAt, headRes, headRefusal}
 use Rattle.tile_head.specs.declared.TileHead.{TileHead}
@@ -36,8 +34,7 @@ use Rattle.tile_place.proofs.PlaceLaws.{located-ordered}
 use Rattle.agreement.specs.Collected.{Way, way, allExact, StoredTile, collect, cutPlace}
 use Rattle.agreement.proofs.CollectLaws.{collect-cut, collect-at}
 use Rattle.agreement.proofs.TileFormatLaws.{tile-laws, head-counts, head-cut, head-end}
-use Rattle.tile_layout.specs.TileLayout.{formatOf}
-use Rattle.tile_layout.specs.declared.TileLayout.{TileLayout}
+use Rattle.tile_layout.specs.TileLayout.{TileKinds, formatOf}
 use Rattle.tile_walk.specs.TileWalk.{waysRes, waysRefusal, exactWays}
 use Rattle.tile_walk.specs.declared.WaysRead.{WaysRead}
 use Rattle.tile_walk.specs.declared.WaysRead.the-variants as ways-read
@@ -47,16 +44,16 @@ use Rattle.tile.specs.declared.TileSummary.{TileSummary}
 use Rattle.tile.proofs.RowLaws.{head-table}
 
 -- the points, then the ways
-module _ (l : TileLayout) (m : List ℕ) (at points ways offset : ℕ) (g : End) (q : endRes points g ≡ mapRes length (many (point (l .debug) (tagKinds (tableIn (l .«poi_tags»)) m)) points m at)) where
+module _ (l : TileKinds) (m : List ℕ) (at points ways offset : ℕ) (g : End) (q : endRes points g ≡ mapRes length (many (point (l .debug) (l .points)) points m at)) where
   pub walk-stops : (x y : Refusal) → g ≡ end.Refused x → y ≡ endRefusal g → refused y ≡ walked l m at points ways offset
-  walk-stops x y h w = ap refused (w ∙ ap endRefusal h) ∙ go (many (point (l .debug) (tagKinds (tableIn (l .«poi_tags»)) m)) points m at) (ap (endRes points) (sym h) ∙ q)
+  walk-stops x y h w = ap refused (w ∙ ap endRefusal h) ∙ go (many (point (l .debug) (l .points)) points m at) (ap (endRes points) (sym h) ∙ q)
     where
       go : (r : Res (List Point)) → refused x ≡ mapRes length r → refused x ≡ andThen r (λ _ _. exactWays l m ways (cut (at + offset)))
       go (ok ps e) d = no-ok d
       go (no k v) d = cc
 
   pub walk-on : (n first : ℕ) (r : Res Bool) → g ≡ end.At n → first ≡ cut (at + offset) → r ≡ exactWays l m ways first → r ≡ walked l m at points ways offset
-  walk-on n first r h w f = f ∙ ap (exactWays l m ways) w ∙ go (many (point (l .debug) (tagKinds (tableIn (l .«poi_tags»)) m)) points m at) (ap (endRes points) (sym h) ∙ q)
+  walk-on n first r h w f = f ∙ ap (exactWays l m ways) w ∙ go (many (point (l .debug) (l .points)) points m at) (ap (endRes points) (sym h) ∙ q)
     where
       go : (r : Res (List Point)) → ok points n ≡ mapRes length r → exactWays l m ways (cut (at + offset)) ≡ andThen r (λ _ _. exactWays l m ways (cut (at + offset)))
       go (ok ps e) d = refl
@@ -65,34 +62,34 @@ module _ (l : TileLayout) (m : List ℕ) (at points ways offset : ℕ) (g : End)
 pub ruleset walks = (needs, walk-stops, walk-on)
 
 -- collecting with every sum cut
-module _ (l : TileLayout) (m : List ℕ) (small : length m < 2 ^ 64) (empty : Bool) (rows i : ℕ) where
+module _ (l : TileKinds) (m : List ℕ) (small : length m < 2 ^ 64) (empty : Bool) (rows i : ℕ) where
   abbrev points : format.TileHead → ℕ
   points h = cut (pointsOf (h .table))
 
   abbrev ways : format.TileHead → ℕ
   ways h = cut (waysOf (h .table))
 
-  abbrev shown : Res (StoredTile (formatOf l m)) → Res Tile
+  abbrev shown : Res (StoredTile (formatOf l)) → Res Tile
   shown r = answered (mapRes shownTile r)
 
   -- the place is not shown
-  place-gone : (r : Res (StoredTile (formatOf l m))) → shown r ≡ shown (cutPlace r)
+  place-gone : (r : Res (StoredTile (formatOf l))) → shown r ≡ shown (cutPlace r)
   place-gone (ok t e) = refl
   place-gone (no k v) = refl
 
-  abbrev stored : format.TileHead → ℕ → List Point → List (Way (formatOf l m)) → StoredTile (formatOf l m)
+  abbrev stored : format.TileHead → ℕ → List Point → List (Way (formatOf l)) → StoredTile (formatOf l)
   stored h e ps ws = record { head = h; start = e; points = ps; ways = ws }
 
-  abbrev behind : format.TileHead → ℕ → Res (StoredTile (formatOf l m))
+  abbrev behind : format.TileHead → ℕ → Res (StoredTile (formatOf l))
   behind h e =
-      andThen (many (point (l .debug) (tagKinds (tableIn (l .«poi_tags»)) m)) (points h) m e) (λ ps _.
-      andThen (many (way (formatOf l m)) (ways h) m (cut (e + h .offset))) (λ ws y.
+      andThen (many (point (l .debug) (l .points)) (points h) m e) (λ ps _.
+      andThen (many (way (formatOf l)) (ways h) m (cut (e + h .offset))) (λ ws y.
       ok (stored h e ps ws) y))
 
-  collected : shown (collect (markedHead empty (l .debug) rows) (formatOf l m) m i) ≡ shown (andThen (markedHead empty (l .debug) rows m i) behind)
+  collected : shown (collect (markedHead empty (l .debug) rows) (formatOf l) m i) ≡ shown (andThen (markedHead empty (l .debug) rows m i) behind)
   collected =
-      place-gone (collect (markedHead empty (l .debug) rows) (formatOf l m) m i)
-      ∙ ap shown (collect-cut (markedHead empty (l .debug) rows) (head-counts empty (l .debug) rows) (formatOf l m) (tile-laws (l .debug) (tagKinds (tableIn (l .«poi_tags»)) m) (tagKinds (tableIn (l .«way_tags»)) m)) (head-end (l .debug) (tagKinds (tableIn (l .«way_tags»)) m)) m small i)
+      place-gone (collect (markedHead empty (l .debug) rows) (formatOf l) m i)
+      ∙ ap shown (collect-cut (markedHead empty (l .debug) rows) (head-counts empty (l .debug) rows) (formatOf l) (tile-laws (l .debug) (l .points) (l .ways)) (head-end (l .debug) (l .ways)) m small i)
 
   abbrev made : format.TileHead → Bool → Tile
   made h b = record {
@@ -107,32 +104,32 @@ module _ (l : TileLayout) (m : List ℕ) (small : length m < 2 ^ 64) (empty : Bo
 
   -- by what the walk behind the head answers
   behind-no : (h : format.TileHead) (e k : ℕ) (v : List ℕ) → no k v ≡ walked l m e (points h) (ways h) (h .offset) → no k v ≡ shown (behind h e)
-  behind-no h e k v q = go (many (point (l .debug) (tagKinds (tableIn (l .«poi_tags»)) m)) (points h) m e) q
+  behind-no h e k v q = go (many (point (l .debug) (l .points)) (points h) m e) q
     where
-      on : (ps : List Point) (r : Res (List (Way (formatOf l m)))) → no k v ≡ mapRes allExact r → no k v ≡ shown (andThen r (λ ws y. ok (stored h e ps ws) y))
+      on : (ps : List Point) (r : Res (List (Way (formatOf l)))) → no k v ≡ mapRes allExact r → no k v ≡ shown (andThen r (λ ws y. ok (stored h e ps ws) y))
       on ps (ok ws y) d = no-ok d
       on ps (no x y) d = cc
 
-      go : (r : Res (List Point)) → no k v ≡ andThen r (λ _ _. exactWays l m (ways h) (cut (e + h .offset))) → no k v ≡ shown (andThen r (λ ps _. andThen (many (way (formatOf l m)) (ways h) m (cut (e + h .offset))) (λ ws y. ok (stored h e ps ws) y)))
-      go (ok ps x) d = on ps (many (way (formatOf l m)) (ways h) m (cut (e + h .offset))) d
+      go : (r : Res (List Point)) → no k v ≡ andThen r (λ _ _. exactWays l m (ways h) (cut (e + h .offset))) → no k v ≡ shown (andThen r (λ ps _. andThen (many (way (formatOf l)) (ways h) m (cut (e + h .offset))) (λ ws y. ok (stored h e ps ws) y)))
+      go (ok ps x) d = on ps (many (way (formatOf l)) (ways h) m (cut (e + h .offset))) d
       go (no x y) d = cc
 
   behind-ok : (h : format.TileHead) (e : ℕ) (b : Bool) (y : ℕ) → ok b y ≡ walked l m e (points h) (ways h) (h .offset) → answer (made h b) ≡ shown (behind h e)
-  behind-ok h e b y q = go (many (point (l .debug) (tagKinds (tableIn (l .«poi_tags»)) m)) (points h) m e) refl q
+  behind-ok h e b y q = go (many (point (l .debug) (l .points)) (points h) m e) refl q
     where
-      on : (ps : List Point) (r : Res (List (Way (formatOf l m)))) → many (way (formatOf l m)) (ways h) m (cut (e + h .offset)) ≡ r → length ps ≡ points h → ok b y ≡ mapRes allExact r → answer (made h b) ≡ shown (andThen r (λ ws y. ok (stored h e ps ws) y))
+      on : (ps : List Point) (r : Res (List (Way (formatOf l)))) → many (way (formatOf l)) (ways h) m (cut (e + h .offset)) ≡ r → length ps ≡ points h → ok b y ≡ mapRes allExact r → answer (made h b) ≡ shown (andThen r (λ ws y. ok (stored h e ps ws) y))
       on ps (ok ws z) f c d =
-          let n = many-count (way (formatOf l m)) m (ways h) (cut (e + h .offset)) ws z f in
+          let n = many-count (way (formatOf l)) m (ways h) (cut (e + h .offset)) ws z f in
           let u : b ≡ allExact ws = ok-val d in
           rw (c, n, u)
       on ps (no x w) f c d = no-ok (sym d)
 
-      go : (r : Res (List Point)) → many (point (l .debug) (tagKinds (tableIn (l .«poi_tags»)) m)) (points h) m e ≡ r → ok b y ≡ andThen r (λ _ _. exactWays l m (ways h) (cut (e + h .offset))) → answer (made h b) ≡ shown (andThen r (λ ps _. andThen (many (way (formatOf l m)) (ways h) m (cut (e + h .offset))) (λ ws y. ok (stored h e ps ws) y)))
-      go (ok ps x) f d = on ps (many (way (formatOf l m)) (ways h) m (cut (e + h .offset))) refl (many-count (point (l .debug) (tagKinds (tableIn (l .«poi_tags»)) m)) m (points h) e ps x f) d
+      go : (r : Res (List Point)) → many (point (l .debug) (l .points)) (points h) m e ≡ r → ok b y ≡ andThen r (λ _ _. exactWays l m (ways h) (cut (e + h .offset))) → answer (made h b) ≡ shown (andThen r (λ ps _. andThen (many (way (formatOf l)) (ways h) m (cut (e + h .offset))) (λ ws y. ok (stored h e ps ws) y)))
+      go (ok ps x) f d = on ps (many (way (formatOf l)) (ways h) m (cut (e + h .offset))) refl (many-count (point (l .debug) (l .points)) m (points h) e ps x f) d
       go (no x w) f d = no-ok (sym d)
 
 -- from a tile's place on
-module _ (l : TileLayout) (empty : Bool) (low high : ℕ) (m : List ℕ) (at : ℕ) (o : low ≤ high) (small : length m < 2 ^ 64) (g : TileHeadRead) (q : headRes g ≡ mapRes (headAt low high high) (intervalHead empty (l .debug) low high m at)) where
+module _ (l : TileKinds) (empty : Bool) (low high : ℕ) (m : List ℕ) (at : ℕ) (o : low ≤ high) (small : length m < 2 ^ 64) (g : TileHeadRead) (q : headRes g ≡ mapRes (headAt low high high) (intervalHead empty (l .debug) low high m at)) where
   abbrev head : Res format.TileHead
   head = markedHead empty (l .debug) (rowsOfInterval low high) m at
 
@@ -189,12 +186,12 @@ module _ (l : TileLayout) (empty : Bool) (low high : ℕ) (m : List ℕ) (at : �
         summary-is k x b p q = rw (p, q, add-one (high - low))
 
 -- a tile's place, first
-module _ (l : TileLayout) (i : Maybe Interval) (grid : Grid) (number : ℕ) (m : List ℕ) (g : PlaceRead) (q : placeRes g ≡ mapRes placeOf (locate (l .debug) i grid number m)) where
+module _ (l : TileKinds) (i : Maybe Interval) (grid : Grid) (number : ℕ) (m : List ℕ) (g : PlaceRead) (q : placeRes g ≡ mapRes placeOf (locate (l .debug) i grid number m)) where
   abbrev located : Res Located
   located = locate (l .debug) i grid number m
 
   abbrev there : Located → Res Tile
-  there a = answered (mapRes shownTile (collect (locatedHead (l .debug) a) (formatOf l m) m (tileAt a)))
+  there a = answered (mapRes shownTile (collect (locatedHead (l .debug) a) (formatOf l) m (tileAt a)))
 
   pub no-place : (x y : Refusal) → g ≡ place.Refused x → y ≡ placeRefusal g → refused y ≡ collectTile l i grid number m
   unfolding collectTile
@@ -220,5 +217,5 @@ module _ (l : TileLayout) (i : Maybe Interval) (grid : Grid) (number : ℕ) (m :
         go (ok a n) d =
             ap (λ (x : TilePlace). collectAt l (x .empty) (x .«min_zoom») (x .«max_zoom») (x .at) m) (ok-val d)
             ∙ ap (λ x. answered (mapRes shownTile x))
-            (collect-at (locatedHead (l .debug) a) (formatOf l m) m (placeOf a .at) (tileAt a) (head-cut (a .empty) (l .debug) (rowsOfInterval (a .interval .min) (a .interval .max)) m (a .entry .absolute) small))
+            (collect-at (locatedHead (l .debug) a) (formatOf l) m (placeOf a .at) (tileAt a) (head-cut (a .empty) (l .debug) (rowsOfInterval (a .interval .min) (a .interval .max)) m (a .entry .absolute) small))
         go (no k v) d = no-ok (sym d)

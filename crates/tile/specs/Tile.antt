@@ -15,19 +15,15 @@ use Rattle.error.specs.declared.Refusal.the-variants.{Source}
 use Rattle.arithmetic.specs.Cut.{cut}
 use Rattle.format.specs.Header.{Interval}
 use Rattle.format.specs.Index.{answer, answered, Grid, locate, tileAt}
-use Rattle.format.specs.Kinds.{tagKinds}
 use Rattle.format.specs.Rows.{rowsOfInterval, intervalTable, emptyHead, markedHead, locatedHead}
-use Rattle.format.specs.Tile as format
 use Rattle.format.specs.Tile.{Row, debugSignature, point}
 use Rattle.types.specs.Types.{optionalSpan}
 use Rattle.types.specs.Beside.{viewOr}
-use Rattle.tag_table.specs.Tables.{tableIn}
 use Rattle.blocks.specs.Blocks.{emptyRow, filledRows}
 use Rattle.blocks.specs.declared.ZoomRow.{ZoomRow}
 use Rattle.agreement.specs.Format.{Format}
 use Rattle.agreement.specs.Collected.{allExact, StoredTile, collect}
-use Rattle.tile_layout.specs.TileLayout.{formatOf}
-use Rattle.tile_layout.specs.declared.TileLayout.{TileLayout}
+use Rattle.tile_layout.specs.TileLayout.{TileKinds, formatOf}
 use Rattle.tile_walk.specs.TileWalk.{exactWays}
 use Rattle.tile.specs.declared.Tile.{Tile}
 use Rattle.tile.specs.declared.TileAnswer.{TileAnswer}
@@ -62,10 +58,10 @@ emptyTile = record {
 }
 
 -- sub file (8), grid (14), tile (8), its entry and the next one (19), interval (13), then the tile's bytes, if it is not marked empty
-unfoldable pub collectTile : TileLayout → Maybe Interval → Grid → (number : ℕ) → List ℕ → Res Tile
+unfoldable pub collectTile : TileKinds → Maybe Interval → Grid → (number : ℕ) → List ℕ → Res Tile
 collectTile l i g t m =
     andThen (locate (l .debug) i g t m) (λ a _.
-    answered (mapRes shownTile (collect (locatedHead (l .debug) a) (formatOf l m) m (tileAt a))))
+    answered (mapRes shownTile (collect (locatedHead (l .debug) a) (formatOf l) m (tileAt a))))
 
 abbrev pub tileRes : TileAnswer → Tile → Res Tile
 tileRes tile-answer.Collected t = answer t
@@ -112,8 +108,8 @@ pub record CollectIs (stored : Res Tile) (lentPoints lentWays : List ℕ) (r : S
   pub ways : leftWays ≡ viewOr (λ t. sets lentWays 0 (rowWays (rowsOfTile t))) lentWays stored
 
 -- What private functions read, which need not be believed: the tile at a place, of the levels from low to high,
-abbrev pub collectAt : TileLayout → (empty : Bool) → (low high at : ℕ) → List ℕ → Res Tile
-collectAt l empty low high at m = answered (mapRes shownTile (collect (markedHead empty (l .debug) (rowsOfInterval low high)) (formatOf l m) m at))
+abbrev pub collectAt : TileKinds → (empty : Bool) → (low high at : ℕ) → List ℕ → Res Tile
+collectAt l empty low high at m = answered (mapRes shownTile (collect (markedHead empty (l .debug) (rowsOfInterval low high)) (formatOf l) m at))
 
 -- its zoom table, behind its signature,
 unfoldable pub rowsRead : (empty debug : Bool) → (low high : ℕ) → Parser (List Row)
@@ -123,9 +119,9 @@ rowsRead empty debug low high =
       intervalTable low high)
 
 -- and, behind a head that ends at e, the points, then the ways
-abbrev pub walked : TileLayout → List ℕ → (e points ways offset : ℕ) → Res Bool
+abbrev pub walked : TileKinds → List ℕ → (e points ways offset : ℕ) → Res Bool
 walked l m e points ways offset =
-    andThen (many (point (l .debug) (tagKinds (tableIn (l .«poi_tags»)) m)) points m e) (λ _ _. exactWays l m ways (cut (e + offset)))
+    andThen (many (point (l .debug) (l .points)) points m e) (λ _ _. exactWays l m ways (cut (e + offset)))
 
 -- rows that can be read are written to the fronts of two lists
 pub record RowsPut (stored : Res (List Row)) (lentPoints lentWays leftPoints leftWays : List ℕ) : Type 0 where

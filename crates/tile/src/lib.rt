@@ -23,6 +23,7 @@ ghost use Rattle.format.specs.Tile.{row};
 ghost use Rattle.types.specs.Types.{gridOf};
 ghost use Rattle.index.specs.Answers.{intervalFound};
 ghost use Rattle.blocks.specs.Blocks.{TableIs};
+ghost use Rattle.tile_layout.specs.TileLayout.{kindsOf};
 ghost use Rattle.tile_walk.specs.TileWalk.{waysRes};
 ghost use Rattle.tile.specs.Tile.{emptyTile, rowsRead, walked, collectAt, collectTile, TileIs, summaryOf, summaryRes, summaryRefusal, RowsPut, CollectIs};
 
@@ -115,32 +116,40 @@ fn read_rows(map: &[u8], place: TilePlace, debug: bool) -> ZoomTableRead
 }
 
 // All points behind a head that ends at `at`, then all ways from where the first-way offset leads.
-fn walk(map: &[u8], at: usize, sums: Sums, offset: u64, layout: TileLayout) -> WaysRead
-    ensures { λ r. ⌜ waysRes r ≡ walked layout (now (map .entry)) at (sums .«all_points») (sums .«all_ways») offset ⌝ }
+fn walk(
+    map: &[u8],
+    at: usize,
+    sums: Sums,
+    offset: u64,
+    layout: TileLayout,
+    letters: &[u8],
+) -> WaysRead
+    ensures { λ r. ⌜ waysRes r ≡ walked (kindsOf layout (now (letters .entry))) (now (map .entry)) at (sums .«all_points») (sums .«all_ways») offset ⌝ }
 {
     let ways = sums.all_ways;
-    let end = tile_walk::pass_points(map, at, sums.all_points, layout);
+    let end = tile_walk::pass_points(map, at, sums.all_points, layout, letters);
     let End::At(_) = end else {
         return WaysRead::Refused(types::end_refusal(end));
     };
     let first = arithmetic::saturating_add_usize(at, offset as usize);
-    tile_walk::measure_ways(map, first, ways, layout)
+    tile_walk::measure_ways(map, first, ways, layout, letters)
 }
 
 // What is said of the tile at a place that was found.
-fn summarize(map: &[u8], place: TilePlace, layout: TileLayout) -> SummaryRead
+fn summarize(map: &[u8], place: TilePlace, layout: TileLayout, letters: &[u8]) -> SummaryRead
     requires { ⌜ place .«min_zoom» ≤ place .«max_zoom» ⌝ }
-    ensures { λ r. ⌜ summaryRes r ≡ mapRes summaryOf (collectAt layout (place .empty) (place .«min_zoom») (place .«max_zoom») (place .at) (now (map .entry))) ⌝ }
+    ensures { λ r. ⌜ summaryRes r ≡ mapRes summaryOf (collectAt (kindsOf layout (now (letters .entry))) (place .empty) (place .«min_zoom») (place .«max_zoom») (place .at) (now (map .entry))) ⌝ }
 {
     let min = place.min_zoom;
     let max = place.max_zoom;
+    let rows = (max - min) as usize + 1;
     let at = place.at as usize;
     let got = tile_head::read_tile_head(map, at, place.empty, layout.debug, min, max, max);
     let TileHeadRead::Value(head, start) = got else {
         return SummaryRead::Refused(tile_head::tile_head_refusal(got));
     };
     let sums = head.sums;
-    let walked = walk(map, start, sums, head.offset, layout);
+    let walked = walk(map, start, sums, head.offset, layout, letters);
     let WaysRead::Value(exact, _) = walked else {
         return SummaryRead::Refused(tile_walk::ways_refusal(walked));
     };
@@ -150,7 +159,7 @@ fn summarize(map: &[u8], place: TilePlace, layout: TileLayout) -> SummaryRead
         first_way_offset: head.offset,
         points: sums.all_points,
         ways: sums.all_ways,
-        rows: (max - min) as usize + 1,
+        rows,
         exact,
     })
 }
@@ -160,17 +169,18 @@ fn summarize(map: &[u8], place: TilePlace, layout: TileLayout) -> SummaryRead
 pub fn read_tile(
     map: &[u8],
     layout: TileLayout,
+    letters: &[u8],
     found: IntervalRead,
     grid: Grid,
     tile: usize,
 ) -> TileRead
-    ensures { λ r. ⌜ TileIs (collectTile layout (intervalFound found) (gridOf grid) tile (now (map .entry))) r ⌝ }
+    ensures { λ r. ⌜ TileIs (collectTile (kindsOf layout (now (letters .entry))) (intervalFound found) (gridOf grid) tile (now (map .entry))) r ⌝ }
 {
     let got = tile_place::find_tile(map, layout.debug, found, grid, tile);
     let PlaceRead::At(place) = got else {
         return refused_tile(tile_place::place_refusal(got));
     };
-    let read = summarize(map, place, layout);
+    let read = summarize(map, place, layout, letters);
     let SummaryRead::Value(summary) = read else {
         return refused_tile(summary_refusal(read));
     };
@@ -251,19 +261,20 @@ fn put_table(
 pub fn collect(
     map: &[u8],
     layout: TileLayout,
+    letters: &[u8],
     found: IntervalRead,
     grid: Grid,
     tile: usize,
     points: &mut [u64; 256],
     ways: &mut [u64; 256],
 ) -> SummaryRead
-    ensures { λ r. ⌜ CollectIs (collectTile layout (intervalFound found) (gridOf grid) tile (now (map .entry))) (now (points .entry)) (now (ways .entry)) r (now (points .exit)) (now (ways .exit)) ⌝ }
+    ensures { λ r. ⌜ CollectIs (collectTile (kindsOf layout (now (letters .entry))) (intervalFound found) (gridOf grid) tile (now (map .entry))) (now (points .entry)) (now (ways .entry)) r (now (points .exit)) (now (ways .exit)) ⌝ }
 {
     let got = tile_place::find_tile(map, layout.debug, found, grid, tile);
     let PlaceRead::At(place) = got else {
         return SummaryRead::Refused(tile_place::place_refusal(got));
     };
-    let read = summarize(map, place, layout);
+    let read = summarize(map, place, layout, letters);
     let SummaryRead::Value(_) = read else {
         return read;
     };

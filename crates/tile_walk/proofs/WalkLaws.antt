@@ -14,11 +14,9 @@ use Rattle.error.specs.Refusals.{refused}
 use Rattle.error.specs.declared.Refusal.{Refusal}
 use Rattle.byte_source.proofs.ReadLaws.{taken}
 use Rattle.tag.specs.declared.Kind.{Kind}
-use Rattle.format.specs.Kinds.{tagKinds}
 use Rattle.format.specs.Tile.{Head, point, head, head-post, body, body-good}
 use Rattle.types.specs.Types.{endRes, endRefusal}
 use Rattle.types.specs.declared.End.the-variants as end
-use Rattle.tag_table.specs.Tables.{tableIn}
 use Rattle.poi.specs.Poi.{poiOf, PoiIs}
 use Rattle.poi.specs.declared.PoiRead.{PoiRead}
 use Rattle.way_head.specs.WayHead.{headOf, HeadIs}
@@ -29,13 +27,12 @@ use Rattle.way.specs.declared.WayBody.{WayBody}
 use Rattle.way.specs.declared.WayBodyRead.{WayBodyRead}
 use Rattle.way.specs.declared.WayBodyRead.the-variants as body-read
 use Rattle.agreement.proofs.CollectLaws.{count-more, count-no, way-exact, way-no-body, way-no-head, exact-more, exact-no}
-use Rattle.tile_layout.specs.TileLayout.{formatOf}
-use Rattle.tile_layout.specs.declared.TileLayout.{TileLayout}
+use Rattle.tile_layout.specs.TileLayout.{TileKinds, formatOf}
 use Rattle.tile_walk.specs.TileWalk.{waysRes, waysRefusal, exactWay, exactWays}
 use Rattle.tile_walk.specs.declared.WaysRead.{WaysRead}
-use Rattle.tile_walk.specs.declared.WaysRead.the-variants as ways
+use Rattle.tile_walk.specs.declared.WaysRead.the-variants as ways-read
 
-pub ways-refused : (g : WaysRead) (e : Refusal) → g ≡ ways.Refused e → e ≡ waysRefusal g
+pub ways-refused : (g : WaysRead) (e : Refusal) → g ≡ ways-read.Refused e → e ≡ waysRefusal g
 ways-refused g e h = taken waysRefusal h refl
 
 pub ruleset refusals = (needs, ways-refused)
@@ -58,14 +55,18 @@ points-start m debug kinds at = refl
 
 pub ruleset points = (needs, points-start, points-more, points-no, points-done)
 
--- one way
-module _ (m : List ℕ) (l : TileLayout) (at : ℕ) (g : WayHeadRead) (b : HeadIs (head (l .debug) (tagKinds (tableIn (l .«way_tags»)) m) m at) g) where
-  abbrev read : Res Head
-  read = head (l .debug) (tagKinds (tableIn (l .«way_tags»)) m) m at
+-- a tile's kinds by their parts, which a search finds
+abbrev by : Bool → List Kind → List Kind → TileKinds
+by debug points ways = record { debug = debug; points = points; ways = ways }
 
-  pub way-stops : (x y : Refusal) → g .end ≡ end.Refused x → y ≡ endRefusal (g .end) → refused y ≡ exactWay l m at
-  way-stops x y h w =
-      ap refused (w ∙ ap endRefusal h) ∙ sym (way-no-head (formatOf l m) m at (stopped read (sym (b .answer) ∙ ap (endRes (g .head)) h)))
+-- one way
+module _ (m : List ℕ) (debug : Bool) (ways : List Kind) (at : ℕ) (g : WayHeadRead) (b : HeadIs (head debug ways m at) g) where
+  abbrev read : Res Head
+  read = head debug ways m at
+
+  pub way-stops : (points : List Kind) (x y : Refusal) → g .end ≡ end.Refused x → y ≡ endRefusal (g .end) → refused y ≡ exactWay (by debug points ways) m at
+  way-stops points x y h w =
+      ap refused (w ∙ ap endRefusal h) ∙ sym (way-no-head (formatOf (by debug points ways)) m at (stopped read (sym (b .answer) ∙ ap (endRes (g .head)) h)))
     where
       stopped : (r : Res Head) → mapRes headOf r ≡ refused x → r ≡ refused x
       stopped (ok a e) d = no-ok (sym d)
@@ -81,7 +82,7 @@ module _ (m : List ℕ) (l : TileLayout) (at : ℕ) (g : WayHeadRead) (b : HeadI
 
     starts-before : (r : Res Head) → read ≡ r → mapRes headOf r ≡ ok (g .head) n → g .head .start ≤ n
     starts-before (ok a e) d q =
-        let p = head-post (l .debug) (tagKinds (tableIn (l .«way_tags»)) m) .holds m at a e d .0 in
+        let p = head-post debug ways .holds m at a e d .0 in
         let u : headOf a ≡ g .head = ok-val q in
         let v : e ≡ n = ok-at q in
         let w : a .start ≡ g .head .start = ap (λ (x : WayHead). x .start) u in
@@ -89,10 +90,10 @@ module _ (m : List ℕ) (l : TileLayout) (at : ℕ) (g : WayHeadRead) (b : HeadI
     starts-before (no k v) d q = no-ok q
 
     module _ (w : WayBodyRead) (q : bodyRes w ≡ mapRes bodyOf (body m n)) where
-      pub body-stops : (x y : Refusal) → w ≡ body-read.Refused x → y ≡ bodyRefusal w → refused y ≡ exactWay l m at
-      body-stops x y d z =
+      pub body-stops : (points : List Kind) (x y : Refusal) → w ≡ body-read.Refused x → y ≡ bodyRefusal w → refused y ≡ exactWay (by debug points ways) m at
+      body-stops points x y d z =
           ap refused (z ∙ ap bodyRefusal d)
-          ∙ sym (way-no-body (formatOf l m) m bodyOf (g .head .size) n at (viewed (λ (a : WayHead). a .size) read seen) (sym q ∙ ap bodyRes d))
+          ∙ sym (way-no-body (formatOf (by debug points ways)) m bodyOf (g .head .size) n at (viewed (λ (a : WayHead). a .size) read seen) (sym q ∙ ap bodyRes d))
 
       module _ (v : WayBody) (k : ℕ) (d : w ≡ body-read.Value v k) where
         -- a way ends behind its data start
@@ -103,9 +104,9 @@ module _ (m : List ℕ) (l : TileLayout) (at : ℕ) (g : WayHeadRead) (b : HeadI
             ends (ok a e) f c = let u : e ≡ k = ok-at c in let z = body-good .forth m n a e f in omega arith
             ends (no x y) f c = no-ok c
 
-        pub way-ends : ok (eqb (g .head .size) (k - g .head .start)) k ≡ exactWay l m at
-        way-ends =
-            sym (way-exact (formatOf l m) m bodyOf (g .head .size) n at (g .head .start) (viewed (λ (a : WayHead). a .size) read seen) (viewed (λ (a : WayHead). a .start) read seen) (sym q ∙ ap bodyRes d))
+        pub way-ends : (points : List Kind) → ok (eqb (g .head .size) (k - g .head .start)) k ≡ exactWay (by debug points ways) m at
+        way-ends points =
+            sym (way-exact (formatOf (by debug points ways)) m bodyOf (g .head .size) n at (g .head .start) (viewed (λ (a : WayHead). a .size) read seen) (viewed (λ (a : WayHead). a .start) read seen) (sym q ∙ ap bodyRes d))
 
 pub ruleset way-reads = (needs, way-stops, body-stops, length-fits, way-ends)
 
@@ -118,18 +119,18 @@ module _ (a b : Bool) where
   both-no h = rw h
 
 -- ways
-module _ (m : List ℕ) (l : TileLayout) (i at n : ℕ) (all : Bool) (e : ok all n ≡ exactWays l m i at) where
-  module _ (g : WaysRead) (q : waysRes g ≡ exactWay l m n) where
-    pub ways-more : (b c : Bool) (k : ℕ) → g ≡ ways.Value b k → c ≡ (all && b) → ok c k ≡ exactWays l m (i + 1) at
-    ways-more b c k h w = ap (λ x. ok x k) w ∙ sym (exact-more (formatOf l m) m i at (sym e) (sym q ∙ ap waysRes h))
+module _ (m : List ℕ) (debug : Bool) (points ways : List Kind) (i at n : ℕ) (all : Bool) (e : ok all n ≡ exactWays (by debug points ways) m i at) where
+  module _ (g : WaysRead) (q : waysRes g ≡ exactWay (by debug points ways) m n) where
+    pub ways-more : (b c : Bool) (k : ℕ) → g ≡ ways-read.Value b k → c ≡ (all && b) → ok c k ≡ exactWays (by debug points ways) m (i + 1) at
+    ways-more b c k h w = ap (λ x. ok x k) w ∙ sym (exact-more (formatOf (by debug points ways)) m i at (sym e) (sym q ∙ ap waysRes h))
 
-    pub ways-no : (k : ℕ) (x y : Refusal) → g ≡ ways.Refused x → y ≡ waysRefusal g → i < k → refused y ≡ exactWays l m k at
-    ways-no k x y h w b = ap refused (w ∙ ap waysRefusal h) ∙ sym (exact-no (formatOf l m) m i k at (sym e) (sym q ∙ ap waysRes h) b)
+    pub ways-no : (k : ℕ) (x y : Refusal) → g ≡ ways-read.Refused x → y ≡ waysRefusal g → i < k → refused y ≡ exactWays (by debug points ways) m k at
+    ways-no k x y h w b = ap refused (w ∙ ap waysRefusal h) ∙ sym (exact-no (formatOf (by debug points ways)) m i k at (sym e) (sym q ∙ ap waysRes h) b)
 
-  pub ways-done : (k : ℕ) → i ≤ k → k ≤ i → ok all n ≡ exactWays l m k at
+  pub ways-done : (k : ℕ) → i ≤ k → k ≤ i → ok all n ≡ exactWays (by debug points ways) m k at
   ways-done k b b′ = let z : i ≡ k = omega arith in rw z at e
 
-pub ways-start : (m : List ℕ) (l : TileLayout) (at : ℕ) → ok true at ≡ exactWays l m 0 at
-ways-start m l at = refl
+pub ways-start : (m : List ℕ) (debug : Bool) (points ways : List Kind) (at : ℕ) → ok true at ≡ exactWays (by debug points ways) m 0 at
+ways-start m debug points ways at = refl
 
 pub ruleset way-loops = (needs, ways-start, ways-more, ways-no, ways-done)

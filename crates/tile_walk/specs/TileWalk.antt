@@ -7,8 +7,7 @@ use Rattle.error.specs.Refusals.{refused}
 use Rattle.error.specs.declared.Refusal.{Refusal}
 use Rattle.error.specs.declared.Refusal.the-variants.{Source}
 use Rattle.agreement.specs.Collected.{way, exact, allExact}
-use Rattle.tile_layout.specs.TileLayout.{formatOf}
-use Rattle.tile_layout.specs.declared.TileLayout.{TileLayout}
+use Rattle.tile_layout.specs.TileLayout.{TileKinds, formatOf}
 use Rattle.tile_walk.specs.declared.WaysRead.{WaysRead}
 use Rattle.tile_walk.specs.declared.WaysRead.the-variants as ways
 
@@ -21,8 +20,8 @@ waysRefusal (ways.Value b n) = Source
 waysRefusal (ways.Refused r) = r
 
 -- of one way, and of n ways
-abbrev pub exactWay : TileLayout → List ℕ → (at : ℕ) → Res Bool
-exactWay l m at = mapRes exact (way (formatOf l m) m at)
+abbrev pub exactWay : TileKinds → List ℕ → (at : ℕ) → Res Bool
+exactWay l m at = mapRes exact (way (formatOf l) m at)
 
-abbrev pub exactWays : TileLayout → List ℕ → (n at : ℕ) → Res Bool
-exactWays l m n at = mapRes allExact (many (way (formatOf l m)) n m at)
+abbrev pub exactWays : TileKinds → List ℕ → (n at : ℕ) → Res Bool
+exactWays l m n at = mapRes allExact (many (way (formatOf l)) n m at)

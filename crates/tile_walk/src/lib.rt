@@ -7,10 +7,9 @@ ghost use mathlib.Core.Path.{_≡_};
 ghost use mathlib.Core.Bool.{_&&_};
 ghost use lib.ListN.{length};
 ghost use Rattle.parsing.specs.Parse.{mapRes, many};
-ghost use Rattle.format.specs.Kinds.{tagKinds};
 ghost use Rattle.format.specs.Tile.{point};
 ghost use Rattle.types.specs.Types.{endRes};
-ghost use Rattle.tag_table.specs.Tables.{tableIn};
+ghost use Rattle.tile_layout.specs.TileLayout.{kindsOf};
 ghost use Rattle.tile_walk.specs.TileWalk.{waysRes, waysRefusal, exactWay, exactWays};
 
 // Whether every stored size is the decoded length, and the place behind the ways.
@@ -29,13 +28,13 @@ pub fn ways_refusal(got: WaysRead) -> Refusal
 }
 
 // The place behind n points.
-pub fn pass_points(map: &[u8], at: usize, n: u64, layout: TileLayout) -> End
-    ensures { λ r. ⌜ endRes n r ≡ mapRes length (many (point (layout .debug) (tagKinds (tableIn (layout .«poi_tags»)) (now (map .entry)))) n (now (map .entry)) at) ⌝ }
+pub fn pass_points(map: &[u8], at: usize, n: u64, layout: TileLayout, letters: &[u8]) -> End
+    ensures { λ r. ⌜ endRes n r ≡ mapRes length (many (point (layout .debug) (kindsOf layout (now (letters .entry)) .points)) n (now (map .entry)) at) ⌝ }
 {
     let mut next = at;
     let mut i = 0;
     while i < n {
-        let got = poi::read_poi(map, next, layout.debug, layout.poi_tags);
+        let got = poi::read_poi(map, next, layout.debug, letters, layout.poi_tags);
         let end = got.end;
         let End::At(after) = end else {
             return End::Refused(types::end_refusal(end));
@@ -47,11 +46,11 @@ pub fn pass_points(map: &[u8], at: usize, n: u64, layout: TileLayout) -> End
 }
 
 // One way: its decoded length is counted from its data start, as its stored size is.
-fn measure_way(map: &[u8], at: usize, layout: TileLayout) -> WaysRead
-    ensures { λ r. ⌜ waysRes r ≡ exactWay layout (now (map .entry)) at ⌝ }
+fn measure_way(map: &[u8], at: usize, layout: TileLayout, letters: &[u8]) -> WaysRead
+    ensures { λ r. ⌜ waysRes r ≡ exactWay (kindsOf layout (now (letters .entry))) (now (map .entry)) at ⌝ }
 {
-    let table = layout.way_tags;
-    let got = way_head::read_way_head(map, at, layout.debug, table);
+    let tags = layout.way_tags;
+    let got = way_head::read_way_head(map, at, layout.debug, letters, tags);
     let end = got.end;
     let End::At(start) = end else {
         return WaysRead::Refused(types::end_refusal(end));
@@ -74,14 +73,14 @@ fn both(a: bool, b: bool) -> bool
 }
 
 // n ways.
-pub fn measure_ways(map: &[u8], at: usize, n: u64, layout: TileLayout) -> WaysRead
-    ensures { λ r. ⌜ waysRes r ≡ exactWays layout (now (map .entry)) n at ⌝ }
+pub fn measure_ways(map: &[u8], at: usize, n: u64, layout: TileLayout, letters: &[u8]) -> WaysRead
+    ensures { λ r. ⌜ waysRes r ≡ exactWays (kindsOf layout (now (letters .entry))) (now (map .entry)) n at ⌝ }
 {
     let mut all = true;
     let mut next = at;
     let mut i = 0;
     while i < n {
-        let got = measure_way(map, next, layout);
+        let got = measure_way(map, next, layout, letters);
         let WaysRead::Value(one, after) = got else {
             return WaysRead::Refused(ways_refusal(got));
         };

@@ -46,6 +46,12 @@ pub struct TagTable {
     pub count: usize,
 }
 
+// Which entries of the listed tag strings are the tags of points, or of ways: `count` entries from `first` on.
+pub struct TagRange {
+    pub first: usize,
+    pub count: usize,
+}
+
 // Where the zoom intervals stand in the map's header, and how many there are.
 pub struct IntervalTable {
     pub start: usize,

@@ -2,20 +2,19 @@
 use Prim.Native.Nat.{ℕ, suc, _+_, _-_, _≤_, _<_}
 use native.Mathlib.Omega.{arith}
 use mathlib.Core.Path.{_≡_, sym, ap, _∙_, subst}
+use mathlib.Core.Bool.{Bool}
 use mathlib.Core.List.{List}
 use Rattle.parsing.specs.Parse.{Res, ok, no, mapRes}
 use Rattle.parsing.specs.Good.{ok-val, ok-at, no-ok}
-use Rattle.error.specs.Refusals as error
 use Rattle.error.specs.Refusals.{numberOf, valuesOf}
 use Rattle.error.specs.declared.Refusal.{Refusal}
 use Rattle.error.specs.declared.Refusal.the-variants.{OutOfTurn}
 use Rattle.arithmetic.specs.Cut.{cut}
-use Rattle.format.specs.Kinds.{tagKinds}
+use Rattle.tag.specs.declared.Kind.{Kind}
 use Rattle.format.specs.Tile.{Point, Head, Body, point, head}
 use Rattle.types.specs.Types.{endRes, endRefusal}
 use Rattle.types.specs.declared.End.{End}
 use Rattle.types.specs.declared.End.the-variants as end
-use Rattle.tag_table.specs.Tables.{tableIn}
 use Rattle.poi.specs.Poi.{poiOf, emptyPoi, PoiIs, streamedPoi}
 use Rattle.poi.specs.declared.Poi.{Poi}
 use Rattle.poi.specs.declared.PoiRead.{PoiRead}
@@ -27,9 +26,8 @@ use Rattle.agreement.specs.Calls.{Answer, gotPoint, gotHead, ended, refused, St
 use Rattle.agreement.specs.Stream.{State, idle, waits, onPoint, onHead, onNext}
 use Rattle.agreement.specs.TileFormat as tile
 use Rattle.agreement.proofs.CallLaws.{next-point, next-head, next-end}
-use Rattle.tile_layout.specs.TileLayout.{formatOf}
+use Rattle.agreement.specs.TileFormat.{tileFormat}
 use Rattle.visit.specs.Visit.{endOf, stateOf, shownPoint, shownHead, shownStep, noHead, NextIs, streamedHead}
-use Rattle.tile_layout.specs.declared.TileLayout.{TileLayout}
 use Rattle.visit.specs.declared.TileEnd.{TileEnd}
 use Rattle.visit.specs.declared.Remaining.{Remaining}
 use Rattle.visit.specs.declared.WaitingWay.{WaitingWay}
@@ -64,10 +62,10 @@ module _ (r : NextStep) (x : Refusal) (s : Stream) (a : r .answer ≡ next-answe
   stays : NextIs (shownStep (plain (refused (numberOf x) (valuesOf x)) (stateOf s))) r
   stays = record { answer = rw (a, t); poi = p; head = h }
 
-  module _ (l : TileLayout) (m : List ℕ) where
+  module _ (debug : Bool) (points ways : List Kind) (m : List ℕ) where
     -- a way waits
-    pub next-waits : (w : WaitingWay) → s .turn ≡ turn.Waits w → x ≡ OutOfTurn → NextIs (shownStep (onNext (formatOf l m) m (stateOf s))) r
-    next-waits w e o = next-same (onNext (formatOf l m) m (stateOf s)) (plain (refused (numberOf x) (valuesOf x)) (stateOf s)) r (rw (e, o)) stays
+    pub next-waits : (w : WaitingWay) → s .turn ≡ turn.Waits w → x ≡ OutOfTurn → NextIs (shownStep (onNext (tileFormat debug points ways) m (stateOf s))) r
+    next-waits w e o = next-same (onNext (tileFormat debug points ways) m (stateOf s)) (plain (refused (numberOf x) (valuesOf x)) (stateOf s)) r (rw (e, o)) stays
 
     module _ (q : Remaining) (z : TileEnd) (e : s ≡ record { turn = turn.Idle q; end = z }) where
       abbrev at-rest : State tile.TileEnd
@@ -76,42 +74,42 @@ module _ (r : NextStep) (x : Refusal) (s : Stream) (a : r .answer ≡ next-answe
       rests : (k : StoredStep) → k ≡ plain (refused (numberOf x) (valuesOf x)) at-rest → NextIs (shownStep k) r
       rests k w = next-same k (plain (refused (numberOf x) (valuesOf x)) (stateOf s)) r (w ∙ rw e) stays
 
-      pub no-point : (g : PoiRead) (y : Refusal) → PoiIs (point (l .debug) (tagKinds (tableIn (l .«poi_tags»)) m) m (q .at)) g → g .end ≡ end.Refused y → x ≡ endRefusal (g .end) → 0 < q .points → NextIs (shownStep (onNext (formatOf l m) m at-rest)) r
+      pub no-point : (g : PoiRead) (y : Refusal) → PoiIs (point debug points m (q .at)) g → g .end ≡ end.Refused y → x ≡ endRefusal (g .end) → 0 < q .points → NextIs (shownStep (onNext (tileFormat debug points ways) m at-rest)) r
       no-point g y b h w o =
-          let k = stopped poiOf (numberOf y) (valuesOf y) (point (l .debug) (tagKinds (tableIn (l .«poi_tags»)) m) m (q .at)) (ap (endRes (g .poi)) (sym h) ∙ b .answer) in
+          let k = stopped poiOf (numberOf y) (valuesOf y) (point debug points m (q .at)) (ap (endRes (g .poi)) (sym h) ∙ b .answer) in
           let v : x ≡ y = w ∙ ap endRefusal h in
           let u : suc (q .points - 1) ≡ q .points = omega arith in
-          rests _ (next-point (formatOf l m) m (q .points) (q .ways) (q .at) (q .way) (endOf z) o ∙ rw (k, v, u))
+          rests _ (next-point (tileFormat debug points ways) m (q .points) (q .ways) (q .at) (q .way) (endOf z) o ∙ rw (k, v, u))
 
-      pub no-way : (g : WayHeadRead) (y : Refusal) → HeadIs (head (l .debug) (tagKinds (tableIn (l .«way_tags»)) m) m (q .way)) g → g .end ≡ end.Refused y → x ≡ endRefusal (g .end) → q .points ≤ 0 → 0 < q .ways → NextIs (shownStep (onNext (formatOf l m) m at-rest)) r
+      pub no-way : (g : WayHeadRead) (y : Refusal) → HeadIs (head debug ways m (q .way)) g → g .end ≡ end.Refused y → x ≡ endRefusal (g .end) → q .points ≤ 0 → 0 < q .ways → NextIs (shownStep (onNext (tileFormat debug points ways) m at-rest)) r
       no-way g y b h w i o =
-          let k = stopped headOf (numberOf y) (valuesOf y) (head (l .debug) (tagKinds (tableIn (l .«way_tags»)) m) m (q .way)) (ap (endRes (g .head)) (sym h) ∙ b .answer) in
+          let k = stopped headOf (numberOf y) (valuesOf y) (head debug ways m (q .way)) (ap (endRes (g .head)) (sym h) ∙ b .answer) in
           let v : x ≡ y = w ∙ ap endRefusal h in
           let u : suc (q .ways - 1) ≡ q .ways = omega arith in
           let j : q .points ≡ 0 = omega arith in
-          rests _ (next-head (formatOf l m) m (q .points) (q .ways) (q .at) (q .way) (endOf z) i o ∙ rw (k, v, u, j))
+          rests _ (next-head (tileFormat debug points ways) m (q .points) (q .ways) (q .at) (q .way) (endOf z) i o ∙ rw (k, v, u, j))
 
-module _ (l : TileLayout) (m : List ℕ) (q : Remaining) (z : TileEnd) where
+module _ (debug : Bool) (points ways : List Kind) (m : List ℕ) (q : Remaining) (z : TileEnd) where
   abbrev step : StoredStep
-  step = onNext (formatOf l m) m (idle (q .points) (q .ways) (q .at) (q .way) (endOf z))
+  step = onNext (tileFormat debug points ways) m (idle (q .points) (q .ways) (q .at) (q .way) (endOf z))
 
-  pub a-point : (g : PoiRead) (n : ℕ) (p : Poi) (h : StreamedHead) → PoiIs (point (l .debug) (tagKinds (tableIn (l .«poi_tags»)) m) m (q .at)) g → g .end ≡ end.At n → p ≡ streamedPoi m (g .poi) → h ≡ noHead → 0 < q .points
+  pub a-point : (g : PoiRead) (n : ℕ) (p : Poi) (h : StreamedHead) → PoiIs (point debug points m (q .at)) g → g .end ≡ end.At n → p ≡ streamedPoi m (g .poi) → h ≡ noHead → 0 < q .points
       → NextIs (shownStep step) (record { answer = next-answer.Point; poi = p; head = h; stream = record { turn = turn.Idle (record { points = q .points - 1; ways = q .ways; at = n; way = q .way }); end = z } })
   a-point g n p h b e u k o =
-      let s = stored poiOf (g .poi) n (point (l .debug) (tagKinds (tableIn (l .«poi_tags»)) m) m (q .at)) (ap (endRes (g .poi)) (sym e) ∙ b .answer) in
-      let v : p ≡ shownPoint (s .value) = u ∙ ap (streamedPoi m) (s .shown) ∙ point-streamed m (l .debug) (tagKinds (tableIn (l .«poi_tags»)) m) (q .at) (s .value) n (s .same) in
+      let s = stored poiOf (g .poi) n (point debug points m (q .at)) (ap (endRes (g .poi)) (sym e) ∙ b .answer) in
+      let v : p ≡ shownPoint (s .value) = u ∙ ap (streamedPoi m) (s .shown) ∙ point-streamed m debug points (q .at) (s .value) n (s .same) in
       next-same step (plain (gotPoint (s .value)) (idle (q .points - 1) (q .ways) n (q .way) (endOf z))) _
-      (next-point (formatOf l m) m (q .points) (q .ways) (q .at) (q .way) (endOf z) o ∙ ap (onPoint (formatOf l m) (q .points - 1) (q .ways) (q .at) (q .way) (endOf z)) (s .same))
+      (next-point (tileFormat debug points ways) m (q .points) (q .ways) (q .at) (q .way) (endOf z) o ∙ ap (onPoint (tileFormat debug points ways) (q .points - 1) (q .ways) (q .at) (q .way) (endOf z)) (s .same))
       (record { answer = rw v; poi = v; head = k })
 
-  pub a-way : (g : WayHeadRead) (n past : ℕ) (p : Poi) (h : StreamedHead) → HeadIs (head (l .debug) (tagKinds (tableIn (l .«way_tags»)) m) m (q .way)) g → g .end ≡ end.At n → past ≡ cut (g .head .start + g .head .size) → p ≡ emptyPoi → h ≡ streamedHead (g .head) → q .points ≤ 0 → 0 < q .ways
+  pub a-way : (g : WayHeadRead) (n past : ℕ) (p : Poi) (h : StreamedHead) → HeadIs (head debug ways m (q .way)) g → g .end ≡ end.At n → past ≡ cut (g .head .start + g .head .size) → p ≡ emptyPoi → h ≡ streamedHead (g .head) → q .points ≤ 0 → 0 < q .ways
       → NextIs (shownStep step) (record { answer = next-answer.Way; poi = p; head = h; stream = record { turn = turn.Waits (record { ways = q .ways - 1; past = past; body = n }); end = z } })
   a-way g n past p h b e x k u i o =
-      let s = stored headOf (g .head) n (head (l .debug) (tagKinds (tableIn (l .«way_tags»)) m) m (q .way)) (ap (endRes (g .head)) (sym e) ∙ b .answer) in
+      let s = stored headOf (g .head) n (head debug ways m (q .way)) (ap (endRes (g .head)) (sym e) ∙ b .answer) in
       let v : h ≡ shownHead (s .value) = u ∙ ap streamedHead (s .shown) in
       let y : past ≡ cut (s .value .start + s .value .size) = x ∙ ap (λ (w : WayHead). cut (w .start + w .size)) (s .shown) in
       next-same step (plain (gotHead (s .value)) (waits (q .ways - 1) (cut (s .value .start + s .value .size)) n (endOf z))) _
-      (next-head (formatOf l m) m (q .points) (q .ways) (q .at) (q .way) (endOf z) i o ∙ ap (onHead (formatOf l m) (q .ways - 1) (q .at) (q .way) (endOf z)) (s .same))
+      (next-head (tileFormat debug points ways) m (q .points) (q .ways) (q .at) (q .way) (endOf z) i o ∙ ap (onHead (tileFormat debug points ways) (q .ways - 1) (q .at) (q .way) (endOf z)) (s .same))
       (record { answer = rw (v, y); poi = k; head = v })
 
   pub the-end : (p : Poi) (h : StreamedHead) → p ≡ emptyPoi → h ≡ noHead → q .points ≤ 0 → q .ways ≤ 0 → NextIs (shownStep step) (record { answer = next-answer.End z; poi = p; head = h; stream = record { turn = turn.Idle q; end = z } })
@@ -119,9 +117,9 @@ module _ (l : TileLayout) (m : List ℕ) (q : Remaining) (z : TileEnd) where
       let a : q .points ≡ 0 = omega arith in
       let b : q .ways ≡ 0 = omega arith in
       next-same step (plain (ended (endOf z)) (idle 0 0 (q .at) (q .way) (endOf z))) _
-      (next-end (formatOf l m) m (q .points) (q .ways) (q .at) (q .way) (endOf z) i j)
+      (next-end (tileFormat debug points ways) m (q .points) (q .ways) (q .at) (q .way) (endOf z) i j)
       (record { answer = rw (a, b); poi = k; head = v })
 
 -- while no way waits
-pub next-idle : (l : TileLayout) (m : List ℕ) (s : Stream) (q : Remaining) (r : NextStep) → s .turn ≡ turn.Idle q → NextIs (shownStep (onNext (formatOf l m) m (idle (q .points) (q .ways) (q .at) (q .way) (endOf (s .end))))) r → NextIs (shownStep (onNext (formatOf l m) m (stateOf s))) r
-next-idle l m s q r e h = rw e h
+pub next-idle : (debug : Bool) (points ways : List Kind) (m : List ℕ) (s : Stream) (q : Remaining) (r : NextStep) → s .turn ≡ turn.Idle q → NextIs (shownStep (onNext (tileFormat debug points ways) m (idle (q .points) (q .ways) (q .at) (q .way) (endOf (s .end))))) r → NextIs (shownStep (onNext (tileFormat debug points ways) m (stateOf s))) r
+next-idle debug points ways m s q r e h = rw e h

@@ -25,7 +25,7 @@ ghost use Rattle.way_data.specs.Reply.{lent};
 ghost use Rattle.format.specs.BodyLists.{bodyLists};
 ghost use Rattle.format.specs.Tile.{body};
 ghost use Rattle.agreement.specs.Stream.{idle, onNext, onAccept, onDecline};
-ghost use Rattle.tile_layout.specs.TileLayout.{formatOf};
+ghost use Rattle.tile_layout.specs.TileLayout.{kindsOf, formatOf};
 ghost use Rattle.visit.specs.Visit.{endOf, stateOf, openTile, openedAt, openRes, shownStep, noHead, NextIs, acceptStep, streamedBody, streamedHead, declineStep};
 
 // What the stream's end says.
@@ -170,12 +170,18 @@ fn streamed_body(map: &[u8], body: WayBody) -> StreamedBody
     }
 }
 
-fn next_point(map: &[u8], layout: TileLayout, rest: Remaining, end: TileEnd) -> NextStep
+fn next_point(
+    map: &[u8],
+    layout: TileLayout,
+    letters: &[u8],
+    rest: Remaining,
+    end: TileEnd,
+) -> NextStep
     requires { ⌜ 0 < rest .points ⌝ }
-    ensures { λ r. ⌜ NextIs (shownStep (onNext (formatOf layout (now (map .entry))) (now (map .entry)) (idle (rest .points) (rest .ways) (rest .at) (rest .way) (endOf end)))) r ⌝ }
+    ensures { λ r. ⌜ NextIs (shownStep (onNext (formatOf (kindsOf layout (now (letters .entry)))) (now (map .entry)) (idle (rest .points) (rest .ways) (rest .at) (rest .way) (endOf end)))) r ⌝ }
 {
-    let table = layout.poi_tags;
-    let got = poi::read_poi(map, rest.at, layout.debug, table);
+    let tags = layout.poi_tags;
+    let got = poi::read_poi(map, rest.at, layout.debug, letters, tags);
     let ending = got.end;
     let End::At(at) = ending else {
         let turn = Turn::Idle(rest);
@@ -196,12 +202,18 @@ fn next_point(map: &[u8], layout: TileLayout, rest: Remaining, end: TileEnd) -> 
     }
 }
 
-fn next_way(map: &[u8], layout: TileLayout, rest: Remaining, end: TileEnd) -> NextStep
+fn next_way(
+    map: &[u8],
+    layout: TileLayout,
+    letters: &[u8],
+    rest: Remaining,
+    end: TileEnd,
+) -> NextStep
     requires { ⌜ (rest .points ≤ 0) × (0 < rest .ways) ⌝ }
-    ensures { λ r. ⌜ NextIs (shownStep (onNext (formatOf layout (now (map .entry))) (now (map .entry)) (idle (rest .points) (rest .ways) (rest .at) (rest .way) (endOf end)))) r ⌝ }
+    ensures { λ r. ⌜ NextIs (shownStep (onNext (formatOf (kindsOf layout (now (letters .entry)))) (now (map .entry)) (idle (rest .points) (rest .ways) (rest .at) (rest .way) (endOf end)))) r ⌝ }
 {
-    let table = layout.way_tags;
-    let got = way_head::read_way_head(map, rest.way, layout.debug, table);
+    let tags = layout.way_tags;
+    let got = way_head::read_way_head(map, rest.way, layout.debug, letters, tags);
     let ending = got.end;
     let End::At(body) = ending else {
         let turn = Turn::Idle(rest);
@@ -223,14 +235,20 @@ fn next_way(map: &[u8], layout: TileLayout, rest: Remaining, end: TileEnd) -> Ne
 }
 
 // While no way waits: a point, then a way's head, at last the end.
-fn next_idle(map: &[u8], layout: TileLayout, rest: Remaining, end: TileEnd) -> NextStep
-    ensures { λ r. ⌜ NextIs (shownStep (onNext (formatOf layout (now (map .entry))) (now (map .entry)) (idle (rest .points) (rest .ways) (rest .at) (rest .way) (endOf end)))) r ⌝ }
+fn next_idle(
+    map: &[u8],
+    layout: TileLayout,
+    letters: &[u8],
+    rest: Remaining,
+    end: TileEnd,
+) -> NextStep
+    ensures { λ r. ⌜ NextIs (shownStep (onNext (formatOf (kindsOf layout (now (letters .entry)))) (now (map .entry)) (idle (rest .points) (rest .ways) (rest .at) (rest .way) (endOf end)))) r ⌝ }
 {
     if 0 < rest.points {
-        return next_point(map, layout, rest, end);
+        return next_point(map, layout, letters, rest, end);
     }
     if 0 < rest.ways {
-        return next_way(map, layout, rest, end);
+        return next_way(map, layout, letters, rest, end);
     }
     let turn = Turn::Idle(rest);
     NextStep {
@@ -242,15 +260,16 @@ fn next_idle(map: &[u8], layout: TileLayout, rest: Remaining, end: TileEnd) -> N
 }
 
 // The next point; after the last point the next way's head, which then waits; at last the end, again and again. 16 while a way waits.
-pub fn next(map: &[u8], layout: TileLayout, stream: Stream) -> NextStep
-    ensures { λ r. ⌜ NextIs (shownStep (onNext (formatOf layout (now (map .entry))) (now (map .entry)) (stateOf «stream»))) r ⌝ }
+// Inline values are skipped by the listed letters.
+pub fn next(map: &[u8], layout: TileLayout, letters: &[u8], stream: Stream) -> NextStep
+    ensures { λ r. ⌜ NextIs (shownStep (onNext (formatOf (kindsOf layout (now (letters .entry)))) (now (map .entry)) (stateOf «stream»))) r ⌝ }
 {
     let turn = stream.turn;
     let Turn::Idle(rest) = turn else {
         return refused_next(Refusal::OutOfTurn, stream);
     };
     let end = stream.end;
-    next_idle(map, layout, rest, end)
+    next_idle(map, layout, letters, rest, end)
 }
 
 fn refused_accept(refusal: LentRefusal, stream: Stream) -> Accepted

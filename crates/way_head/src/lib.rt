@@ -6,13 +6,12 @@ use fields::OptionalSpanRead;
 use tagged::TagIds;
 use types::End;
 use types::OptionalSpan;
-use types::TagTable;
+use types::TagRange;
 ghost use mathlib.Core.Path.{_≡_};
 ghost use Rattle.parsing.specs.Parse.{Part, Maybe};
-ghost use Rattle.format.specs.Kinds.{tagKinds};
 ghost use Rattle.format.specs.Tile.{headRest, head};
 ghost use Rattle.types.specs.Types.{optionalSpan};
-ghost use Rattle.tag_table.specs.Tables.{tableIn};
+ghost use Rattle.tag_table.specs.Tables.{kindsBy};
 ghost use Rattle.way_head.specs.WayHead.{emptyHead, HeadIs};
 
 // The size is counted from `start`, the byte behind the size field.
@@ -54,29 +53,30 @@ fn refused_head(refusal: Refusal) -> WayHeadRead
 fn read_head_rest(
     map: &[u8],
     at: usize,
-    table: TagTable,
+    letters: &[u8],
+    tags: TagRange,
     signature: OptionalSpan,
     size: u64,
 ) -> WayHeadRead
-    ensures { λ r. ⌜ ((g : Maybe Part) → signature ≡ optionalSpan g → HeadIs (headRest (tagKinds (tableIn table) (now (map .entry))) g size at (now (map .entry)) at) r) ⌝ }
+    ensures { λ r. ⌜ ((g : Maybe Part) → signature ≡ optionalSpan g → HeadIs (headRest (kindsBy (now (letters .entry)) tags) g size at (now (map .entry)) at) r) ⌝ }
 {
     let got = byte_source::read_u16_be(map, at);
     let ShortRead::Value(bitmap, next) = got else {
         return refused_head(byte_source::short_refusal(got));
     };
-    let tags = tagged::read_tagged(map, next, table);
-    let end = tags.end;
+    let got = tagged::read_tagged(map, next, letters, tags);
+    let end = got.end;
     let End::At(behind) = end else {
         return refused_head(types::end_refusal(end));
     };
-    let tag_ids = tags.tag_ids;
+    let tag_ids = got.tag_ids;
     WayHeadRead {
         head: WayHead {
             signature,
             size,
             start: at,
             bitmap,
-            layer: tags.layer,
+            layer: got.layer,
             tag_ids,
         },
         end: End::At(behind),
@@ -84,8 +84,14 @@ fn read_head_rest(
 }
 
 // Signature, size, tile bitmap, layer and tags; the tag values are skipped.
-pub fn read_way_head(map: &[u8], at: usize, debug: bool, table: TagTable) -> WayHeadRead
-    ensures { λ r. ⌜ HeadIs (head debug (tagKinds (tableIn table) (now (map .entry))) (now (map .entry)) at) r ⌝ }
+pub fn read_way_head(
+    map: &[u8],
+    at: usize,
+    debug: bool,
+    letters: &[u8],
+    tags: TagRange,
+) -> WayHeadRead
+    ensures { λ r. ⌜ HeadIs (head debug (kindsBy (now (letters .entry)) tags) (now (map .entry)) at) r ⌝ }
 {
     let got = fields::read_signature(map, at, debug);
     let OptionalSpanRead::Value(signature, at) = got else {
@@ -95,5 +101,5 @@ pub fn read_way_head(map: &[u8], at: usize, debug: bool, table: TagTable) -> Way
     let NumberRead::Value(size, start) = got else {
         return refused_head(byte_source::number_refusal(got));
     };
-    read_head_rest(map, start, table, signature, size)
+    read_head_rest(map, start, letters, tags, signature, size)
 }

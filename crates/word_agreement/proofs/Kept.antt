@@ -8,13 +8,13 @@ use Rattle.parsing.specs.Parse.{Res, ok, no}
 use Rattle.format.specs.Lent.{LentLists, deliver}
 use Rattle.format.specs.BodyLists.{bodyLists}
 use Rattle.format.specs.Tile.{Point, Head, Body, body}
-use Rattle.tile_layout.specs.TileLayout.{formatOf}
+use Rattle.tile_layout.specs.TileLayout.{TileKinds, kindsOf, formatOf}
 use Rattle.tile_layout.specs.declared.TileLayout.{TileLayout}
 use Rattle.agreement.specs.Calls.{Answer, refused, Step}
 use Rattle.agreement.specs.Format.{Format}
 use Rattle.agreement.specs.Stream.{State, idle, waits, onPoint, onHead, onNext, onBody, onAccept, onDecline}
 use Rattle.agreement.specs.TileFormat as tile
-use Rattle.visit.specs.Visit.{endOf, turnState, stateOf, ShownAnswer, shownStep, nextAnswer, acceptAnswer, acceptStep, declineAnswer, declineStep}
+use Rattle.visit.specs.Visit.{endOf, turnState, stateOf, ShownAnswer, shownStep, nextAnswer, acceptAnswer, declineAnswer}
 use Rattle.visit.specs.declared.TileEnd.{TileEnd}
 use Rattle.visit.specs.declared.Turn.{Turn}
 use Rattle.visit.specs.declared.Turn.the-variants as turn
@@ -56,9 +56,9 @@ Stored = Step (Answer Point Head Body tile.TileEnd) (State tile.TileEnd)
 abbrev Keeps : State tile.TileEnd → Stored → Type 0
 Keeps t x = (k : ℕ) (y : List ℕ) → shownStep x .reply .answer ≡ refused k y → x .left ≡ t
 
-module _ (l : TileLayout) (m : List ℕ) where
+module _ (l : TileKinds) (m : List ℕ) where
   abbrev F : Format
-  F = formatOf l m
+  F = formatOf l
 
   next-keeps : (t : State tile.TileEnd) → Keeps t (onNext F m t)
   next-keeps (idle (suc n) w i v z) k y e = go (F .point m i) k y e
@@ -95,15 +95,15 @@ module _ (s t : Stream) (x : Stored) (y : Step ShownAnswer (State tile.TileEnd))
       ∙ ap streamOf (sym (ap (λ (a : Step ShownAnswer (State tile.TileEnd)). a .left) e) ∙ left)
       ∙ stream-of t
 
-pub next-kept : (m : List ℕ) (l : TileLayout) (s : Stream) (a : NextStep) → NextOf m l s a → nextLeft (a .answer) (a .stream) s ≡ a .stream
-next-kept m l s a k = go (a .answer) refl
+pub next-kept : (m letters : List ℕ) (l : TileLayout) (s : Stream) (a : NextStep) → NextOf m letters l s a → nextLeft (a .answer) (a .stream) s ≡ a .stream
+next-kept m letters l s a k = go (a .answer) refl
   where
     go : (x : NextAnswer) → a .answer ≡ x → nextLeft x (a .stream) s ≡ a .stream
     go next-answer.Point e = refl
     go next-answer.Way e = refl
     go (next-answer.End z) e = refl
     go (next-answer.Refused r) e =
-        kept s (a .stream) (onNext (formatOf l m) m (stateOf s)) _ (k .answer) refl (next-keeps l m (stateOf s)) _ _
+        kept s (a .stream) (onNext (formatOf (kindsOf l letters)) m (stateOf s)) _ (k .answer) refl (next-keeps (kindsOf l letters) m (stateOf s)) _ _
         (ap (λ (b : NextAnswer). nextAnswer b (a .poi) (a .head)) e)
 
 pub accept-kept : (m : List ℕ) (s : Stream) (lent left : LentLists) (a : Accepted) → AcceptOf m s lent left a → acceptLeft (a .answer) (a .stream) s ≡ a .stream

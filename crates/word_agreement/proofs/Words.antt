@@ -9,30 +9,35 @@ use lib.ListN.{getD}
 use lib.Seq.{sets}
 use Rattle.parsing.specs.Parse.{Res, ok, no, mapRes, Part, Maybe, none, some, nth}
 use Rattle.parsing.specs.Good.{ok-val, ok-at, no-ok}
-use Rattle.error.specs.Refusals.{numberOf}
+use Rattle.error.specs.Refusals.{numberOf, lentNumber}
+use Rattle.error.specs.declared.LentRefusal.{LentRefusal}
+use Rattle.error.specs.declared.LentRefusal.the-variants as lent-refusal
 use Rattle.error.specs.declared.Refusal.{Refusal}
 use Rattle.format.specs.Header.{Interval, Header, bit, opened}
 use Rattle.format.specs.Index.{answer}
 use Rattle.format.specs.IntervalTable.{startBefore, rowAt}
-use Rattle.format.specs.Lent.{LentLists, Reply}
+use Rattle.format.specs.Lent.{LentLists, Replied, Reply}
+use Rattle.format.specs.TagLists.{TagLists, listing}
 use Rattle.format.proofs.TagLaws.{opened-header}
 use Rattle.format.proofs.IntervalLaws.{opened-row}
-use Rattle.types.specs.Types.{endRes, intervalsOf, gridOf}
+use Rattle.types.specs.Types.{intervalsOf, gridOf}
 use Rattle.types.specs.declared.Grid.{Grid}
 use Rattle.types.specs.declared.MapHeader.{MapHeader}
 use Rattle.types.specs.declared.HeaderFields.{HeaderFields}
 use Rattle.types.specs.declared.IntervalTable.{IntervalTable}
-use Rattle.types.specs.declared.End.{End}
-use Rattle.types.specs.declared.End.the-variants as end
-use Rattle.header.specs.HeaderView.{mapHeader, emptyHeader, HeaderIs, FieldsAre}
-use Rattle.header.specs.declared.FieldsRead.{FieldsRead}
-use Rattle.header.specs.declared.FieldsRead.the-variants as fields
-use Rattle.header.specs.declared.HeaderRead.{HeaderRead}
+use Rattle.header.specs.HeaderView.{headerFields, mapHeader, emptyHeader}
+use Rattle.opening.specs.Opening.{listedRes, openEndRes, OpenIs}
+use Rattle.opening.specs.declared.ListedRead.{ListedRead}
+use Rattle.opening.specs.declared.ListedRead.the-variants as listed
+use Rattle.opening.specs.declared.MapRead.{MapRead}
+use Rattle.opening.specs.declared.OpenEnd.{OpenEnd}
+use Rattle.opening.specs.declared.OpenEnd.the-variants as end
+use Rattle.opening.proofs.OpenedLaws.{OpenedWith, opened-with}
 use Rattle.header.proofs.HeaderLaws.{intervals-back}
 use Rattle.index.specs.Answers.{intervalFound}
 use Rattle.index.specs.declared.IntervalRead.{IntervalRead}
 use Rattle.index.specs.declared.IntervalRead.the-variants as interval-read
-use Rattle.tile_layout.specs.TileLayout.{layoutOf}
+use Rattle.tile_layout.specs.TileLayout.{layoutOf, kindsOf}
 use Rattle.tile_layout.specs.declared.TileLayout.{TileLayout}
 use Rattle.agreement.specs.Calls.{Call}
 use Rattle.visit.specs.Visit.{ShownAnswer, nextAnswer, acceptAnswer, declineAnswer}
@@ -61,12 +66,12 @@ use Rattle.wire.specs.Spread.{spreadWire, spread-out}
 use Rattle.header_wire.specs.Header.{headerWire, layoutWords, layoutIn, intervalsIn}
 use Rattle.header_wire.specs.Codecs.{HeaderLent, headerIn, headerCodec}
 use Rattle.index_wire.specs.Index.{intervalWire, intervalIn, entryWire}
-use Rattle.index_wire.specs.Codecs.{entryIn, entryCodec}
+use Rattle.index_wire.specs.Codecs.{entryCodec}
 use Rattle.stream_wire.specs.Streams.{streamIn, openedWire, nextWire, acceptWire, declineWire}
 use Rattle.stream_wire.specs.Codecs.{OpenedLent, opened-back, shownOf, seen, Seen, nextIn, nextDecoder, acceptIn, acceptSeen, acceptDecoder, declineIn, declineSeen, declineDecoder}
 use Rattle.feature_wire.specs.Features.{tileWire}
 use Rattle.feature_wire.specs.Codecs.{summaryIn, tileIn, tileCodec}
-use Rattle.exports.specs.Calls.{LentRows, StreamOf, NextOf, AcceptOf, DeclineOf, EntryOf, TileOf}
+use Rattle.exports.specs.Calls.{LentRows, OpenOf, StreamOf, NextOf, AcceptOf, DeclineOf, EntryOf, TileOf}
 use Rattle.map_agreement.specs.Called.{Called}
 use Rattle.map_agreement.specs.Called as called
 use Rattle.map_agreement.specs.BookSays.{BookSays, Opens, opens, Sees}
@@ -90,29 +95,29 @@ renamed {m = m} {l = l} {cs = cs} {rs = rs} e c = subst (λ (s : Stream). Called
 answered-as : {m : List ℕ} {l : _} {s : Stream} {cs : List Call} {a b : ShownAnswer} {v : LentLists} {rs : List (Reply ShownAnswer)} → a ≡ b → Called m l s cs (record { answer = a; lists = v } ∷ rs) → Called m l s cs (record { answer = b; lists = v } ∷ rs)
 answered-as {m = m} {l = l} {s = s} {cs = cs} {v = v} {rs = rs} e c = subst (λ (a : ShownAnswer). Called m l s cs (record { answer = a; lists = v } ∷ rs)) e c
 
-pub word-called : (m layout s : List ℕ) (cs : List Call) (rs : List (Reply ShownAnswer)) → WordCalled m layout s cs rs → Called m (layoutIn layout) (streamIn s) cs rs
-word-called m layout s cs rs no-call = called.no-call
-word-called m layout s cs rs (call-next words ids signed degrees after {cs = ds} {rs = qs} h x c) =
+pub word-called : (m layout letters s : List ℕ) (cs : List Call) (rs : List (Reply ShownAnswer)) → WordCalled m layout letters s cs rs → Called m (kindsOf (layoutIn layout) letters) (streamIn s) cs rs
+word-called m layout letters s cs rs no-call = called.no-call
+word-called m layout letters s cs rs (call-next words ids signed degrees after {cs = ds} {rs = qs} h x c) =
     let a = x .answer in
     let w = lending (words ∷ ids ∷ s ∷ []) signed degrees in
-    let q : nextIn after ≡ seen w a = received (nextWire w) (seen w) (nextDecoder w h) (NextOf m (layoutIn layout) (streamIn s)) after x in
-    let e : streamIn (listOf after 2) ≡ a .stream = ap (λ (y : Seen). y .stream) q ∙ next-kept m (layoutIn layout) (streamIn s) a (x .is) in
+    let q : nextIn after ≡ seen w a = received (nextWire w) (seen w) (nextDecoder w h) (NextOf m letters (layoutIn layout) (streamIn s)) after x in
+    let e : streamIn (listOf after 2) ≡ a .stream = ap (λ (y : Seen). y .stream) q ∙ next-kept m letters (layoutIn layout) (streamIn s) a (x .is) in
     answered-as (sym (ap (λ (y : Seen). shownAnswer (y .shown)) q ∙ shown-next (a .answer) (a .poi) (a .head)))
-    (called.call-next a (x .is) (renamed e (word-called m layout (listOf after 2) ds qs c)))
-word-called m layout s cs rs (call-accept words degrees after before left {cs = ds} {rs = qs} h x c) =
+    (called.call-next a (x .is) (renamed e (word-called m layout letters (listOf after 2) ds qs c)))
+word-called m layout letters s cs rs (call-accept words degrees after before left {cs = ds} {rs = qs} h x c) =
     let a = x .answer in
     let w = lending (words ∷ s ∷ []) [] degrees in
     let q : acceptIn after ≡ acceptSeen w a = received (acceptWire w) (acceptSeen w) (acceptDecoder w h) (AcceptOf m (streamIn s) before left) after x in
     let e : streamIn (listOf after 1) ≡ a .stream = ap (λ (y : Accepted). y .stream) q ∙ accept-kept m (streamIn s) before left a (x .is) in
     answered-as (sym (ap (λ (y : Accepted). acceptAnswer (y .answer)) q))
-    (called.call-accept a (before .counts) (left .counts) (before .latitudes) (before .longitudes) (left .latitudes) (left .longitudes) (x .is) (renamed e (word-called m layout (listOf after 1) ds qs c)))
-word-called m layout s cs rs (call-decline words after {cs = ds} {rs = qs} h x c) =
+    (called.call-accept a (before .counts) (left .counts) (before .latitudes) (before .longitudes) (left .latitudes) (left .longitudes) (x .is) (renamed e (word-called m layout letters (listOf after 1) ds qs c)))
+word-called m layout letters s cs rs (call-decline words after {cs = ds} {rs = qs} h x c) =
     let a = x .answer in
     let w = lending (words ∷ s ∷ []) [] [] in
     let q : declineIn after ≡ declineSeen w a = received (declineWire w) (declineSeen w) (declineDecoder w h) (DeclineOf (streamIn s)) after x in
     let e : streamIn (listOf after 1) ≡ a .stream = ap (λ (y : Declined). y .stream) q ∙ decline-kept (streamIn s) a (x .is) in
     answered-as (sym (ap (λ (y : Declined). declineAnswer (y .answer)) q))
-    (called.call-decline a (x .is) (renamed e (word-called m layout (listOf after 1) ds qs c)))
+    (called.call-decline a (x .is) (renamed e (word-called m layout letters (listOf after 1) ds qs c)))
 
 -- a refusal's number is not 0
 pub refusal-number : {C : Type 0} (r : Refusal) → 0 ≡ numberOf r → C
@@ -182,13 +187,13 @@ fieldsOf h = record {
   «num_zoom_intervals» = h .«num_zoom_intervals»;
 }
 
-abbrev pub fieldsRead : MapHeader → End → FieldsRead
-fieldsRead h (end.At e) = fields.Value (fieldsOf h) e
-fieldsRead h (end.Refused r) = fields.Refused r
+abbrev pub fieldsRead : MapHeader → OpenEnd → ListedRead
+fieldsRead h (end.At e) = listed.Value (fieldsOf h) e
+fieldsRead h (end.Refused r) = listed.Refused r
 
-pub record Whole (x : List ℕ) (f : FieldsRead) : Type 0 where
-  pub read : HeaderRead
-  pub is : HeaderIs (opened x) read
+pub record Whole (x : List ℕ) (lists : TagLists) (f : ListedRead) (tags : TagLists) : Type 0 where
+  pub read : MapRead
+  pub is : OpenIs (opened x) lists read tags
   pub same : f ≡ fieldsRead (read .header) (read .end)
 
 -- a refusal is the same, whatever there would have been
@@ -199,39 +204,53 @@ unread (no n v) = no n v
 retyped : {A B : Type 0} {n k : ℕ} {v w : List ℕ} → _≡_ {A = Res A} (no n v) (no k w) → _≡_ {A = Res B} (no n v) (no k w)
 retyped e = ap unread e
 
-whole : (x : List ℕ) (f : FieldsRead) → FieldsAre (opened x) f → Whole x f
-whole x f k = go (opened x) refl f k
+both-as : {a b : Res MapHeader} {s t : TagLists} → a ≡ b → s ≡ t → _≡_ {A = Replied TagLists (Res MapHeader)} (record { answer = a; lists = s }) (record { answer = b; lists = t })
+both-as p q = rw (p, q) refl
+
+whole : (x : List ℕ) (lists : TagLists) (f : ListedRead) (tags : TagLists) → OpenOf x lists tags f → Whole x lists f tags
+whole x lists f tags k = go (listing (opened x) lists .answer) refl f (ap (λ (y : Replied TagLists (Res HeaderFields)). y .answer) k)
   where
-    go : (r : Res Header) → opened x ≡ r → (f : FieldsRead) → FieldsAre r f → Whole x f
-    go (ok h e) o (fields.Value g n) k = record {
+    left : tags ≡ listing (opened x) lists .lists
+    left = ap (λ (y : Replied TagLists (Res HeaderFields)). y .lists) k
+
+    go : (r : Res Header) → listing (opened x) lists .answer ≡ r → (f : ListedRead) → listedRes f ≡ mapRes headerFields r → Whole x lists f tags
+    go (ok h e) o (listed.Value g n) k = record {
       read = record { header = mapHeader h; end = end.At e };
-      is = rw o (record { answer = refl; whole = refl });
+      is = record { answer = both-as (ap (mapRes mapHeader) (sym o)) left; whole = ap (viewOr mapHeader emptyHeader) (sym o) };
       same = value-as (ok-val k) (ok-at k);
     }
       where
-        value-as : {a b : HeaderFields} {m n : ℕ} → a ≡ b → m ≡ n → fields.Value a m ≡ fields.Value b n
+        value-as : {a b : HeaderFields} {m n : ℕ} → a ≡ b → m ≡ n → listed.Value a m ≡ listed.Value b n
         value-as p q = rw (p, q) refl
-    go (ok h e) o (fields.Refused r) k = no-ok k
-    go (no n v) o (fields.Value g m) k = no-ok (sym k)
-    go (no n v) o (fields.Refused r) k = record {
+    go (ok h e) o (listed.Refused r) k = no-ok k
+    go (no n v) o (listed.Value g m) k = no-ok (sym k)
+    go (no n v) o (listed.Refused r) k = record {
       read = record { header = emptyHeader; end = end.Refused r };
-      is = rw o (record { answer = retyped k; whole = refl });
+      is = record { answer = both-as (retyped k ∙ ap (mapRes mapHeader) (sym o)) left; whole = ap (viewOr mapHeader emptyHeader) (sym o) };
       same = refl;
     }
 
--- a header that crossed without a refusal
-ends-at : (w : Wire) (h : MapHeader) (x : End) → headerWire w (fieldsRead h x) .number ≡ 0 → (e : ℕ) × (x ≡ end.At e)
-ends-at w h (end.At e) q = (e, refl)
-ends-at w h (end.Refused r) q = refusal-number r (sym q)
+-- what a map that opened has, by its stored header
+opened-as : (x : List ℕ) (lists : TagLists) (g : MapRead) (tags : TagLists) (e : ℕ) → OpenIs (opened x) lists g tags → g .end ≡ end.At e → OpenedWith mapHeader (opened x) lists (g .header) e tags
+opened-as x lists g tags e k q = opened-with mapHeader (opened x) lists (g .header) e tags (ap (λ y. record { answer = openEndRes (g .header) y; lists = tags }) (sym q) ∙ k .answer)
 
-number-at : (w : Wire) (h : MapHeader) (x : End) (e : ℕ) → x ≡ end.At e → headerWire w (fieldsRead h x) .number ≡ 0
+-- a header that crossed without a refusal
+lent-number : {C : Type 0} (r : LentRefusal) → 0 ≡ lentNumber r → C
+lent-number (lent-refusal.Refused r) q = refusal-number r q
+lent-number (lent-refusal.Short l) q = absurd (omega (arith, q))
+
+ends-at : (w : Wire) (h : MapHeader) (x : OpenEnd) → headerWire w (fieldsRead h x) .number ≡ 0 → (e : ℕ) × (x ≡ end.At e)
+ends-at w h (end.At e) q = (e, refl)
+ends-at w h (end.Refused r) q = lent-number r (sym q)
+
+number-at : (w : Wire) (h : MapHeader) (x : OpenEnd) (e : ℕ) → x ≡ end.At e → headerWire w (fieldsRead h x) .number ≡ 0
 number-at w h x e q = rw q refl
 
-layout-words : (w : Wire) → HeaderLent w → (h : MapHeader) (x : End) (e : ℕ) → x ≡ end.At e → listOf (headerWire w (fieldsRead h x)) 1 ≡ layoutWords (fieldsOf h) e
-layout-words w k h x e q = rw q (spread-out (34 ∷ 7 ∷ []) 0 6 w k (λ v. listOf (headerWire v (fields.Value (fieldsOf h) e)) 1 ≡ layoutWords (fieldsOf h) e) refl)
+layout-words : (w : Wire) → HeaderLent w → (h : MapHeader) (x : OpenEnd) (e : ℕ) → x ≡ end.At e → listOf (headerWire w (fieldsRead h x)) 1 ≡ layoutWords (fieldsOf h) e
+layout-words w k h x e q = rw q (spread-out (34 ∷ 7 ∷ []) 0 6 w k (λ v. listOf (headerWire v (listed.Value (fieldsOf h) e)) 1 ≡ layoutWords (fieldsOf h) e) refl)
 
 layout-taken : (h : MapHeader) (e : ℕ) → layoutIn (layoutWords (fieldsOf h) e) ≡ layoutOf h
-layout-taken h e = ap (λ (b : Bool). record { debug = b; «poi_tags» = h .«poi_tags»; «way_tags» = h .«way_tags» }) (truth-back (bit 7 (h .flags)))
+layout-taken h e = ap (λ (b : Bool). record { debug = b; «poi_tags» = layoutOf h .«poi_tags»; «way_tags» = layoutOf h .«way_tags» }) (truth-back (bit 7 (h .flags)))
 
 table-taken : (h : MapHeader) (e : ℕ) → h .«num_zoom_intervals» < 256 → intervalsIn (layoutWords (fieldsOf h) e) ≡ tableBefore e (h .«num_zoom_intervals»)
 table-taken h e few = ap (λ n. record { start = startBefore e (h .«num_zoom_intervals»); count = n }) (few-kept (h .«num_zoom_intervals») few)
@@ -240,19 +259,17 @@ table-taken h e few = ap (λ n. record { start = startBefore e (h .«num_zoom_in
     few-kept n l = omega arith
 
 -- the rows of a map that opened are the header's intervals
-rows-are : (x : List ℕ) (g : HeaderRead) (e s : ℕ) → HeaderIs (opened x) g → g .end ≡ end.At e
+rows-are : (x : List ℕ) (lists : TagLists) (g : MapRead) (tags : TagLists) (e s : ℕ) → OpenIs (opened x) lists g tags → g .end ≡ end.At e
     → rowAt (startBefore e (g .header .«num_zoom_intervals»)) (g .header .«num_zoom_intervals») s x ≡ answer (nth (intervalsOf (g .header)) s)
-rows-are x g e s k q = go (opened x) refl k (ap (endRes (g .header)) (sym q) ∙ k .answer)
+rows-are x lists g tags e s k q = let o = opened-as x lists g tags e k q in go (g .header) (o .header) (o .shown) (o .read)
   where
-    go : (r : Res Header) → opened x ≡ r → HeaderIs r g → ok (g .header) e ≡ mapRes mapHeader r
-        → rowAt (startBefore e (g .header .«num_zoom_intervals»)) (g .header .«num_zoom_intervals») s x ≡ answer (nth (intervalsOf (g .header)) s)
-    go (ok h n) o c d = rw (c .whole, ok-at d) (opened-row x h n o s ∙ ap (λ l. answer (nth l s)) (sym (intervals-back h)))
-    go (no n v) o c d = no-ok (sym d)
+    go : (v : MapHeader) (h : Header) → v ≡ mapHeader h → opened x ≡ ok h e → rowAt (startBefore e (v .«num_zoom_intervals»)) (v .«num_zoom_intervals») s x ≡ answer (nth (intervalsOf v) s)
+    go v h c o = rw c (opened-row x h e o s ∙ ap (λ l. answer (nth l s)) (sym (intervals-back h)))
 
 -- what the words of a map's header and of a sub file's interval say
-module _ (x : List ℕ) (s : ℕ) (header interval : Wire) (c : WordAnswers x s header interval) where
-  pub whole-of : Whole x (c .opens .answer)
-  whole-of = whole x (c .opens .answer) (c .opens .is)
+module _ (x : List ℕ) (s : ℕ) (lists : TagLists) (header : Wire) (tags : TagLists) (interval : Wire) (c : WordAnswers x s lists header tags interval) where
+  pub whole-of : Whole x lists (c .opens .answer) tags
+  whole-of = whole x lists (c .opens .answer) tags (c .opens .is)
 
   crossed-as : header ≡ headerWire (c .headerBefore) (fieldsRead (whole-of .read .header) (whole-of .read .end))
   crossed-as = c .opens .crossed ∙ ap (headerWire (c .headerBefore)) (whole-of .same)
@@ -272,7 +289,7 @@ module _ (x : List ℕ) (s : ℕ) (header interval : Wire) (c : WordAnswers x s 
       found-is =
           c .finds .is
           ∙ ap (λ (t : IntervalTable). rowAt (t .start) (t .count) s x) (ap intervalsIn layout-of ∙ table-taken (whole-of .read .header) e few)
-          ∙ rows-are x (whole-of .read) e s (whole-of .is) q
+          ∙ rows-are x lists (whole-of .read) tags e s (whole-of .is) q
 
       interval-number : interval .number ≡ 0
       interval-number = ap (λ (v : Wire). v .number) (c .finds .crossed) ∙ row-number (c .intervalBefore) (c .intervalLent) _ (c .finds .answer) found-is
@@ -288,81 +305,82 @@ pub opened-stream : {s t : Stream} → open-read.Stream s ≡ open-read.Stream t
 opened-stream {s} e = ap (λ o. stream-in o s) e
 
 -- a stream that opens, by words
-module _ (x : List ℕ) (s : ℕ) (grid : Grid) (number zoom : ℕ) (layout interval : List ℕ) (cs : List Call) (replied : List (Reply ShownAnswer))
+module _ (x : List ℕ) (s : ℕ) (grid : Grid) (number zoom : ℕ) (layout letters interval : List ℕ) (cs : List Call) (replied : List (Reply ShownAnswer))
     (streams : (o : OpenRead) → StreamOf x s number zoom (layoutIn layout) (intervalIn interval) grid o → Opens o)
     (replies : (st : Stream) → StreamOf x s number zoom (layoutIn layout) (intervalIn interval) grid (open-read.Stream st)
-    → (rs : List (Reply ShownAnswer)) → Called x (layoutIn layout) st cs rs → rs ≡ replied) where
+    → (rs : List (Reply ShownAnswer)) → Called x (kindsOf (layoutIn layout) letters) st cs rs → rs ≡ replied) where
   opens-at : (before : Wire) (o : OpenRead) → Opens o → openedWire before o .number ≡ 0
   opens-at before o (opens st) = refl
 
   runs-on : (before : Wire) → OpenedLent before → (o : OpenRead) → Opens o → StreamOf x s number zoom (layoutIn layout) (intervalIn interval) grid o
-      → (rs : List (Reply ShownAnswer)) → WordCalled x layout (listOf (openedWire before o) 1) cs rs → rs ≡ replied
+      → (rs : List (Reply ShownAnswer)) → WordCalled x layout letters (listOf (openedWire before o) 1) cs rs → rs ≡ replied
   runs-on before h o (opens st) r rs c =
-      replies st r rs (renamed (opened-stream (opened-back before h (open-read.Stream st))) (word-called x layout (listOf (openedWire before (open-read.Stream st)) 1) cs rs c))
+      replies st r rs (renamed (opened-stream (opened-back before h (open-read.Stream st))) (word-called x layout letters (listOf (openedWire before (open-read.Stream st)) 1) cs rs c))
 
-  pub word-streams : WordStreams x s grid number zoom layout interval cs replied
+  pub word-streams : WordStreams x s grid number zoom layout letters interval cs replied
   word-streams = record {
     opens = λ before after h c. ap (λ (v : Wire). v .number) (c .crossed) ∙ opens-at before (c .answer) (streams (c .answer) (c .is));
-    replies = λ before after h c rs k. runs-on before h (c .answer) (streams (c .answer) (c .is)) (c .is) rs (subst (λ (v : Wire). WordCalled x layout (listOf v 1) cs rs) (c .crossed) k);
+    replies = λ before after h c rs k. runs-on before h (c .answer) (streams (c .answer) (c .is)) (c .is) rs (subst (λ (v : Wire). WordCalled x layout letters (listOf v 1) cs rs) (c .crossed) k);
   }
 
 -- what a program sees of a map, by words
-module _ (s : ℕ) (grid : Grid) (number : ℕ) (layout interval : List ℕ) (h : HeaderRead) (e : ℕ) (ends : h .end ≡ end.At e) (few : h .header .«num_zoom_intervals» < 256)
+module _ (s : ℕ) (grid : Grid) (number : ℕ) (layout interval : List ℕ) (lists : TagLists) (h : MapRead) (tags : TagLists) (e : ℕ) (ends : h .end ≡ end.At e) (few : h .header .«num_zoom_intervals» < 256)
     (a : layout ≡ layoutWords (fieldsOf (h .header)) e) (b : intervalIn interval ≡ readOf (nth (intervalsOf (h .header)) s)) where
   module _ (x : List ℕ) (zoom : ℕ) (cs : List Call) (replied : List (Reply ShownAnswer)) (spelled : List (List (Maybe Part)))
-      (S : Sees x s (gridOf grid) number zoom h (layoutIn layout) (intervalFound (intervalIn interval)) cs replied spelled) where
-    same-header : (g : HeaderRead) → HeaderIs (opened x) g → g ≡ h
-    same-header g k = S .answers g (layoutOf (g .header)) (nth (intervalsOf (g .header)) s) (record { header = k; layout = refl; interval = refl }) .0
+      (S : Sees x s (gridOf grid) number zoom lists h tags (layoutIn layout) (intervalFound (intervalIn interval)) cs replied spelled) where
+    same-header : (g : MapRead) (t : TagLists) → OpenIs (opened x) lists g t → (g ≡ h) × (t ≡ tags)
+    same-header g t k =
+        let a = S .answers g t (layoutOf (g .header)) (nth (intervalsOf (g .header)) s) (record { header = k; layout = refl; interval = refl }) in
+        (a .0, a .1)
 
-    module _ (header found : Wire) (c : WordAnswers x s header found) where
-      abbrev g : HeaderRead
-      g = whole-of x s header found c .read
+    module _ (header : Wire) (t : TagLists) (found : Wire) (c : WordAnswers x s lists header t found) where
+      abbrev g : MapRead
+      g = whole-of x s lists header t found c .read
 
       same : g ≡ h
-      same = same-header g (whole-of x s header found c .is)
+      same = same-header g t (whole-of x s lists header t found c .is) .0
 
       g-ends : g .end ≡ end.At e
-      g-ends = ap (λ (y : HeaderRead). y .end) same ∙ ends
+      g-ends = ap (λ (y : MapRead). y .end) same ∙ ends
 
       g-few : g .header .«num_zoom_intervals» < 256
-      g-few = subst (λ (y : HeaderRead). y .header .«num_zoom_intervals» < 256) (sym same) few
+      g-few = subst (λ (y : MapRead). y .header .«num_zoom_intervals» < 256) (sym same) few
 
-      reads : headerIn header ≡ fieldsRead (h .header) (h .end)
-      reads =
-          received (headerWire (c .headerBefore)) (λ y. y) (headerCodec (c .headerBefore) (c .headerLent)) (FieldsAre (opened x)) header (c .opens)
-          ∙ whole-of x s header found c .same
-          ∙ ap (λ (y : HeaderRead). fieldsRead (y .header) (y .end)) same
+      reads : (headerIn header ≡ fieldsRead (h .header) (h .end)) × (t ≡ tags)
+      reads = (read-header, same-header g t (whole-of x s lists header t found c .is) .1)
+        where
+          read-header : headerIn header ≡ fieldsRead (h .header) (h .end)
+          read-header =
+              received (headerWire (c .headerBefore)) (λ y. y) (headerCodec (c .headerBefore) (c .headerLent)) (OpenOf x lists t) header (c .opens)
+              ∙ whole-of x s lists header t found c .same
+              ∙ ap (λ (y : MapRead). fieldsRead (y .header) (y .end)) same
 
       agrees : (header .number ≡ 0) × (found .number ≡ 0) × (listOf header 1 ≡ layout) × (intervalIn (listOf found 1) ≡ intervalIn interval)
       agrees = (
-        header-number x s header found c e g-ends,
-        interval-number x s header found c e g-ends g-few,
-        layout-of x s header found c e g-ends ∙ ap (λ (y : HeaderRead). layoutWords (fieldsOf (y .header)) e) same ∙ sym a,
-        interval-read-as x s header found c e g-ends g-few ∙ ap (λ (y : HeaderRead). readOf (nth (intervalsOf (y .header)) s)) same ∙ sym b,
+        header-number x s lists header t found c e g-ends,
+        interval-number x s lists header t found c e g-ends g-few,
+        layout-of x s lists header t found c e g-ends ∙ ap (λ (y : MapRead). layoutWords (fieldsOf (y .header)) e) same ∙ sym a,
+        interval-read-as x s lists header t found c e g-ends g-few ∙ ap (λ (y : MapRead). readOf (nth (intervalsOf (y .header)) s)) same ∙ sym b,
       )
 
-    pub word-sees : WordSees x s grid number zoom (fieldsRead (h .header) (h .end)) layout interval cs replied spelled
+    pub word-sees : WordSees x s grid number zoom lists (fieldsRead (h .header) (h .end)) tags layout interval cs replied spelled
     word-sees = record {
       opened = reads;
       answers = agrees;
-      streams = word-streams x s grid number zoom layout interval cs replied (S .streams) (S .replies);
+      streams = word-streams x s grid number zoom layout (tags .letters) interval cs replied (S .streams) (S .replies);
       texts = S .texts;
     }
 
 -- the zooms of each interval of a map of bytes are bytes, and so is their number
-zooms-of : (m : List ℕ) (g : HeaderRead) (e s : ℕ) → ((j : ℕ) → getD m j 0 < 256) → HeaderIs (opened m) g → g .end ≡ end.At e → (z : Interval) → nth (intervalsOf (g .header)) s ≡ some z → Zooms z
-zooms-of m g e s bytes k q = go (opened m) refl (ap (endRes (g .header)) (sym q) ∙ k .answer)
-  where
-    go : (r : Res Header) → opened m ≡ r → ok (g .header) e ≡ mapRes mapHeader r → (z : Interval) → nth (intervalsOf (g .header)) s ≡ some z → Zooms z
-    go (ok h y) o d z p = zooms-at (header-zooms m bytes 0 h y (opened-header m h y o)) s z (ap (λ l. nth l s) (sym (ap intervalsOf (ok-val d) ∙ intervals-back h)) ∙ p)
-    go (no n v) o d z p = no-ok (sym d)
+zooms-of : (m : List ℕ) (lists : TagLists) (g : MapRead) (tags : TagLists) (e s : ℕ) → ((j : ℕ) → getD m j 0 < 256) → OpenIs (opened m) lists g tags → g .end ≡ end.At e → (z : Interval) → nth (intervalsOf (g .header)) s ≡ some z → Zooms z
+zooms-of m lists g tags e s bytes k q z p =
+    let o = opened-as m lists g tags e k q in
+    zooms-at (header-zooms m bytes 0 (o .header) e (opened-header m (o .header) e (o .read))) s z (ap (λ l. nth l s) (sym (ap intervalsOf (o .shown) ∙ intervals-back (o .header))) ∙ p)
 
-few-of : (m : List ℕ) (g : HeaderRead) (e : ℕ) → ((j : ℕ) → getD m j 0 < 256) → HeaderIs (opened m) g → g .end ≡ end.At e → g .header .«num_zoom_intervals» < 256
-few-of m g e bytes k q = go (opened m) refl (ap (endRes (g .header)) (sym q) ∙ k .answer)
-  where
-    go : (r : Res Header) → opened m ≡ r → ok (g .header) e ≡ mapRes mapHeader r → g .header .«num_zoom_intervals» < 256
-    go (ok h y) o d = subst (λ (x : MapHeader). x .«num_zoom_intervals» < 256) (sym (ok-val d)) (header-few m bytes 0 h y (opened-header m h y o))
-    go (no n v) o d = no-ok (sym d)
+few-of : (m : List ℕ) (lists : TagLists) (g : MapRead) (tags : TagLists) (e : ℕ) → ((j : ℕ) → getD m j 0 < 256) → OpenIs (opened m) lists g tags → g .end ≡ end.At e → g .header .«num_zoom_intervals» < 256
+few-of m lists g tags e bytes k q =
+    let o = opened-as m lists g tags e k q in
+    subst (λ (x : MapHeader). x .«num_zoom_intervals» < 256) (sym (o .shown)) (header-few m bytes 0 (o .header) e (opened-header m (o .header) e (o .read)))
 
 -- a tile that collects, by its words
 tile-value : (w : Wire) (r : SummaryRead) → tileWire w r .number ≡ 0 → (t : TileSummary) × (r ≡ summary.Value t)
@@ -394,13 +412,13 @@ tile-is stored x q = rw q (record { answer = refl; whole = refl })
 rows-written : (stored : Res Tile) (f : Tile → List ℕ) (l k : List ℕ) (x : Tile) → stored ≡ answer x → k ≡ viewOr (λ t. sets l 0 (f t)) l stored → k ≡ sets l 0 (f x)
 rows-written stored f l k x q p = p ∙ ap (viewOr (λ t. sets l 0 (f t)) l) q
 
-module _ (m : List ℕ) (number : ℕ) (layout : TileLayout) (i : IntervalRead) (grid : Grid) (rows left : LentRows) (before after : Wire) (h : TileLent before)
-    (x : Crosses (tileWire before) (TileOf m number rows left layout i grid) after) where
+module _ (m letters : List ℕ) (number : ℕ) (layout : TileLayout) (i : IntervalRead) (grid : Grid) (rows left : LentRows) (before after : Wire) (h : TileLent before)
+    (x : Crosses (tileWire before) (TileOf m letters number rows left layout i grid) after) where
   tile-read : tileIn after ≡ x .answer
-  tile-read = received (tileWire before) (λ y. y) (tileCodec before h) (TileOf m number rows left layout i grid) after x
+  tile-read = received (tileWire before) (λ y. y) (tileCodec before h) (TileOf m letters number rows left layout i grid) after x
 
   module _ (t : TileSummary) (v : x .answer ≡ summary.Value t) where
-    pub tile-of : Taken (collectTile layout (intervalFound i) (gridOf grid) number m) t
+    pub tile-of : Taken (collectTile (kindsOf layout letters) (intervalFound i) (gridOf grid) number m) t
     tile-of = taken _ t (sym (ap summaryRes v) ∙ x .is .answer)
 
     pub shows-tile : ShowsTile (tile-of .tile) rows left after
@@ -411,26 +429,27 @@ module _ (m : List ℕ) (number : ℕ) (layout : TileLayout) (i : IntervalRead) 
     }
 
 -- Demand 3, from the contracts of the exported functions
-pub word-book : (m : List ℕ) (subFile : ℕ) (grid : Grid) (number : ℕ) (header interval : Wire) → WordCollected m subFile grid number header interval → WordBook m subFile grid number (listOf header 1) (listOf interval 1)
-word-book m s grid number header interval c =
+pub word-book : (m : List ℕ) (subFile : ℕ) (grid : Grid) (number : ℕ) (lists : TagLists) (header : Wire) (tags : TagLists) (interval : Wire) → WordCollected m subFile grid number lists header tags interval
+    → WordBook m subFile grid number lists tags (listOf header 1) (listOf interval 1)
+word-book m s grid number lists header tags interval c =
     let n = c .answers in
-    let k = whole-of m s header interval n in
+    let k = whole-of m s lists header tags interval n in
     let h = k .read in
     let layout = listOf header 1 in
     let i = intervalIn (listOf interval 1) in
-    let ends = ended m s header interval n (c .opened) in
-    let few = few-of m h (ends .0) (c .bytes) (k .is) (ends .1) in
-    let a = layout-of m s header interval n (ends .0) (ends .1) in
-    let b = interval-read-as m s header interval n (ends .0) (ends .1) few in
+    let ends = ended m s lists header tags interval n (c .opened) in
+    let few = few-of m lists h tags (ends .0) (c .bytes) (k .is) (ends .1) in
+    let a = layout-of m s lists header tags interval n (ends .0) (ends .1) in
+    let b = interval-read-as m s lists header tags interval n (ends .0) (ends .1) few in
     let v = tile-value (c .before) (c .tile .answer) (sym (ap (λ (w : Wire). w .number) (c .tile .crossed)) ∙ c .collects) in
-    let t = tile-of m number (layoutIn layout) i grid (c .rows) (c .left) (c .before) (c .after) (c .lent) (c .tile) (v .0) (v .1) in
-    let read = tile-read m number (layoutIn layout) i grid (c .rows) (c .left) (c .before) (c .after) (c .lent) (c .tile) in
-    let says = book-says m s (gridOf grid) number h (layoutIn layout) i (record { tile = t .tile; answer = tile-answer.Collected }) (record {
+    let t = tile-of m (tags .letters) number (layoutIn layout) i grid (c .rows) (c .left) (c .before) (c .after) (c .lent) (c .tile) (v .0) (v .1) in
+    let read = tile-read m (tags .letters) number (layoutIn layout) i grid (c .rows) (c .left) (c .before) (c .after) (c .lent) (c .tile) in
+    let says = book-says m s (gridOf grid) number lists h tags (layoutIn layout) i (record { tile = t .tile; answer = tile-answer.Collected }) (record {
       small = c .small;
       answers = record {
         header = k .is;
         layout = ap layoutIn a ∙ layout-taken (h .header) (ends .0);
-        interval = ap intervalFound b ∙ read-taken (nth (intervalsOf (h .header)) s) (zooms-of m h (ends .0) s (c .bytes) (k .is) (ends .1));
+        interval = ap intervalFound b ∙ read-taken (nth (intervalsOf (h .header)) s) (zooms-of m lists h tags (ends .0) s (c .bytes) (k .is) (ends .1));
       };
       headerEnd = ends .0;
       opens = ends .1;
@@ -438,12 +457,12 @@ word-book m s grid number header interval c =
       collects = refl;
       exact = ap (λ (y : TileSummary). y .exact) (sym (read-as (c .after) (v .0) (c .collects) (read ∙ v .1) ∙ t .same)) ∙ c .exact;
     }) in
-    let crosses = word-sees s grid number layout (listOf interval 1) h (ends .0) (ends .1) few a b in
+    let crosses = word-sees s grid number layout (listOf interval 1) lists h tags (ends .0) (ends .1) few a b in
     record {
       header = h;
       fields = fieldsRead (h .header) (h .end);
       says = says;
-      shows = λ rows left before after l x. shown-as m s grid number layout (listOf interval 1) h says t rows left before after l x;
+      shows = λ rows left before after l x. shown-as m s grid number layout (listOf interval 1) lists h tags says t rows left before after l x;
       entry = λ before after l x.
           received (entryWire before) (λ y. y) (entryCodec before l) (EntryOf m number (layoutIn layout) i grid) after x
           ∙ says .entry (x .answer) (x .is);
@@ -454,19 +473,19 @@ word-book m s grid number header interval c =
     }
   where
     -- whatever was lent, the tile that was collected is the one that the book is fed
-    shown-as : (m : List ℕ) (s : ℕ) (grid : Grid) (number : ℕ) (layout interval : List ℕ) (h : HeaderRead) (says : BookSays m s (gridOf grid) number h (layoutIn layout) (intervalFound (intervalIn interval)))
-        {u : TileSummary} → Taken (collectTile (layoutIn layout) (intervalFound (intervalIn interval)) (gridOf grid) number m) u
-        → (rows left : LentRows) (before after : Wire) → TileLent before → (x : Crosses (tileWire before) (TileOf m number rows left (layoutIn layout) (intervalIn interval) grid) after)
+    shown-as : (m : List ℕ) (s : ℕ) (grid : Grid) (number : ℕ) (layout interval : List ℕ) (lists : TagLists) (h : MapRead) (tags : TagLists) (says : BookSays m s (gridOf grid) number lists h tags (layoutIn layout) (intervalFound (intervalIn interval)))
+        {u : TileSummary} → Taken (collectTile (kindsOf (layoutIn layout) (tags .letters)) (intervalFound (intervalIn interval)) (gridOf grid) number m) u
+        → (rows left : LentRows) (before after : Wire) → TileLent before → (x : Crosses (tileWire before) (TileOf m (tags .letters) number rows left (layoutIn layout) (intervalIn interval) grid) after)
         → ShowsTile (shownTile (says .tile)) rows left after
-    shown-as m s grid number layout interval h says {u} t rows left before after l x =
+    shown-as m s grid number layout interval lists h tags says {u} t rows left before after l x =
         go (x .answer) refl
       where
         stored : Res Tile
-        stored = collectTile (layoutIn layout) (intervalFound (intervalIn interval)) (gridOf grid) number m
+        stored = collectTile (kindsOf (layoutIn layout) (tags .letters)) (intervalFound (intervalIn interval)) (gridOf grid) number m
 
         go : (r : SummaryRead) → x .answer ≡ r → ShowsTile (shownTile (says .tile)) rows left after
         go (summary.Value y) v =
-            let k = tile-of m number (layoutIn layout) (intervalIn interval) grid rows left before after l x y v in
+            let k = tile-of m (tags .letters) number (layoutIn layout) (intervalIn interval) grid rows left before after l x y v in
             subst (λ (z : Tile). ShowsTile z rows left after) (says .shows (record { tile = k .tile; answer = tile-answer.Collected }) (tile-is _ (k .tile) (k .is)))
-            (shows-tile m number (layoutIn layout) (intervalIn interval) grid rows left before after l x y v)
+            (shows-tile m (tags .letters) number (layoutIn layout) (intervalIn interval) grid rows left before after l x y v)
         go (summary.Refused r) v = no-ok (sym (ap summaryRes v) ∙ x .is .answer ∙ ap (mapRes summaryOf) (t .is))

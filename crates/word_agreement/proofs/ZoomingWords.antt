@@ -23,13 +23,13 @@ use Rattle.map_agreement.proofs.ZoomingLaws.{zooming-says}
 use Rattle.word_agreement.specs.WordZooming.{WordSaw, WordZooming}
 use Rattle.word_agreement.proofs.Words.{renamed, refusal-number, opened-stream, word-called, word-streams}
 
-module _ (m : List ℕ) (s : ℕ) (grid : Grid) (number zoom : ℕ) (layout interval : List ℕ) (rule : (bitmap : ℕ) → TagIds → Bool) (lists : List LentLists) (points : List Poi) (ways : List SeenWay) (z : TileEnd)
-    (w : WordSaw m s grid number zoom layout interval rule lists points ways z) where
-  saw : Saw m (layoutIn layout) (intervalFound (intervalIn interval)) s (gridOf grid) number zoom rule lists points ways z
+module _ (m : List ℕ) (s : ℕ) (grid : Grid) (number zoom : ℕ) (layout letters interval : List ℕ) (rule : (bitmap : ℕ) → TagIds → Bool) (lists : List LentLists) (points : List Poi) (ways : List SeenWay) (z : TileEnd)
+    (w : WordSaw m s grid number zoom layout letters interval rule lists points ways z) where
+  saw : Saw m (layoutIn layout) letters (intervalFound (intervalIn interval)) s (gridOf grid) number zoom rule lists points ways z
   saw = go (w .opens .answer) (w .opens .is) (w .opens .crossed)
     where
       go : (o : OpenRead) → StreamOf m s number zoom (layoutIn layout) (intervalIn interval) grid o → w .after ≡ openedWire (w .before) o
-          → Saw m (layoutIn layout) (intervalFound (intervalIn interval)) s (gridOf grid) number zoom rule lists points ways z
+          → Saw m (layoutIn layout) letters (intervalFound (intervalIn interval)) s (gridOf grid) number zoom rule lists points ways z
       go (open-read.Stream st) i q = record {
         small = w .small;
         stream = st;
@@ -37,14 +37,14 @@ module _ (m : List ℕ) (s : ℕ) (grid : Grid) (number zoom : ℕ) (layout inte
         decides = w .decides;
         calls =
             renamed (ap (λ (v : Wire). streamIn (listOf v 1)) q ∙ opened-stream (opened-back (w .before) (w .lent) (open-read.Stream st)))
-            (word-called m layout (listOf (w .after) 1) (callsOf points ways) (repliesOf points ways z) (w .calls));
+            (word-called m layout letters (listOf (w .after) 1) (callsOf points ways) (repliesOf points ways z) (w .calls));
       }
       go (open-read.Refused r) i q = refusal-number r (sym (w .opened) ∙ ap (λ (v : Wire). v .number) q)
 
-  pub word-zooming : WordZooming m s grid number zoom layout interval rule lists points ways z
+  pub word-zooming : WordZooming m s grid number zoom layout letters interval rule lists points ways z
   word-zooming =
-      let says = zooming-says m (layoutIn layout) (intervalFound (intervalIn interval)) s (gridOf grid) number zoom rule lists points ways z saw in
+      let says = zooming-says m (layoutIn layout) letters (intervalFound (intervalIn interval)) s (gridOf grid) number zoom rule lists points ways z saw in
       record {
         says = says;
-        lower = λ zoom′ le. word-streams m s grid number zoom′ layout interval _ _ (says .lower zoom′ le .opens) (says .lower zoom′ le .replies);
+        lower = λ zoom′ le. word-streams m s grid number zoom′ layout letters interval _ _ (says .lower zoom′ le .opens) (says .lower zoom′ le .replies);
       }

@@ -7,13 +7,12 @@ use mathlib.Core.List.{List, [], _∷_}
 use lib.ListN.{length, getD}
 use lib.Seq.{sets}
 use Rattle.parsing.specs.Parse.{Part, Maybe}
-use Rattle.format.specs.Header.{opened}
 use Rattle.format.specs.Lent.{Reply}
 use Rattle.types.specs.Types.{gridOf}
 use Rattle.types.specs.declared.Grid.{Grid}
-use Rattle.header.specs.HeaderView.{FieldsAre}
-use Rattle.header.specs.declared.FieldsRead.{FieldsRead}
-use Rattle.header.specs.declared.HeaderRead.{HeaderRead}
+use Rattle.format.specs.TagLists.{TagLists}
+use Rattle.opening.specs.declared.ListedRead.{ListedRead}
+use Rattle.opening.specs.declared.MapRead.{MapRead}
 use Rattle.index.specs.Answers.{intervalFound, heldEntry}
 use Rattle.index.specs.declared.EntryRead.the-variants as entry-read
 use Rattle.agreement.specs.Calls.{Call}
@@ -34,7 +33,7 @@ use Rattle.feature_wire.specs.Codecs.{summaryIn, tileIn}
 use Rattle.tile.specs.Tile.{shownTile, summaryOf, rowsOfTile, rowPoints, rowWays}
 use Rattle.tile.specs.declared.Tile.{Tile}
 use Rattle.tile.specs.declared.SummaryRead.the-variants as summary
-use Rattle.exports.specs.Calls.{LentRows, RowOf, EntryOf, TileOf, FeatureOf}
+use Rattle.exports.specs.Calls.{LentRows, OpenOf, RowOf, EntryOf, TileOf, FeatureOf}
 use Rattle.map_agreement.specs.Texts.{textsFound}
 use Rattle.map_agreement.specs.TileView.{fetchGives}
 use Rattle.map_agreement.specs.MapsforgeMap.{mapsforge}
@@ -56,21 +55,22 @@ pub record ShowsTile (t : Tile) (rows left : LentRows) (after : Wire) : Type 0 w
   pub points : left .points ≡ sets (rows .points) 0 (rowPoints (rowsOfTile t))
   pub ways : left .ways ≡ sets (rows .ways) 0 (rowWays (rowsOfTile t))
 
--- the contracts of `mapsforge_open` and `mapsforge_interval` on the map x, whatever words were lent to them: what they left there
-pub record WordAnswers (x : List ℕ) (subFile : ℕ) (header interval : Wire) : Type 0 where
+-- the contracts of `mapsforge_open` and `mapsforge_interval` on the map x, whatever words were lent to them: what they left there, and what
+-- opening left of the lists that it was lent
+pub record WordAnswers (x : List ℕ) (subFile : ℕ) (lists : TagLists) (header : Wire) (tags : TagLists) (interval : Wire) : Type 0 where
   pub headerBefore : Wire
   pub headerLent : HeaderLent headerBefore
-  pub opens : Crosses (headerWire headerBefore) (FieldsAre (opened x)) header
+  pub opens : Crosses (headerWire headerBefore) (OpenOf x lists tags) header
   pub intervalBefore : Wire
   pub intervalLent : IntervalLent intervalBefore
   pub finds : Crosses (intervalWire intervalBefore) (RowOf x subFile (intervalsIn (listOf header 1))) interval
 
 -- and that of `mapsforge_collect`: nothing was refused, and collecting said that every stored size is the decoded length. (A map is a
 -- list of bytes, and no lent map has 2 ^ 64 of them.)
-pub record WordCollected (m : List ℕ) (subFile : ℕ) (grid : Grid) (number : ℕ) (header interval : Wire) : Type 0 where
+pub record WordCollected (m : List ℕ) (subFile : ℕ) (grid : Grid) (number : ℕ) (lists : TagLists) (header : Wire) (tags : TagLists) (interval : Wire) : Type 0 where
   pub small : length m < 2 ^ 64
   pub bytes : (j : ℕ) → getD m j 0 < 256
-  pub answers : WordAnswers m subFile header interval
+  pub answers : WordAnswers m subFile lists header tags interval
   pub opened : header .number ≡ 0
   pub found : interval .number ≡ 0
   pub before : Wire
@@ -78,40 +78,41 @@ pub record WordCollected (m : List ℕ) (subFile : ℕ) (grid : Grid) (number : 
   pub rows : LentRows
   pub left : LentRows
   pub lent : TileLent before
-  pub tile : Crosses (tileWire before) (TileOf m number rows left (layoutIn (listOf header 1)) (intervalIn (listOf interval 1)) grid) after
+  pub tile : Crosses (tileWire before) (TileOf m (tags .letters) number rows left (layoutIn (listOf header 1)) (intervalIn (listOf interval 1)) grid) after
   pub collects : after .number ≡ 0
   pub exact : summaryIn after .exact ≡ true
 
--- What such a program sees of a map at a zoom, when it makes the calls cs (compare `Sees` of map_agreement): however it opens the map, it
--- reads the header h, gets these layout words, and reads this interval, and neither call is refused; the tile's stream opens, and the
+-- What such a program sees of a map at a zoom, when it makes the calls cs (compare `Sees` of map_agreement): however it opens the map, with
+-- the same lent lists, it reads the header h, finds these tags in the lists, gets these layout words, and reads this interval, and neither
+-- call is refused; the tile's stream opens, and the
 -- calls get these replies
-pub record WordSees (x : List ℕ) (subFile : ℕ) (grid : Grid) (number zoom : ℕ) (h : FieldsRead) (layout interval : List ℕ) (cs : List Call)
+pub record WordSees (x : List ℕ) (subFile : ℕ) (grid : Grid) (number zoom : ℕ) (lists : TagLists) (h : ListedRead) (tags : TagLists) (layout interval : List ℕ) (cs : List Call)
     (replied : List (Reply ShownAnswer)) (spelled : List (List (Maybe Part))) : Type 0 where
-  pub opened : (header interval′ : Wire) → WordAnswers x subFile header interval′ → headerIn header ≡ h
-  pub answers : (header interval′ : Wire) → WordAnswers x subFile header interval′
+  pub opened : (header : Wire) (tags′ : TagLists) (interval′ : Wire) → WordAnswers x subFile lists header tags′ interval′ → (headerIn header ≡ h) × (tags′ ≡ tags)
+  pub answers : (header : Wire) (tags′ : TagLists) (interval′ : Wire) → WordAnswers x subFile lists header tags′ interval′
       → (header .number ≡ 0) × (interval′ .number ≡ 0) × (listOf header 1 ≡ layout) × (intervalIn (listOf interval′ 1) ≡ intervalIn interval)
-  pub streams : WordStreams x subFile grid number zoom layout interval cs replied
+  pub streams : WordStreams x subFile grid number zoom layout (tags .letters) interval cs replied
   pub texts : textsFound x replied ≡ spelled
 
 -- Demand 3 holds of the map (`says`: BookSays of map_agreement). `shows`, `entry`, `fetches`: what crosses back from `mapsforge_collect`,
 -- from `mapsforge_index_entry`, and from `mapsforge_fetch` with all lent lists, is what the book is fed. `sees`, `altered`, `literal`: by
 -- its words such a program sees the book's replies, on this map, and on one of the same length that is altered in ways declined untried
-pub record WordBook (m : List ℕ) (subFile : ℕ) (grid : Grid) (number : ℕ) (layout interval : List ℕ) : Type 0 where
-  pub header : HeaderRead
-  pub fields : FieldsRead
-  pub says : BookSays m subFile (gridOf grid) number header (layoutIn layout) (intervalFound (intervalIn interval))
-  pub shows : (rows left : LentRows) (before after : Wire) → TileLent before → Crosses (tileWire before) (TileOf m number rows left (layoutIn layout) (intervalIn interval) grid) after
+pub record WordBook (m : List ℕ) (subFile : ℕ) (grid : Grid) (number : ℕ) (lists tags : TagLists) (layout interval : List ℕ) : Type 0 where
+  pub header : MapRead
+  pub fields : ListedRead
+  pub says : BookSays m subFile (gridOf grid) number lists header tags (layoutIn layout) (intervalFound (intervalIn interval))
+  pub shows : (rows left : LentRows) (before after : Wire) → TileLent before → Crosses (tileWire before) (TileOf m (tags .letters) number rows left (layoutIn layout) (intervalIn interval) grid) after
       → ShowsTile (shownTile (says .tile)) rows left after
   pub entry : (before after : Wire) → EntryLent before → Crosses (entryWire before) (EntryOf m number (layoutIn layout) (intervalIn interval) grid) after
       → entryIn after ≡ entry-read.Entry (heldEntry (says .place .entry))
-  pub fetches : (k : ℕ) (lent left : FetchLists) (before after : Wire) → Crosses (fetchWire before) (FeatureOf m number k lent left (layoutIn layout) (intervalIn interval) grid) after
+  pub fetches : (k : ℕ) (lent left : FetchLists) (before after : Wire) → Crosses (fetchWire before) (FeatureOf m (tags .starts) (tags .letters) number k lent left (layoutIn layout) (intervalIn interval) grid) after
       → Crosses (fetchWire before) (λ r. FeatureIs (fetchGives (fetch (fedTile subFile (gridOf grid) number (says .stored) (says .place) (says .tile)) k)) lent r left) after
   pub sees : (zoom : ℕ) (cs : List Call)
-      → WordSees m subFile grid number zoom fields layout interval cs (bookAt subFile (gridOf grid) number (says .stored) (says .place) (says .tile) zoom cs) (textsAt subFile (gridOf grid) number (says .stored) (says .place) (says .tile) zoom cs)
+      → WordSees m subFile grid number zoom lists fields tags layout interval cs (bookAt subFile (gridOf grid) number (says .stored) (says .place) (says .tile) zoom cs) (textsAt subFile (gridOf grid) number (says .stored) (says .place) (says .tile) zoom cs)
   pub altered : (zoom : ℕ) (cs : List Call) (m′ : List ℕ)
       → DifferOnly m m′ (MapAlterable (mapsforge subFile (gridOf grid) number) m (says .stored) (says .tile) zoom cs (mapReplies (mapsforge subFile (gridOf grid) number) (says .stored) (says .place) (says .tile) zoom cs))
-      → WordSees m′ subFile grid number zoom fields layout interval cs (bookAt subFile (gridOf grid) number (says .stored) (says .place) (says .tile) zoom cs) (textsAt subFile (gridOf grid) number (says .stored) (says .place) (says .tile) zoom cs)
+      → WordSees m′ subFile grid number zoom lists fields tags layout interval cs (bookAt subFile (gridOf grid) number (says .stored) (says .place) (says .tile) zoom cs) (textsAt subFile (gridOf grid) number (says .stored) (says .place) (says .tile) zoom cs)
   pub literal : (zoom : ℕ) (cs : List Call) (m′ : List ℕ)
       → WaysBehind (mapsforge subFile (gridOf grid) number .format (says .stored)) m (says .tile) (rowsAt (mapsforge subFile (gridOf grid) number) (says .stored) zoom)
       → DifferOnly m m′ (OnlyDeclined (mapsforge subFile (gridOf grid) number) m (says .stored) cs (mapReplies (mapsforge subFile (gridOf grid) number) (says .stored) (says .place) (says .tile) zoom cs))
-      → WordSees m′ subFile grid number zoom fields layout interval cs (bookAt subFile (gridOf grid) number (says .stored) (says .place) (says .tile) zoom cs) (textsAt subFile (gridOf grid) number (says .stored) (says .place) (says .tile) zoom cs)
+      → WordSees m′ subFile grid number zoom lists fields tags layout interval cs (bookAt subFile (gridOf grid) number (says .stored) (says .place) (says .tile) zoom cs) (textsAt subFile (gridOf grid) number (says .stored) (says .place) (says .tile) zoom cs)

@@ -25,29 +25,29 @@ shownAnswer (aWay h) = gotHead h
 shownAnswer (theEnd z) = ended (endOf z)
 shownAnswer (aRefusal r) = refused (numberOf r) (valuesOf r)
 
--- calls on the map m with these layout words, from these state words on, whatever other words were lent, and the replies that the program read
-pub data WordCalled (m layout : List ℕ) : List ℕ → List Call → List (Reply ShownAnswer) → Type 0 where
-  no-call : {s : List ℕ} → WordCalled m layout s [] []
+-- calls on the map m with these layout words and letters, from these state words on, whatever other words were lent, and the replies that the program read
+pub data WordCalled (m layout letters : List ℕ) : List ℕ → List Call → List (Reply ShownAnswer) → Type 0 where
+  no-call : {s : List ℕ} → WordCalled m layout letters s [] []
   call-next : (words ids : List ℕ) (signed : List ℤ) (degrees : List Float) (after : Wire) {s : List ℕ} {cs : List Call} {rs : List (Reply ShownAnswer)}
       → NextLent (lending (words ∷ ids ∷ s ∷ []) signed degrees)
-      → Crosses (nextWire (lending (words ∷ ids ∷ s ∷ []) signed degrees)) (NextOf m (layoutIn layout) (streamIn s)) after
-      → WordCalled m layout (listOf after 2) cs rs
-      → WordCalled m layout s (next ∷ cs) (record { answer = shownAnswer (nextIn after .shown); lists = noLists } ∷ rs)
+      → Crosses (nextWire (lending (words ∷ ids ∷ s ∷ []) signed degrees)) (NextOf m letters (layoutIn layout) (streamIn s)) after
+      → WordCalled m layout letters (listOf after 2) cs rs
+      → WordCalled m layout letters s (next ∷ cs) (record { answer = shownAnswer (nextIn after .shown); lists = noLists } ∷ rs)
   call-accept : (words : List ℕ) (degrees : List Float) (after : Wire) (lists left : LentLists) {s : List ℕ} {cs : List Call} {rs : List (Reply ShownAnswer)}
       → AcceptLent (lending (words ∷ s ∷ []) [] degrees)
       → Crosses (acceptWire (lending (words ∷ s ∷ []) [] degrees)) (AcceptOf m (streamIn s) lists left) after
-      → WordCalled m layout (listOf after 1) cs rs
-      → WordCalled m layout s (accept lists ∷ cs) (record { answer = acceptAnswer (acceptIn after .answer); lists = left } ∷ rs)
+      → WordCalled m layout letters (listOf after 1) cs rs
+      → WordCalled m layout letters s (accept lists ∷ cs) (record { answer = acceptAnswer (acceptIn after .answer); lists = left } ∷ rs)
   call-decline : (words : List ℕ) (after : Wire) {s : List ℕ} {cs : List Call} {rs : List (Reply ShownAnswer)}
       → DeclineLent (lending (words ∷ s ∷ []) [] [])
       → Crosses (declineWire (lending (words ∷ s ∷ []) [] [])) (DeclineOf (streamIn s)) after
-      → WordCalled m layout (listOf after 1) cs rs
-      → WordCalled m layout s (decline ∷ cs) (record { answer = declineAnswer (declineIn after .answer); lists = noLists } ∷ rs)
+      → WordCalled m layout letters (listOf after 1) cs rs
+      → WordCalled m layout letters s (decline ∷ cs) (record { answer = declineAnswer (declineIn after .answer); lists = noLists } ∷ rs)
 
 -- Whatever words were lent: `mapsforge_stream_open` returns 0, and from the state's words on the calls cs get these replies.
-pub record WordStreams (m : List ℕ) (subFile : ℕ) (grid : Grid) (number zoom : ℕ) (layout interval : List ℕ) (cs : List Call) (replied : List (Reply ShownAnswer)) : Type 0 where
+pub record WordStreams (m : List ℕ) (subFile : ℕ) (grid : Grid) (number zoom : ℕ) (layout letters interval : List ℕ) (cs : List Call) (replied : List (Reply ShownAnswer)) : Type 0 where
   pub opens : (before after : Wire) → OpenedLent before
       → Crosses (openedWire before) (StreamOf m subFile number zoom (layoutIn layout) (intervalIn interval) grid) after → after .number ≡ 0
   pub replies : (before after : Wire) → OpenedLent before
       → Crosses (openedWire before) (StreamOf m subFile number zoom (layoutIn layout) (intervalIn interval) grid) after
-      → (rs : List (Reply ShownAnswer)) → WordCalled m layout (listOf after 1) cs rs → rs ≡ replied
+      → (rs : List (Reply ShownAnswer)) → WordCalled m layout letters (listOf after 1) cs rs → rs ≡ replied

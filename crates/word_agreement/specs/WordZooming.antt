@@ -1,5 +1,5 @@
 -- Zooming in only adds (request 12, document 02), for a program in another language: `ZoomingIn` of map_agreement, by its words. Nothing
--- is supposed of collecting or of stored sizes, nor that layout and interval are the map's own.
+-- is supposed of collecting or of stored sizes, nor that layout, letters and interval are the map's own.
 use Prim.Native.Nat.{ℕ, _^_, _≤_, _<_}
 use mathlib.Core.Path.{_≡_}
 use mathlib.Core.Bool.{Bool}
@@ -25,7 +25,7 @@ use Rattle.word_agreement.specs.WordCalls.{WordCalled, WordStreams}
 
 -- What the program saw at a zoom: the contract of `mapsforge_stream_open`, which returned 0, and those of the calls on the stream, one
 -- after the other, to a good end. (No lent map has 2 ^ 64 bytes.)
-pub record WordSaw (m : List ℕ) (subFile : ℕ) (grid : Grid) (number zoom : ℕ) (layout interval : List ℕ) (rule : (bitmap : ℕ) → TagIds → Bool) (lists : List LentLists) (points : List Poi) (ways : List SeenWay) (z : TileEnd) : Type 0 where
+pub record WordSaw (m : List ℕ) (subFile : ℕ) (grid : Grid) (number zoom : ℕ) (layout letters interval : List ℕ) (rule : (bitmap : ℕ) → TagIds → Bool) (lists : List LentLists) (points : List Poi) (ways : List SeenWay) (z : TileEnd) : Type 0 where
   pub small : length m < 2 ^ 64
   pub before : Wire
   pub after : Wire
@@ -33,14 +33,14 @@ pub record WordSaw (m : List ℕ) (subFile : ℕ) (grid : Grid) (number zoom : �
   pub opens : Crosses (openedWire before) (StreamOf m subFile number zoom (layoutIn layout) (intervalIn interval) grid) after
   pub opened : after .number ≡ 0
   pub decides : Decides rule lists ways
-  pub calls : WordCalled m layout (listOf after 1) (callsOf points ways) (repliesOf points ways z)
+  pub calls : WordCalled m layout letters (listOf after 1) (callsOf points ways) (repliesOf points ways z)
 
 -- `says`: zooming in only adds (the tile's head, and how many points and ways its zoom table counts up to each zoom). `lower`: by its words
 -- the program sees just these at every lower zoom, and the same end.
-pub record WordZooming (m : List ℕ) (subFile : ℕ) (grid : Grid) (number zoom : ℕ) (layout interval : List ℕ) (rule : (bitmap : ℕ) → TagIds → Bool) (lists : List LentLists) (points : List Poi) (ways : List SeenWay) (z : TileEnd) : Type 0 where
-  pub says : ZoomingIn m (layoutIn layout) (intervalFound (intervalIn interval)) subFile (gridOf grid) number zoom rule lists points ways z
+pub record WordZooming (m : List ℕ) (subFile : ℕ) (grid : Grid) (number zoom : ℕ) (layout letters interval : List ℕ) (rule : (bitmap : ℕ) → TagIds → Bool) (lists : List LentLists) (points : List Poi) (ways : List SeenWay) (z : TileEnd) : Type 0 where
+  pub says : ZoomingIn m (layoutIn layout) letters (intervalFound (intervalIn interval)) subFile (gridOf grid) number zoom rule lists points ways z
   pub lower : (zoom′ : ℕ) → zoom′ ≤ zoom
-      → WordStreams m subFile grid number zoom′ layout interval
+      → WordStreams m subFile grid number zoom′ layout letters interval
       (callsOf (take (pointsUpTo (says .head .table) (rowsUpto (says .place .interval .min) (says .place .interval .max) zoom′)) points)
       (take (waysUpTo (says .head .table) (rowsUpto (says .place .interval .min) (says .place .interval .max) zoom′)) ways))
       (repliesOf (take (pointsUpTo (says .head .table) (rowsUpto (says .place .interval .min) (says .place .interval .max) zoom′)) points)

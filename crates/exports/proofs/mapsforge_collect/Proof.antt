@@ -23,11 +23,11 @@ put-tile-requires c κs = search needs
 -- src/lib.rt:275:1
 returns : tie.Need-returns
 returns c =
-    let s = c .before .before .before .before .before .before .before .before .before .before in
+    let s = c .before .before .before .before .before .before .before .before .before .before .before in
     let a = s .args in
     let y = c .before .before .collect in
     crosses-at _ _ _ _ (s .fits .x-min) (s .fits .y-min) (s .fits .x-max) (s .fits .y-max) _ _ _ _ (c .before .before .before .before .before .before .before .layout-in .ensures) (c .before .before .before .before .before .interval-in .ensures) _
-    (TileOf _ _ (lentRows (a .points .now) (a .ways .now)) _) (y .result) _ (y .ensures) (c .put-tile .ensures)
+    (TileOf _ (a .letters .now) _ (lentRows (a .points .now) (a .ways .now)) _) (y .result) _ (y .ensures) (c .put-tile .ensures)
 
 pub mapsforge-collect-spec : {M : Type 1} → statement M
 mapsforge-collect-spec =

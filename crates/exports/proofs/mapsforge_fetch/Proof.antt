@@ -53,13 +53,13 @@ returns c =
     let y = c .before .before .before .before .before .before .before .before .before .before .before .before .before .before .before .before .before .before .fetch-feature in
     let i = c .before .before .before .before .before .before .before .before .before .before .before .before .before .before .before .before .before .before .before .before .before .before .before .before .before .interval-in in
     let t = c .before .before .before .before .before .before .before .before .before .before .before .before .before .before .before .before .before .before .before .before .before .before .before .before .before .before .before .layout-in in
-    let s = c .before .before .before .before .before .before .before .before .before .before .before .before .before .before .before .before .before .before .before .before .before .before .before .before .before .before .before .before .before .before .before .before .before .before .before .before in
+    let s = c .before .before .before .before .before .before .before .before .before .before .before .before .before .before .before .before .before .before .before .before .before .before .before .before .before .before .before .before .before .before .before .before .before .before .before .before .before .before in
     let a = s .args in
     crosses-at (a .x-min) (a .y-min) (a .x-max) (a .y-max) (s .fits .x-min) (s .fits .y-min) (s .fits .x-max) (s .fits .y-max)
     (t .result) (layoutIn (a .layout .now)) (i .result) (intervalIn (a .interval .now)) (t .ensures) (i .ensures) _
-    (FeatureOf (a .map .now) (a .tile) (a .feature)
+    (FeatureOf (a .map .now) (a .starts .now) (a .letters .now) (a .tile) (a .feature)
     (lent (a .node-counts .now) (a .latitudes .now) (a .longitudes .now) (a .initial-latitudes .now) (a .initial-longitudes .now) (a .buffer .now))
-    (lent (y .last .1 .1 .1 .1 .1 .1 .0) (y .last .1 .1 .1 .1 .1 .1 .1 .0) (y .last .1 .1 .1 .1 .1 .1 .1 .1 .0) (y .last .1 .1 .1 .1 .1 .1 .1 .1 .1 .0) (y .last .1 .1 .1 .1 .1 .1 .1 .1 .1 .1 .0) (y .last .1 .1 .1 .1 .1 .1 .1 .1 .1 .1 .1 .0)))
+    (lent (y .last .1 .1 .1 .1 .1 .1 .1 .1 .0) (y .last .1 .1 .1 .1 .1 .1 .1 .1 .1 .0) (y .last .1 .1 .1 .1 .1 .1 .1 .1 .1 .1 .0) (y .last .1 .1 .1 .1 .1 .1 .1 .1 .1 .1 .1 .0) (y .last .1 .1 .1 .1 .1 .1 .1 .1 .1 .1 .1 .1 .0) (y .last .1 .1 .1 .1 .1 .1 .1 .1 .1 .1 .1 .1 .1 .0)))
     (y .result) _ (y .ensures) (c .put-fetch .ensures)
 
 pub mapsforge-fetch-spec : {M : Type 1} → statement M

@@ -23,7 +23,7 @@ put-next-requires c κs = search needs
 returns : tie.Need-returns
 returns c =
     let v = c .before .before .before .before .before .before in
-    next-crosses _ _ _ _ _ (v .next .result) _ _ (v .before .stream-in .ensures) (v .before .before .before .layout-in .ensures) (v .next .ensures) (c .put-next .ensures)
+    next-crosses _ _ _ _ _ _ (v .next .result) _ _ (v .before .stream-in .ensures) (v .before .before .before .layout-in .ensures) (v .next .ensures) (c .put-next .ensures)
 
 pub mapsforge-stream-next-spec : {M : Type 1} → statement M
 mapsforge-stream-next-spec =

@@ -1,12 +1,13 @@
+use Rattle.tile_layout.specs.TileLayout.{kindsOf}
 use Rattle.feature_place.proofs.PlaceLaws.{no-start, no-tile, found}
 use Rattle.feature_place.proofs.find_feature.Statement.{statement}
 use Rattle.feature_place.proofs.find_feature.Tie as tie
 
 returns : tie.Need-returns
-returns c = no-start (c .before .before .before .before .before .args .layout) _ _ _ _ _ _ _ _ (c .before .before .before .tile-start .ensures) (c .before .enum-told .given .1) (c .end-refusal .ensures)
+returns c = no-start (let a = c .before .before .before .before .before .before .args in kindsOf (a .layout) (a .letters .now)) _ _ _ _ _ _ _ _ (c .before .before .before .tile-start .ensures) (c .before .enum-told .given .1) (c .end-refusal .ensures)
 
 returns-3 : tie.Need-returns-3
-returns-3 c = found _ _ _ _ _ _ _ _ _ _ (c .before .before .before .before .before .before .before .before .tile-start .ensures) (c .before .before .before .before .before .before .end .given .1) (c .before .before .before .before .before .before .before .before .before .before .good .0 .0) (c .before .before .before .before .read-tile .ensures) (c .before .before .enum-told2 .given .1) (c .behind-head .ensures)
+returns-3 c = found _ _ _ _ _ _ _ _ _ _ (c .before .before .before .before .before .before .before .before .tile-start .ensures) (c .before .before .before .before .before .before .end .given .1) (c .before .before .before .before .before .before .before .before .before .before .before .good .0 .0) (c .before .before .before .before .read-tile .ensures) (c .before .before .enum-told2 .given .1) (c .behind-head .ensures)
 
 pub find-feature-spec : {M : Type 1} → statement M
 find-feature-spec =

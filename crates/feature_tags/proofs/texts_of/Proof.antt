@@ -12,4 +12,4 @@ texts-of-spec =
     (λ c κs. tt)
     (λ c κs. tt)
     (λ c κs. tt)
-    (λ c. let a = c .before .before .before .before .before .before .before .before .before .args in texts-of (a .parts) (a .map .now) (a .ids .now) _ _ _ _ _ (c .before .before .before .before .before .before .at-most-15 .ensures) (c .before .before .before .tag-strings .ensures) (c .before .before .own-text .ensures) (c .before .own-text2 .ensures) (c .own-text3 .ensures)))
+    (λ c. let a = c .before .before .before .before .before .before .before .before .before .before .args in texts-of (a .starts .now) (a .parts) (a .map .now) (a .ids .now) _ _ _ _ _ (c .before .before .before .before .before .before .at-most-15 .ensures) (c .before .before .before .tag-strings .ensures) (c .before .before .own-text .ensures) (c .before .own-text2 .ensures) (c .own-text3 .ensures)))

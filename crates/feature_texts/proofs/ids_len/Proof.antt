@@ -3,18 +3,17 @@ use Prim.Native.Nat.{_≤_, _<_, _+_, _-_, _^_}
 use mathlib.Core.Path.{_≡_}
 use lib.ListN.{length, drop}
 use Rattle.arithmetic.specs.Cut.{cut}
-use Rattle.tag_table.specs.Tables.{tableIn}
-use Rattle.fetched.specs.Fetched.{walkedName, idTexts}
+use Rattle.fetched.specs.Fetched.{startedName, idTexts}
 use Rattle.feature_texts.proofs.TextLaws.{len-start, len-more, len-done}
 use Rattle.feature_texts.proofs.ids_len.Statement.{statement}
 use Rattle.feature_texts.proofs.ids_len.Tie as tie
 
 abbrev Inv-loop : tie.InvT-loop
-Inv-loop map table ids len₀ i₀ len i =
-    (i ≤ length ids) × (len < 2 ^ 64) × (cut (len + length (idTexts (walkedName (tableIn table) map) (drop i ids))) ≡ cut (length (idTexts (walkedName (tableIn table) map) ids)))
+Inv-loop map starts tags ids len₀ i₀ len i =
+    (i ≤ length ids) × (len < 2 ^ 64) × (cut (len + length (idTexts (startedName starts tags map) (drop i ids))) ≡ cut (length (idTexts (startedName starts tags map) ids)))
 
 abbrev μ-loop : tie.MeasureT-loop
-μ-loop map table ids len₀ i₀ len i = length ids - i
+μ-loop map starts tags ids len₀ i₀ len i = length ids - i
 
 pub ids-len-spec : {M : Type 1} → statement M
 ids-len-spec =
@@ -22,7 +21,7 @@ ids-len-spec =
     (tie.spec
     Inv-loop
     μ-loop
-    (λ c. (omega arith, omega arith, len-start (walkedName (tableIn (c .before .before .args .table)) (c .before .before .args .map .now)) (c .before .before .args .ids .now) 0 0))
+    (λ c. (omega arith, omega arith, len-start (let a = c .before .before .before .args in startedName (a .starts .now) (a .tags) (a .map .now)) (c .before .before .before .args .ids .now) 0 0))
     (λ c. omega arith)
     (λ c. c .before .loop-test .taken)
     (λ c κs. tt)

@@ -1,17 +1,16 @@
 use native.Mathlib.Omega.{arith}
 use Prim.Native.Nat.{_-_}
 use lib.ListN.{length}
-use Rattle.tag_table.specs.Tables.{tableIn}
-use Rattle.fetched.specs.Fetched.{walkedName}
+use Rattle.fetched.specs.Fetched.{startedName}
 use Rattle.feature_texts.proofs.PutLaws.{IdsLeft, ids-start, ids-room, ids-more, ids-place, ids-bytes}
 use Rattle.feature_texts.proofs.put_ids.Statement.{statement}
 use Rattle.feature_texts.proofs.put_ids.Tie as tie
 
 abbrev Inv-loop : tie.InvT-loop
-Inv-loop map table ids buffer₀ at₀ i₀ buffer at i = IdsLeft (walkedName (tableIn table) map) ids buffer₀ buffer at i
+Inv-loop map starts tags ids buffer₀ at₀ i₀ buffer at i = IdsLeft (startedName starts tags map) ids buffer₀ buffer at i
 
 abbrev μ-loop : tie.MeasureT-loop
-μ-loop map table ids buffer₀ at₀ i₀ buffer at i = length ids - i
+μ-loop map starts tags ids buffer₀ at₀ i₀ buffer at i = length ids - i
 
 pub put-ids-spec : {M : Type 1} → statement M
 put-ids-spec =
@@ -19,7 +18,7 @@ put-ids-spec =
     (tie.spec
     Inv-loop
     μ-loop
-    (λ c. ids-start _ _ _ (c .before .before .before .pre))
+    (λ c. ids-start _ _ _ (c .before .before .before .before .pre))
     (λ c. omega arith)
     (λ c. c .before .loop-test .taken)
     (λ c κs. tt)

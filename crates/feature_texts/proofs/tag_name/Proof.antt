@@ -11,6 +11,6 @@ tag-name-spec =
     (λ c. c .match .keys1)
     (λ c. c .match .keys2)
     (λ c. omega arith)
-    (λ c. name-missing _ _ _ _ (c .before .before .before .tag-text .ensures) _ (c .before .enum-told .given .1))
+    (λ c. name-missing _ _ _ _ _ (c .before .before .before .listed-text .ensures) _ (c .before .enum-told .given .1))
     (λ c κs. tt)
-    (λ c. name-found _ _ _ _ (c .before .before .before .before .tag-text .ensures) _ _ _ (c .before .before .got .given .1) (c .span-bytes .ensures)))
+    (λ c. name-found _ _ _ _ _ (c .before .before .before .before .listed-text .ensures) _ _ _ (c .before .before .got .given .1) (c .span-bytes .ensures)))

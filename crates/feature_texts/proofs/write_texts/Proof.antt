@@ -8,8 +8,8 @@ write-texts-spec =
     tie.close
     (tie.spec
     (λ c κs. tt)
-    (λ c. let a = c .before .before .before .before .before .args in write-large (textsIn (a .parts) (a .map .now) (a .ids .now)) _ _ (c .before .texts-len .ensures) (c .if1 .taken))
-    (λ c. let a = c .before .before .before .before .before .before .args in write-short (textsIn (a .parts) (a .map .now) (a .ids .now)) _ _ (c .before .before .texts-len .ensures) (c .before .if1 .left) (c .if2 .taken))
-    (λ c κs. let a = c .before .before .before .before .before .before .before .args in write-room (textsIn (a .parts) (a .map .now) (a .ids .now)) (a .buffer .now) _ (c .before .before .before .texts-len .ensures) (c .before .before .if1 .left) (c .before .if2 .left))
+    (λ c. let a = c .before .before .before .before .before .before .args in write-large (textsIn (a .starts .now) (a .parts) (a .map .now) (a .ids .now)) _ _ (c .before .texts-len .ensures) (c .if1 .taken))
+    (λ c. let a = c .before .before .before .before .before .before .before .args in write-short (textsIn (a .starts .now) (a .parts) (a .map .now) (a .ids .now)) _ _ (c .before .before .texts-len .ensures) (c .before .if1 .left) (c .if2 .taken))
+    (λ c κs. let a = c .before .before .before .before .before .before .before .before .args in write-room (textsIn (a .starts .now) (a .parts) (a .map .now) (a .ids .now)) (a .buffer .now) _ (c .before .before .before .texts-len .ensures) (c .before .before .if1 .left) (c .before .if2 .left))
     (λ c. c .before .buffer .given)
-    (λ c. let a = c .before .before .before .before .before .before .before .before .before .before .args in write-done (textsIn (a .parts) (a .map .now) (a .ids .now)) _ _ (c .before .before .before .before .before .before .texts-len .ensures) _ (c .before .before .before .before .before .if1 .left) (c .before .before .before .before .if2 .left) (c .before .before .put-texts .ensures)))
+    (λ c. let a = c .before .before .before .before .before .before .before .before .before .before .before .args in write-done (textsIn (a .starts .now) (a .parts) (a .map .now) (a .ids .now)) _ _ (c .before .before .before .before .before .before .texts-len .ensures) _ (c .before .before .before .before .before .if1 .left) (c .before .before .before .before .if2 .left) (c .before .before .put-texts .ensures)))

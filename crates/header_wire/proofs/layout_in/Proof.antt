@@ -9,7 +9,5 @@ layout-in-spec =
     (λ c. search headers)
     (λ c. search headers)
     (λ c. search headers)
-    (λ c. search headers)
-    (λ c. search headers)
     (λ c κs. tt)
     (λ c. search headers))

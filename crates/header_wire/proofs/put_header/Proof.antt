@@ -28,8 +28,8 @@ enum-known-got-2 : tie.Need-enum-known-got-2
 enum-known-got-2 c = search needs
 
 -- src/lib.rt:195:35
-put-refusal-requires : tie.Need-put-refusal-requires
-put-refusal-requires c κs = search needs
+put-lent-refusal-requires : tie.Need-put-lent-refusal-requires
+put-lent-refusal-requires c κs = search needs
 
 -- src/lib.rt:179:1
 returns : tie.Need-returns
@@ -39,7 +39,7 @@ returns c =
 
 -- src/lib.rt:179:1
 returns-2 : tie.Need-returns-2
-returns-2 c = rw (c .before .before .before .got2 .given .1, c .put-refusal .ensures .0, c .put-refusal .ensures .1) refl
+returns-2 c = rw (c .before .before .before .got2 .given .1, c .put-lent-refusal .ensures .0, c .put-lent-refusal .ensures .1) refl
 
 pub put-header-spec : {M : Type 1} → statement M
 put-header-spec =
@@ -51,6 +51,6 @@ put-header-spec =
     put-degrees-requires
     put-layout-requires
     enum-known-got-2
-    put-refusal-requires
+    put-lent-refusal-requires
     returns
     returns-2)

@@ -11,6 +11,6 @@ measure-body-spec =
     (λ c. c .match .keys2)
     (λ c κs. tt)
     (λ c κs. tt)
-    (λ c. body-no _ _ _ _ _ _ _ (c .before .before .before .before .measure-way-body .ensures) _ _ _ (c .before .before .enum-told .given .1) (c .before .way-body-refusal .ensures) (c .refused-way .ensures))
+    (λ c. body-no _ _ _ _ _ _ _ _ (c .before .before .before .before .measure-way-body .ensures) _ _ _ (c .before .before .enum-told .given .1) (c .before .way-body-refusal .ensures) (c .refused-way .ensures))
     (λ c κs. tt)
-    (λ c. body-on _ _ _ _ _ _ _ (c .before .before .before .before .measure-way-body .ensures) _ _ _ (c .before .before .got .given .1) (c .tell-way .ensures)))
+    (λ c. body-on _ _ _ _ _ _ _ _ (c .before .before .before .before .measure-way-body .ensures) _ _ _ (c .before .before .got .given .1) (c .tell-way .ensures)))

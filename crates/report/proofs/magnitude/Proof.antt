@@ -1,4 +1,3 @@
-use borrow.Author.Needs.{needs}
 use Rattle.report.proofs.WordLaws.{up-cast, up-is, down-fits, down-cast, down-sum, down-abs}
 use Rattle.report.proofs.magnitude.Statement.{statement}
 use Rattle.report.proofs.magnitude.Tie as tie

@@ -1,5 +1,3 @@
-use mathlib.Core.Path.{ap, sym, _∙_}
-use Rattle.report.specs.Words.{signOf}
 use Rattle.report.proofs.WordLaws.{back}
 use Rattle.report.proofs.sign.Statement.{statement}
 use Rattle.report.proofs.sign.Tie as tie

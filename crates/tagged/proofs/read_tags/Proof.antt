@@ -3,33 +3,32 @@ use lib.ListN.{length}
 use Rattle.parsing.specs.Parse.{many}
 use Rattle.parsing.proofs.Steps.{then-then}
 use Rattle.types.proofs.BesideLaws.{beside-done, beside-no}
-use Rattle.format.specs.Kinds.{tagKinds}
 use Rattle.format.specs.Tile.{tagId, values}
-use Rattle.tag_table.specs.Tables.{tableIn}
+use Rattle.tag_table.specs.Tables.{kindsBy}
 use Rattle.tagged.proofs.TaggedLaws.{ids-ok, ids-stop, values-ok, values-stop, tags-made, tags}
 use Rattle.tagged.proofs.read_tags.Statement.{statement}
 use Rattle.tagged.proofs.read_tags.Tie as tie
 
 returns : tie.Need-returns
 returns c =
-    let a = c .before .before .before .before .before .before .before .args in
+    let a = c .before .before .before .before .before .before .before .before .args in
     beside-no _ _ _ _ _ _ (c .refused-tagged .ensures .0) (c .refused-tagged .ensures .1)
-    (ids-stop (tableIn (a .table)) (a .map .now) (a .special % 16) (a .at) _ _ _ _ _ (c .before .before .before .before .read-tag-ids .ensures) (c .before .before .enum-told .given .1) (c .before .end-refusal .ensures))
+    (ids-stop (a .letters .now) (a .tags) (a .map .now) (a .special % 16) (a .at) _ _ _ _ _ (c .before .before .before .before .read-tag-ids .ensures) (c .before .before .enum-told .given .1) (c .before .end-refusal .ensures))
 
 returns-2 : tie.Need-returns-2
 returns-2 c =
-    let a = c .before .before .before .before .before .before .before .before .before .before .before .before .args in
+    let a = c .before .before .before .before .before .before .before .before .before .before .before .before .before .args in
     beside-no _ _ _ _ _ _ (c .refused-tagged2 .ensures .0) (c .refused-tagged2 .ensures .1)
-    (ids-ok (tableIn (a .table)) (a .map .now) (a .special % 16) (a .at) _ _ _ _ _ (c .before .before .before .before .before .before .before .before .before .read-tag-ids .ensures) (c .before .before .before .before .before .before .before .end .given .1)
+    (ids-ok (a .letters .now) (a .tags) (a .map .now) (a .special % 16) (a .at) _ _ _ _ _ (c .before .before .before .before .before .before .before .before .before .read-tag-ids .ensures) (c .before .before .before .before .before .before .before .end .given .1)
     (λ l h k. values-stop _ (a .map .now) (a .special % 16) _ _ _ _ _ _ _ (c .before .before .before .before .skip-values .ensures) (c .before .before .enum-told2 .given .1) (c .before .end-refusal2 .ensures) h k))
 
 returns-3 : tie.Need-returns-3
 returns-3 c =
-    let a = c .before .before .before .before .before .before .before .before .before .before .before .before .args in
-    let kinds = tagKinds (tableIn (a .table)) (a .map .now) in
+    let a = c .before .before .before .before .before .before .before .before .before .before .before .before .before .args in
+    let kinds = kindsBy (a .letters .now) (a .tags) in
     beside-done _ _ _ _ _
     (then-then (many (tagId (length kinds)) (a .special % 16) (a .map .now) (a .at)) _ _ _
-    (ids-ok (tableIn (a .table)) (a .map .now) (a .special % 16) (a .at) _ _ _ _ _ (c .before .before .before .before .before .before .before .before .before .read-tag-ids .ensures) (c .before .before .before .before .before .before .before .end .given .1)
+    (ids-ok (a .letters .now) (a .tags) (a .map .now) (a .special % 16) (a .at) _ _ _ _ _ (c .before .before .before .before .before .before .before .before .before .read-tag-ids .ensures) (c .before .before .before .before .before .before .before .end .given .1)
     (λ l h k. then-then (values kinds l (a .map .now) _) _ _ _
     (values-ok kinds (a .map .now) (a .special % 16) _ _ _ _ _ _ _ (c .before .before .before .before .skip-values .ensures) (c .before .before .end2 .given .1) h k
     (λ v. tags-made _ (a .special) _ _ _ l v (c .layer-of .ensures) (c .layer-of .ok) h k)))))

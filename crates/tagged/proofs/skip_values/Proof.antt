@@ -1,19 +1,18 @@
 use Prim.Native.Nat.{_≤_, _-_}
 use mathlib.Core.Path.{_≡_}
 use lib.ListN.{length, drop}
-use Rattle.format.specs.Kinds.{tagKinds}
 use Rattle.format.specs.Tile.{values}
 use Rattle.parsing.specs.Parse.{passed}
-use Rattle.tag_table.specs.Tables.{tableIn}
+use Rattle.tag_table.specs.Tables.{kindsBy}
 use Rattle.tagged.proofs.TaggedLaws.{skips}
 use Rattle.tagged.proofs.skip_values.Statement.{statement}
 use Rattle.tagged.proofs.skip_values.Tie as tie
 
 abbrev Inv-loop : tie.InvT-loop
-Inv-loop map at table ids next₀ i₀ next i = (i ≤ length ids) × (passed (values (tagKinds (tableIn table) map) (drop i ids) map next) ≡ passed (values (tagKinds (tableIn table) map) ids map at))
+Inv-loop map at letters tags ids next₀ i₀ next i = (i ≤ length ids) × (passed (values (kindsBy letters tags) (drop i ids) map next) ≡ passed (values (kindsBy letters tags) ids map at))
 
 abbrev μ-loop : tie.MeasureT-loop
-μ-loop map at table ids next₀ i₀ next i = length ids - i
+μ-loop map at letters tags ids next₀ i₀ next i = length ids - i
 
 pub skip-values-spec : {M : Type 1} → statement M
 skip-values-spec =

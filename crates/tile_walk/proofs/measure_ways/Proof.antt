@@ -1,6 +1,7 @@
 use Prim.Native.Nat.{_≤_, _-_}
 use mathlib.Core.Path.{_≡_}
 use Rattle.parsing.specs.Parse.{ok}
+use Rattle.tile_layout.specs.TileLayout.{kindsOf}
 use Rattle.tile_walk.specs.TileWalk.{exactWays}
 use native.Mathlib.Omega.{arith}
 use Rattle.tile_walk.proofs.WalkLaws.{ways-more, ways-no, ways-done, way-loops}
@@ -8,19 +9,19 @@ use Rattle.tile_walk.proofs.measure_ways.Statement.{statement}
 use Rattle.tile_walk.proofs.measure_ways.Tie as tie
 
 abbrev Inv-loop : tie.InvT-loop
-Inv-loop map at n layout all₀ next₀ i₀ all next i =
-    (i ≤ n) × (ok all next ≡ exactWays layout map i at)
+Inv-loop map at n layout letters all₀ next₀ i₀ all next i =
+    (i ≤ n) × (ok all next ≡ exactWays (kindsOf layout letters) map i at)
 
 abbrev μ-loop : tie.MeasureT-loop
-μ-loop map at n layout all₀ next₀ i₀ all next i = n - i
+μ-loop map at n layout letters all₀ next₀ i₀ all next i = n - i
 
 returns : tie.Need-returns Inv-loop μ-loop
 returns c =
-    ways-no _ (c .before .before .before .before .before .before .before .args .layout) _ _ _ _ (c .before .before .before .before .before .loop .inv .1) _ (c .before .before .before .measure-way .ensures) _ _ _
+    ways-no _ _ _ _ _ _ _ _ (c .before .before .before .before .before .loop .inv .1) _ (c .before .before .before .measure-way .ensures) _ _ _
     (c .before .enum-told .given .1) (c .ways-refusal .ensures) (c .before .before .before .before .loop-test .taken)
 
 loop-again : tie.Need-loop-again Inv-loop μ-loop
-loop-again c = (omega arith, ways-more _ (c .before .before .before .before .before .before .before .before .args .layout) (c .before .before .before .before .before .before .loop .i) (c .before .before .before .before .before .before .before .before .args .at) _ _ (c .before .before .before .before .before .before .loop .inv .1) _ (c .before .before .before .before .measure-way .ensures) _ _ _ (c .before .before .got .given .1) (c .both .ensures))
+loop-again c = (omega arith, ways-more _ _ _ _ (c .before .before .before .before .before .before .loop .i) (c .before .before .before .before .before .before .before .before .before .args .at) _ _ (c .before .before .before .before .before .before .loop .inv .1) _ (c .before .before .before .before .measure-way .ensures) _ _ _ (c .before .before .got .given .1) (c .both .ensures))
 
 pub measure-ways-spec : {M : Type 1} → statement M
 measure-ways-spec =
@@ -38,4 +39,4 @@ measure-ways-spec =
     (λ c. search way-loops)
     (λ c. search way-loops)
     loop-again
-    (λ c. ways-done _ (c .before .before .before .args .layout) _ _ _ _ (c .before .loop .inv .1) _ (c .before .loop .inv .0) (c .loop-test .left)))
+    (λ c. ways-done _ _ _ _ _ _ _ _ (c .before .loop .inv .1) _ (c .before .loop .inv .0) (c .loop-test .left)))

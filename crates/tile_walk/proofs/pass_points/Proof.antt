@@ -2,20 +2,19 @@ use Prim.Native.Nat.{_≤_, _-_}
 use mathlib.Core.Path.{_≡_}
 use lib.ListN.{length}
 use Rattle.parsing.specs.Parse.{ok, mapRes, many}
-use Rattle.format.specs.Kinds.{tagKinds}
 use Rattle.format.specs.Tile.{point}
-use Rattle.tag_table.specs.Tables.{tableIn}
+use Rattle.tile_layout.specs.TileLayout.{kindsOf}
 use native.Mathlib.Omega.{arith}
 use Rattle.tile_walk.proofs.WalkLaws.{points-more, points-no, points-done, points}
 use Rattle.tile_walk.proofs.pass_points.Statement.{statement}
 use Rattle.tile_walk.proofs.pass_points.Tie as tie
 
 abbrev Inv-loop : tie.InvT-loop
-Inv-loop map at n layout next₀ i₀ next i =
-    (i ≤ n) × (mapRes length (many (point (layout .debug) (tagKinds (tableIn (layout .«poi_tags»)) map)) i map at) ≡ ok i next)
+Inv-loop map at n layout letters next₀ i₀ next i =
+    (i ≤ n) × (mapRes length (many (point (layout .debug) (kindsOf layout letters .points)) i map at) ≡ ok i next)
 
 abbrev μ-loop : tie.MeasureT-loop
-μ-loop map at n layout next₀ i₀ next i = n - i
+μ-loop map at n layout letters next₀ i₀ next i = n - i
 
 returns : tie.Need-returns Inv-loop μ-loop
 returns c =

@@ -12,4 +12,4 @@ next-idle-spec =
     (λ c. c .next-way .ensures)
     (λ c κs. tt)
     (λ c κs. tt)
-    (λ c. the-end _ _ _ _ _ _ (c .before .empty-poi .ensures) (c .no-head .ensures) (c .before .before .before .before .if1 .left) (c .before .before .if2 .left)))
+    (λ c. the-end _ _ _ _ _ _ _ _ (c .before .empty-poi .ensures) (c .no-head .ensures) (c .before .before .before .before .if1 .left) (c .before .before .if2 .left)))

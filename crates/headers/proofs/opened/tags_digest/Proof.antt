@@ -1,4 +1,3 @@
-use Prim.Native.Nat.{_≤_}
 use borrow.Author.Needs.{needs}
 use Rattle.headers.proofs.opened.tags_digest.Statement.{statement}
 use Rattle.headers.proofs.opened.tags_digest.Tie as tie
