@@ -7,9 +7,11 @@
 #include <stdio.h>
 #include <stdlib.h>
 
-/* Room for a map of 64 MB, and for the blocks and nodes of a way: refusal 15 says how much more a way needs. */
-enum { BYTES = 1 << 26, BLOCKS = 1 << 16, NODES = 1 << 20 };
-static uint8_t map[BYTES];
+/* Room for a map of 64 MB, for the lists of its tags, which are kept beside it, and for the blocks and nodes of a way. Refusal 15 says how
+ * much more a way needs; the lists have room for the tags of any map. */
+enum { BYTES = 1 << 26, BLOCKS = 1 << 16, NODES = 1 << 20, TAGS = MAPSFORGE_MOST_ENTRIES };
+static uint8_t map[BYTES], letters[TAGS];
+static uint64_t starts[TAGS];
 static uint64_t counts[BLOCKS];
 static double latitudes[NODES], longitudes[NODES];
 
@@ -45,7 +47,7 @@ int main(int argc, char **argv) {
     uint64_t header[MAPSFORGE_OPEN_WORDS], layout[MAPSFORGE_LAYOUT_WORDS], found[MAPSFORGE_SUB_FILE_WORDS];
     uint64_t interval[MAPSFORGE_INTERVAL_WORDS] = {0}, values[MAPSFORGE_VALUES];
     double degrees[MAPSFORGE_OPEN_DEGREES];
-    check("open", mapsforge_open(map, len, header, degrees, layout));
+    check("open", mapsforge_open(map, len, starts, TAGS, letters, TAGS, header, degrees, layout));
     check("sub_file", mapsforge_sub_file(map, len, layout, zoom, found));
     size_t sub_file = found[MAPSFORGE_SUB_FILE_THERE] ? found[MAPSFORGE_SUB_FILE_NUMBER] : SIZE_MAX;
     check("interval", mapsforge_interval(map, len, layout, sub_file, values, interval));
@@ -66,7 +68,7 @@ int main(int argc, char **argv) {
     double position[MAPSFORGE_POSITION_DEGREES], label[MAPSFORGE_POSITION_DEGREES];
     check("stream", mapsforge_stream_open(map, len, layout, interval, sub_file, MAPSFORGE_CORNERS(grid), tile, zoom, state, values));
     do {
-        check("next", mapsforge_stream_next(map, len, layout, state, next, numbers, position, ids));
+        check("next", mapsforge_stream_next(map, len, layout, letters, TAGS, state, next, numbers, position, ids));
         if (next[MAPSFORGE_NEXT_KIND] == MAPSFORGE_POINT) {
             print_name("point", next + MAPSFORGE_NEXT_NAME);
         } else if (next[MAPSFORGE_NEXT_KIND] == MAPSFORGE_WAY) {

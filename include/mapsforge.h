@@ -20,11 +20,25 @@
  * A part of the map, or of nothing, is three words: 1 if it is there, its place in the map, its size in bytes; else 0, 0, 0.
  * A text of a stream that is not valid UTF-8 is there with size 0.
  *
- * The caller keeps the map's bytes, the layout that mapsforge_open gave, and of each sub file the interval that mapsforge_interval gave,
- * and hands in what a call needs of them. So nothing is opened again, and a damaged header is refused by mapsforge_open alone. Any words
- * are taken: with a layout or an interval that did not come from this map, a call reads the map by them, and what opening checks is not
- * checked again. So a tag table may stand where the map has no such names, or behind its end: a name that cannot be read there is an empty
- * one without an inline value, and nothing is refused for it. A zoom interval that is not in the map is refused with 1.
+ * The caller keeps the map's bytes, the layout that mapsforge_open gave and the two lists of tags that it filled, and of each sub file the
+ * interval that mapsforge_interval gave, and hands in what a call needs of them. So nothing is opened again, and a damaged header is
+ * refused by mapsforge_open alone. Any words are taken: with a layout or an interval that did not come from this map, a call reads the map
+ * by them, and what opening checks is not checked again. A zoom interval that is not in the map is refused with 1.
+ *
+ * The lists of tags have an entry for each tag of points, and behind those one for each tag of ways. `starts`: where the tag starts in the
+ * map, which is the first byte of its length. `letters`: the letter of its inline value (b, h, i, f or s), or 0. Tag k of points is entry
+ * k, and tag k of ways is entry k + layout[MAPSFORGE_LAYOUT_POINT_TAG_COUNT]. Their memory is the caller's, who keeps them beside the map's
+ * bytes for as long as calls are made on that map. Nobody writes them in that time; several threads may read them at once. A map that has
+ * changed is opened anew, with lists of its own.
+ *
+ * How long the lists must be, mapsforge_open says: with lists that are too short it answers 15, and both lengths are then the number of all
+ * tags (words MAPSFORGE_NEEDED_STARTS and MAPSFORGE_NEEDED_LETTERS). So it is called with empty lists first; a map without tags needs none,
+ * and opens at once. No map needs more than MAPSFORGE_MOST_ENTRIES entries in each.
+ *
+ * With the lists that opening filled of this map, every call gives what the map has. Any other lists are taken too: a call ends, stays
+ * inside what it is lent, skips inline values by the letters that are listed (0 behind the end of the list), and names tags by the starts
+ * (an empty name where the list has no entry, or the map no text there). No more is promised then: the lists of another map, or of this one
+ * before it changed, give features that look right and are wrong, and nothing tells.
  *
  * The caller computes the grid. The library takes every grid that is not reversed and not too large (14): with a wrong one it reads wrong
  * tiles, and nothing tells. A sub file's grid is the tiles of its base zoom that the map's bounding box touches: columns x_min to x_max and
@@ -88,6 +102,8 @@ enum {
 #define MAPSFORGE_NEEDED_INITIAL_LATITUDES 3
 #define MAPSFORGE_NEEDED_INITIAL_LONGITUDES 4
 #define MAPSFORGE_NEEDED_BUFFER 5
+#define MAPSFORGE_NEEDED_STARTS 0               /* of mapsforge_open's */
+#define MAPSFORGE_NEEDED_LETTERS 1
 #define MAPSFORGE_VALUES 6                      /* how many there are */
 
 /* A part of the map, counted from its first word: words[MAPSFORGE_NEXT_NAME + MAPSFORGE_PART_SIZE]. */
@@ -108,9 +124,11 @@ enum {
 
 #define MAPSFORGE_MAX_TAGS 15                   /* a feature has no more: the length of ids */
 #define MAPSFORGE_MAX_ROWS 256                  /* a zoom table has no more: the length of points and ways */
+#define MAPSFORGE_MOST_ENTRIES 131070           /* starts and letters need no more: 65535 tags of points and as many of ways */
 #define MAPSFORGE_STACK 32768                   /* bytes: 32 KB */
 
-/* Opens a map.
+/* Opens a map, and lists its tags: the start and the letter of each go to the fronts of the lists, and entries behind them keep their
+ * values. 15 if a list is shorter than all tags together, tested last. A refused call leaves both lists alone.
  *   a map writes words 6 to 33; degrees 0 to 5 (4 and 5 are 0.0 without a start position); layout 0 to 6 */
 #define MAPSFORGE_OPEN_END 6                    /* words: the place behind the header */
 #define MAPSFORGE_OPEN_HEADER_SIZE 7            /* as stored */
@@ -143,14 +161,14 @@ enum {
 #define MAPSFORGE_OPEN_START_LONGITUDE 5
 #define MAPSFORGE_OPEN_DEGREES 6
 #define MAPSFORGE_LAYOUT_DEBUG 0                /* layout: whether there are signatures for debugging; any word but 0 is taken for yes */
-#define MAPSFORGE_LAYOUT_POINT_TAGS 1           /* as above */
+#define MAPSFORGE_LAYOUT_POINT_TAGS 1           /* as above; no call looks at this word, nor at the place of the ways' */
 #define MAPSFORGE_LAYOUT_POINT_TAG_COUNT 2
 #define MAPSFORGE_LAYOUT_WAY_TAGS 3
 #define MAPSFORGE_LAYOUT_WAY_TAG_COUNT 4
 #define MAPSFORGE_LAYOUT_INTERVALS 5            /* where the first zoom interval stands: each takes 19 bytes */
 #define MAPSFORGE_LAYOUT_INTERVAL_COUNT 6       /* taken modulo 256 */
 #define MAPSFORGE_LAYOUT_WORDS 7
-uint64_t mapsforge_open(const uint8_t *map, size_t map_len, uint64_t words[34], double degrees[6], uint64_t layout[7]);
+uint64_t mapsforge_open(const uint8_t *map, size_t map_len, uint64_t *starts, size_t starts_len, uint8_t *letters, size_t letters_len, uint64_t words[34], double degrees[6], uint64_t layout[7]);
 
 /* The zoom interval of a sub file, which goes as it is to mapsforge_tile_count, mapsforge_tile_index, mapsforge_index_entry,
  * mapsforge_stream_open, mapsforge_collect and mapsforge_fetch. Of a missing one, word 0 is all that they look at. Refused with 1 if the
@@ -174,12 +192,13 @@ uint64_t mapsforge_interval(const uint8_t *map, size_t map_len, const uint64_t l
 #define MAPSFORGE_SUB_FILE_WORDS 8
 uint64_t mapsforge_sub_file(const uint8_t *map, size_t map_len, const uint64_t layout[7], uint8_t zoom, uint64_t words[8]);
 
-/* Tag k, from 0, of a table of the header (its place and count, as mapsforge_open gives them).
+/* Tag k, from 0, of `count` tags from entry `first` of the lists on: of points with first 0 and their count, of ways with the points' count
+ * and their own. 7 with k if k is not below count, or if `starts` has no such entry; else the text at its start is refused as a text is.
  *   a tag writes words 6 to 9 */
 #define MAPSFORGE_TAG_PLACE 6                   /* words: where its text stands in the map */
 #define MAPSFORGE_TAG_SIZE 7
-#define MAPSFORGE_TAG_END 8                     /* the place behind the text: as a start it makes the next tag number 0, without a walk */
-#define MAPSFORGE_TAG_KIND 9                    /* what a feature stores for it, one of these kinds: */
+#define MAPSFORGE_TAG_END 8                     /* the place behind the text */
+#define MAPSFORGE_TAG_KIND 9                    /* what a feature stores for it by its letter, one of these kinds: */
 #define MAPSFORGE_TAG_WORDS 10
 #define MAPSFORGE_KIND_NONE 0                   /* nothing */
 #define MAPSFORGE_KIND_BYTE 1                   /* %b, one byte */
@@ -187,7 +206,7 @@ uint64_t mapsforge_sub_file(const uint8_t *map, size_t map_len, const uint64_t l
 #define MAPSFORGE_KIND_INT 3                    /* %i, four */
 #define MAPSFORGE_KIND_FLOAT 4                  /* %f, four */
 #define MAPSFORGE_KIND_TEXT 5                   /* %s, a length and that many */
-uint64_t mapsforge_tag(const uint8_t *map, size_t map_len, size_t start, size_t count, size_t k, uint64_t words[10]);
+uint64_t mapsforge_tag(const uint8_t *map, size_t map_len, const uint64_t *starts, size_t starts_len, const uint8_t *letters, size_t letters_len, size_t first, size_t count, size_t k, uint64_t words[10]);
 
 /* The text with each ill-formed part replaced by U+FFFD, to the front of the buffer; bytes behind it keep their values.
  *   a text writes words 6 */
@@ -267,7 +286,7 @@ uint64_t mapsforge_stream_open(const uint8_t *map, size_t map_len, const uint64_
 #define MAPSFORGE_POINT 0                       /* kinds, here and in mapsforge_fetch */
 #define MAPSFORGE_WAY 1
 #define MAPSFORGE_END 2                         /* only here */
-uint64_t mapsforge_stream_next(const uint8_t *map, size_t map_len, const uint64_t layout[7], uint64_t state[7], uint64_t words[21], int64_t signed_words[2], double degrees[2], uint64_t ids[15]);
+uint64_t mapsforge_stream_next(const uint8_t *map, size_t map_len, const uint64_t layout[7], const uint8_t *letters, size_t letters_len, uint64_t state[7], uint64_t words[21], int64_t signed_words[2], double degrees[2], uint64_t ids[15]);
 
 /* Decodes the waiting way. Its blocks' node counts, and all its latitudes and longitudes, go to the fronts of the lists; entries behind
  * them keep their values. degrees: the label's position. A refused call leaves the way waiting and the lists alone.
@@ -297,7 +316,7 @@ uint64_t mapsforge_stream_decline(uint64_t state[7], uint64_t words[6]);
 #define MAPSFORGE_COLLECT_WAYS 12
 #define MAPSFORGE_COLLECT_EXACT 13              /* whether every way's stored size is its decoded length: if so, ways can be declined */
 #define MAPSFORGE_COLLECT_WORDS 14
-uint64_t mapsforge_collect(const uint8_t *map, size_t map_len, const uint64_t layout[7], const uint64_t interval[6], int32_t x_min, int32_t y_min, int32_t x_max, int32_t y_max, size_t tile, uint64_t words[14], uint64_t points[256], uint64_t ways[256]);
+uint64_t mapsforge_collect(const uint8_t *map, size_t map_len, const uint64_t layout[7], const uint8_t *letters, size_t letters_len, const uint64_t interval[6], int32_t x_min, int32_t y_min, int32_t x_max, int32_t y_max, size_t tile, uint64_t words[14], uint64_t points[256], uint64_t ways[256]);
 
 /* Fetches feature k of a collected tile: points from 0, ways behind them. A way's node counts, latitudes and longitudes and its blocks'
  * initial latitudes and longitudes go to the fronts of the lists; the texts go to the buffer, one behind the other: the tags' strings in
@@ -333,7 +352,7 @@ uint64_t mapsforge_collect(const uint8_t *map, size_t map_len, const uint64_t la
 #define MAPSFORGE_STRING_KEY_HASH 3
 #define MAPSFORGE_STRING_VALUE_HASH 4
 #define MAPSFORGE_STRING_WORDS 5
-uint64_t mapsforge_fetch(const uint8_t *map, size_t map_len, const uint64_t layout[7], const uint64_t interval[6], int32_t x_min, int32_t y_min, int32_t x_max, int32_t y_max, size_t tile, uint64_t feature, uint64_t *node_counts, size_t node_counts_len, double *latitudes, size_t latitudes_len, double *longitudes, size_t longitudes_len, double *initial_latitudes, size_t initial_latitudes_len, double *initial_longitudes, size_t initial_longitudes_len, uint8_t *buffer, size_t buffer_len, uint64_t words[35], int64_t signed_words[2], double degrees[2], uint64_t ids[15], uint64_t tags[75]);
+uint64_t mapsforge_fetch(const uint8_t *map, size_t map_len, const uint64_t layout[7], const uint64_t *starts, size_t starts_len, const uint8_t *letters, size_t letters_len, const uint64_t interval[6], int32_t x_min, int32_t y_min, int32_t x_max, int32_t y_max, size_t tile, uint64_t feature, uint64_t *node_counts, size_t node_counts_len, double *latitudes, size_t latitudes_len, double *longitudes, size_t longitudes_len, double *initial_latitudes, size_t initial_latitudes_len, double *initial_longitudes, size_t initial_longitudes_len, uint8_t *buffer, size_t buffer_len, uint64_t words[35], int64_t signed_words[2], double degrees[2], uint64_t ids[15], uint64_t tags[75]);
 
 /* The data of a way alone, from a place in the map on: measured, and read to the fronts of three lists. A refused call leaves the lists
  * alone.

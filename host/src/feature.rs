@@ -164,6 +164,8 @@ impl Buffers {
             let number = raw::fetch(
                 map,
                 sub_file.map().layout(),
+                sub_file.map().starts(),
+                sub_file.map().letters(),
                 sub_file.words(),
                 sub_file.grid().corners(),
                 tile,

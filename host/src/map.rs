@@ -1,8 +1,12 @@
 //! An opened map.
 
+use crate::tags::TagLists;
 use crate::{raw, word, Header, Refusal, SubFile, TagNames, ZoomInterval};
 
 /// A map over its bytes: header, tag names, zoom intervals. Tiles are read on demand.
+///
+/// It keeps the lists of its tags that opening filled. They are this map's alone: nothing writes them, and every call of
+/// this crate takes them from the map whose bytes it reads.
 ///
 /// ```
 /// use mapsforge::Map;
@@ -20,28 +24,67 @@ pub struct Map<'a> {
     bytes: &'a [u8],
     header: Header<'a>,
     layout: [u64; word::LAYOUT_WORDS],
+    lists: TagLists,
     point_tags: TagNames<'a>,
     way_tags: TagNames<'a>,
     intervals: Vec<ZoomInterval>,
 }
 
+/// What opening gives.
+struct Opened {
+    words: [u64; word::OPEN_WORDS],
+    degrees: [f64; word::OPEN_DEGREES],
+    layout: [u64; word::LAYOUT_WORDS],
+    lists: TagLists,
+}
+
+impl Opened {
+    /// Opens the map without lists, which a map with tags refuses; then with lists of the lengths that it asks for.
+    fn of(bytes: &[u8]) -> Result<Opened, Refusal> {
+        let mut opened = Opened {
+            words: [0; word::OPEN_WORDS],
+            degrees: [0.0; word::OPEN_DEGREES],
+            layout: [0; word::LAYOUT_WORDS],
+            lists: TagLists::default(),
+        };
+        match opened.fill(bytes) {
+            Err(Refusal::TooShort(needed)) => {
+                let [starts, letters] =
+                    [word::NEEDED_STARTS, word::NEEDED_LETTERS].map(|list| needed.lists[list]);
+                opened.lists = TagLists::of(starts, letters);
+                opened.fill(bytes)?;
+            }
+            first => first?,
+        }
+        Ok(opened)
+    }
+
+    fn fill(&mut self, bytes: &[u8]) -> Result<(), Refusal> {
+        let TagLists { starts, letters } = &mut self.lists;
+        let number =
+            raw::open(bytes, starts, letters, &mut self.words, &mut self.degrees, &mut self.layout);
+        Refusal::check(number, &self.words)
+    }
+}
+
 impl<'a> Map<'a> {
     /// Reads the header, and in a debug map each sub file's signature.
     pub fn open(bytes: &'a [u8]) -> Result<Map<'a>, Refusal> {
-        let (mut words, mut degrees) = ([0; word::OPEN_WORDS], [0.0; word::OPEN_DEGREES]);
-        let mut layout = [0; word::LAYOUT_WORDS];
-        Refusal::check(raw::open(bytes, &mut words, &mut degrees, &mut layout), &words)?;
-        let table = |place: usize, count: usize| TagNames::read(bytes, words[place], words[count]);
+        let opened = Opened::of(bytes)?;
+        let Opened { words, layout, ref lists, .. } = opened;
+        let [points, ways] = [word::OPEN_POINT_TAG_COUNT, word::OPEN_WAY_TAG_COUNT]
+            .map(|count| words[count] as usize);
         let intervals = (0..words[word::OPEN_SUB_FILES] as usize)
             .map(|sub_file| ZoomInterval::read(bytes, &layout, sub_file))
             .collect::<Result<_, _>>()?;
         Ok(Map {
             bytes,
-            header: Header::new(bytes, &words, &degrees),
+            header: Header::new(bytes, &words, &opened.degrees),
             layout,
-            point_tags: table(word::OPEN_POINT_TAGS, word::OPEN_POINT_TAG_COUNT)?,
-            way_tags: table(word::OPEN_WAY_TAGS, word::OPEN_WAY_TAG_COUNT)?,
+            point_tags: TagNames::read(bytes, lists, 0, points)?,
+            way_tags: TagNames::read(bytes, lists, points, ways)?,
             intervals,
+            lists: opened.lists,
         })
     }
 
@@ -58,6 +101,18 @@ impl<'a> Map<'a> {
     /// What the calls of [`raw`] about tiles and sub files take of the header.
     pub fn layout(&self) -> &[u64; word::LAYOUT_WORDS] {
         &self.layout
+    }
+
+    /// Where each tag of points, and behind them each tag of ways, starts in the map: what [`raw::tag`] and [`raw::fetch`]
+    /// take with these bytes and no others.
+    pub fn starts(&self) -> &[u64] {
+        &self.lists.starts
+    }
+
+    /// The letters of the same tags, by which inline values are skipped: `b`, `h`, `i`, `f` or `s`, or 0. What [`raw`]'s
+    /// calls that read features take with these bytes and no others.
+    pub fn letters(&self) -> &[u8] {
+        &self.lists.letters
     }
 
     /// The tag names of points.

@@ -2,9 +2,9 @@
 //!
 //! include/mapsforge.h says what each word is; [`crate::word`] has their names. Each function gives 0, or the number of a
 //! refusal, whose values are then at the front of the words (see [`crate::Refusal::check`]). An answer writes its own
-//! words, which mapsforge.h lists, and the others keep the values that were lent. A layout is what [`open`] gave, an
-//! interval what [`interval`] gave of the sub file, and any other words will do. All `unsafe` code of this crate is in this
-//! file.
+//! words, which mapsforge.h lists, and the others keep the values that were lent. A layout and the lists of tags are what
+//! [`open`] gave of the map, an interval what [`interval`] gave of the sub file. Any others will do too, but then what is
+//! read need not be what the map has; [`crate::Map`] keeps its own. All `unsafe` code of this crate is in this file.
 //!
 //! ```
 //! use mapsforge::raw;
@@ -27,15 +27,30 @@ use std::fs::File;
 use std::io;
 use std::os::fd::AsRawFd;
 
-/// Opens a map: the header's words and degrees, and the layout that other calls take.
+/// Opens a map: the header's words and degrees, the layout that other calls take, and the lists of its tags: where each
+/// starts, and its letter.
 pub fn open(
     map: &[u8],
+    starts: &mut [u64],
+    letters: &mut [u8],
     words: &mut [u64; word::OPEN_WORDS],
     degrees: &mut [f64; word::OPEN_DEGREES],
     layout: &mut [u64; word::LAYOUT_WORDS],
 ) -> u64 {
     // SAFETY: borrowed for the call, at their lengths.
-    unsafe { sys::mapsforge_open(map.as_ptr(), map.len(), words, degrees, layout) }
+    unsafe {
+        sys::mapsforge_open(
+            map.as_ptr(),
+            map.len(),
+            starts.as_mut_ptr(),
+            starts.len(),
+            letters.as_mut_ptr(),
+            letters.len(),
+            words,
+            degrees,
+            layout,
+        )
+    }
 }
 
 /// The zoom interval of a sub file, as other calls take it.
@@ -61,16 +76,31 @@ pub fn sub_file(
     unsafe { sys::mapsforge_sub_file(map.as_ptr(), map.len(), layout, zoom, words) }
 }
 
-/// Tag k of a table of the header.
+/// Tag k of those that stand from entry `first` of the lists on.
 pub fn tag(
     map: &[u8],
-    start: usize,
+    starts: &[u64],
+    letters: &[u8],
+    first: usize,
     count: usize,
     k: usize,
     words: &mut [u64; word::TAG_WORDS],
 ) -> u64 {
     // SAFETY: borrowed for the call, at their lengths.
-    unsafe { sys::mapsforge_tag(map.as_ptr(), map.len(), start, count, k, words) }
+    unsafe {
+        sys::mapsforge_tag(
+            map.as_ptr(),
+            map.len(),
+            starts.as_ptr(),
+            starts.len(),
+            letters.as_ptr(),
+            letters.len(),
+            first,
+            count,
+            k,
+            words,
+        )
+    }
 }
 
 /// A text with each ill-formed part replaced by U+FFFD.
@@ -191,6 +221,7 @@ pub fn stream_open(
 pub fn stream_next(
     map: &[u8],
     layout: &[u64; word::LAYOUT_WORDS],
+    letters: &[u8],
     state: &mut [u64; word::STATE_WORDS],
     words: &mut [u64; word::NEXT_WORDS],
     signed_words: &mut [i64; word::SIGNED_WORDS],
@@ -203,6 +234,8 @@ pub fn stream_next(
             map.as_ptr(),
             map.len(),
             layout,
+            letters.as_ptr(),
+            letters.len(),
             state,
             words,
             signed_words,
@@ -253,6 +286,7 @@ pub fn stream_decline(
 pub fn collect(
     map: &[u8],
     layout: &[u64; word::LAYOUT_WORDS],
+    letters: &[u8],
     interval: &[u64; word::INTERVAL_WORDS],
     grid: [i32; 4],
     tile: usize,
@@ -267,6 +301,8 @@ pub fn collect(
             map.as_ptr(),
             map.len(),
             layout,
+            letters.as_ptr(),
+            letters.len(),
             interval,
             x_min,
             y_min,
@@ -327,6 +363,8 @@ impl Default for FetchWords {
 pub fn fetch(
     map: &[u8],
     layout: &[u64; word::LAYOUT_WORDS],
+    starts: &[u64],
+    letters: &[u8],
     interval: &[u64; word::INTERVAL_WORDS],
     grid: [i32; 4],
     tile: usize,
@@ -341,6 +379,10 @@ pub fn fetch(
             map.as_ptr(),
             map.len(),
             layout,
+            starts.as_ptr(),
+            starts.len(),
+            letters.as_ptr(),
+            letters.len(),
             interval,
             x_min,
             y_min,

@@ -222,6 +222,7 @@ impl<'m, 'a> Stream<'m, 'a> {
         let number = raw::stream_next(
             bytes,
             self.map.layout(),
+            self.map.letters(),
             &mut self.state,
             &mut words,
             &mut signed,

@@ -127,6 +127,21 @@ impl fmt::Display for NoKey {
 
 impl std::error::Error for NoKey {}
 
+/// The lists that opening fills and other calls take: for each tag of points, and behind them for each tag of ways, where
+/// it starts in the map, and its letter. They are of one map; [`crate::Map`] keeps them beside its bytes.
+#[derive(Clone, Debug, Default)]
+pub(crate) struct TagLists {
+    pub(crate) starts: Vec<u64>,
+    pub(crate) letters: Vec<u8>,
+}
+
+impl TagLists {
+    /// Lists of these lengths.
+    pub(crate) fn of(starts: u64, letters: u64) -> TagLists {
+        TagLists { starts: vec![0; starts as usize], letters: vec![0; letters as usize] }
+    }
+}
+
 /// The tag names of points, or of ways; a feature has their numbers.
 #[derive(Clone, Debug, Default)]
 pub struct TagNames<'a> {
@@ -134,18 +149,21 @@ pub struct TagNames<'a> {
 }
 
 impl<'a> TagNames<'a> {
-    /// Reads a table one name after the other: each says where the next one stands.
-    pub(crate) fn read(map: &'a [u8], start: u64, count: u64) -> Result<TagNames<'a>, Refusal> {
-        let mut names = Vec::new();
-        let mut at = start as usize;
-        for left in (1..=count as usize).rev() {
+    /// Reads so many names, from this entry of the lists on.
+    pub(crate) fn read(
+        map: &'a [u8],
+        lists: &TagLists,
+        first: usize,
+        count: usize,
+    ) -> Result<TagNames<'a>, Refusal> {
+        let name = |k: usize| {
             let mut words = [0; word::TAG_WORDS];
-            Refusal::check(raw::tag(map, at, left, 0, &mut words), &words)?;
+            let number = raw::tag(map, &lists.starts, &lists.letters, first, count, k, &mut words);
+            Refusal::check(number, &words)?;
             let text = Part::new(map, words[word::TAG_PLACE], words[word::TAG_SIZE]);
-            names.push(TagName { text, kind: InlineKind::of(words[word::TAG_KIND]) });
-            at = words[word::TAG_END] as usize;
-        }
-        Ok(TagNames { names })
+            Ok(TagName { text, kind: InlineKind::of(words[word::TAG_KIND]) })
+        };
+        Ok(TagNames { names: (0..count).map(name).collect::<Result<_, _>>()? })
     }
 
     /// How many there are.

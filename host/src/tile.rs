@@ -37,6 +37,7 @@ impl<'m, 'a> Tile<'m, 'a> {
         let number = raw::collect(
             map,
             sub_file.map().layout(),
+            sub_file.map().letters(),
             sub_file.words(),
             sub_file.grid().corners(),
             tile,

@@ -10,6 +10,8 @@ pub const NEEDED_LONGITUDES: usize = 2;
 pub const NEEDED_INITIAL_LATITUDES: usize = 3;
 pub const NEEDED_INITIAL_LONGITUDES: usize = 4;
 pub const NEEDED_BUFFER: usize = 5;
+pub const NEEDED_STARTS: usize = 0;
+pub const NEEDED_LETTERS: usize = 1;
 pub const VALUES: usize = 6;
 
 // A part of the map, counted from its first word.
@@ -31,6 +33,7 @@ pub const SIGNED_WORDS: usize = 2;
 // Limits.
 pub const MAX_TAGS: usize = 15;
 pub const MAX_ROWS: usize = 256;
+pub const MOST_ENTRIES: usize = 131070;
 pub const STACK: usize = 32768;
 
 // `mapsforge_open`: words, degrees, layout.

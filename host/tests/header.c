@@ -40,7 +40,21 @@ int main(int argc, char **argv) {
     uint8_t *map = content(argv[1], &len);
     uint64_t words[MAPSFORGE_OPEN_WORDS], layout[MAPSFORGE_LAYOUT_WORDS];
     double degrees[MAPSFORGE_OPEN_DEGREES];
-    check("open", mapsforge_open(map, len, words, degrees, layout));
+
+    /* Empty lists, of which the addresses are not null; then lists as long as refusal 15 says. */
+    uint64_t none = 0;
+    uint8_t nothing = 0;
+    if (mapsforge_open(map, len, &none, 0, &nothing, 0, words, degrees, layout) != MAPSFORGE_TOO_SHORT) {
+        return 1;
+    }
+    size_t tags_len = (size_t)words[MAPSFORGE_NEEDED_STARTS], letters_len = (size_t)words[MAPSFORGE_NEEDED_LETTERS];
+    uint64_t *starts = malloc(tags_len * sizeof *starts);
+    uint8_t *letters = malloc(letters_len);
+    if (starts == NULL || letters == NULL) {
+        return 1;
+    }
+    check("open", mapsforge_open(map, len, starts, tags_len, letters, letters_len, words, degrees, layout));
+    printf("listed %zu and %zu tags\n", tags_len, letters_len);
     printf("version %" PRIu64 "\n", words[MAPSFORGE_OPEN_VERSION]);
     printf("size %" PRIu64 "\n", words[MAPSFORGE_OPEN_FILE_SIZE]);
     printf("south %.17g\n", degrees[MAPSFORGE_OPEN_SOUTH]);
@@ -56,7 +70,7 @@ int main(int argc, char **argv) {
     printf("base zoom %" PRIu64 ", %" PRIu64 " tiles\n", interval[MAPSFORGE_INTERVAL_BASE_ZOOM], count[MAPSFORGE_TILE_COUNT_TILES]);
 
     uint64_t tile[MAPSFORGE_COLLECT_WORDS], points[MAPSFORGE_MAX_ROWS], ways[MAPSFORGE_MAX_ROWS];
-    check("collect", mapsforge_collect(map, len, layout, interval, MAPSFORGE_CORNERS(grid), TILE, tile, points, ways));
+    check("collect", mapsforge_collect(map, len, layout, letters, letters_len, interval, MAPSFORGE_CORNERS(grid), TILE, tile, points, ways));
     printf("tile %" PRIu64 " points, %" PRIu64 " ways, exact %" PRIu64 "\n", tile[MAPSFORGE_COLLECT_POINTS],
            tile[MAPSFORGE_COLLECT_WAYS], tile[MAPSFORGE_COLLECT_EXACT]);
     printf("row 0: %" PRIu64 "+%" PRIu64 "\n", points[0], ways[0]);
@@ -68,9 +82,9 @@ int main(int argc, char **argv) {
     int64_t signed_words[MAPSFORGE_SIGNED_WORDS];
     double position[MAPSFORGE_POSITION_DEGREES];
     uint8_t buffer[ROOM];
-    check("fetch", mapsforge_fetch(map, len, layout, interval, MAPSFORGE_CORNERS(grid), TILE, 0, counts, ROOM, latitudes, ROOM, longitudes,
-                                   ROOM, initial_latitudes, ROOM, initial_longitudes, ROOM, buffer, ROOM, fetched, signed_words, position,
-                                   ids, tags));
+    check("fetch", mapsforge_fetch(map, len, layout, starts, tags_len, letters, letters_len, interval, MAPSFORGE_CORNERS(grid), TILE, 0, counts,
+                                   ROOM, latitudes, ROOM, longitudes, ROOM, initial_latitudes, ROOM, initial_longitudes, ROOM, buffer,
+                                   ROOM, fetched, signed_words, position, ids, tags));
     const char *text = (const char *)buffer;
     for (uint64_t k = 0; k < fetched[MAPSFORGE_FETCH_TAG_COUNT]; k++) {
         uint64_t size = tags[k * MAPSFORGE_STRING_WORDS + MAPSFORGE_STRING_SIZE];
@@ -85,7 +99,7 @@ int main(int argc, char **argv) {
     while (kind != MAPSFORGE_END) {
         uint64_t next[MAPSFORGE_NEXT_WORDS], body[MAPSFORGE_ACCEPT_WORDS];
         double label[MAPSFORGE_POSITION_DEGREES];
-        check("stream_next", mapsforge_stream_next(map, len, layout, state, next, signed_words, position, ids));
+        check("stream_next", mapsforge_stream_next(map, len, layout, letters, letters_len, state, next, signed_words, position, ids));
         kind = next[MAPSFORGE_NEXT_KIND];
         if (kind != MAPSFORGE_WAY) {
             continue;
@@ -96,6 +110,8 @@ int main(int argc, char **argv) {
     }
     printf("streamed %" PRIu64 " ways, %" PRIu64 " nodes\n", heads, nodes);
     printf("out of turn %d\n", mapsforge_stream_decline(state, refused) == MAPSFORGE_OUT_OF_TURN);
+    free(letters);
+    free(starts);
     free(map);
     return 0;
 }

@@ -231,8 +231,13 @@ fn header_library_and_wrapper_declare_the_same() {
 /// Each of these small changes must be noticed: else the test above compares nothing.
 #[test]
 fn changes_are_noticed() {
-    let edits: [(&str, &str, &str); 28] = [
+    let edits: [(&str, &str, &str); 33] = [
         ("header", "mapsforge_open(", "mapsforge_opened("),
+        ("header", "uint64_t *starts, size_t starts_len, uint8_t *letters", "uint8_t *letters"),
+        ("header", "const uint8_t *letters", "uint8_t *letters"),
+        ("rattle", "letters: &mut [u8]", "letters: &mut [u64]"),
+        ("rattle", "starts: &[u64],\n    letters: &[u8],", "letters: &[u8],\n    starts: &[u64],"),
+        ("rust", "starts: *const u64", "starts: *mut u64"),
         ("header", "uint64_t words[34]", "uint64_t words[33]"),
         (
             "header",
@@ -427,6 +432,7 @@ fn as_wrapped(file: &MapFile) -> String {
         .map(|tag| format!("tag {}={}\n", tag.key, tag.value))
         .collect();
     [
+        format!("listed {} and {} tags", map.starts().len(), map.letters().len()),
         format!("version {}", header.version),
         format!("size {}", header.file_size),
         // Enough digits to tell any two numbers apart, and these need no exponent.

@@ -48,10 +48,66 @@ const GRID: [i32; 4] = [4094, 2270, 4097, 2272];
 
 /// A map's layout, and the interval of its sub file 2.
 fn opened(map: &[u8]) -> (Layout, [u64; 6]) {
-    let (mut layout, mut interval) = ([7; 7], [7; 6]);
-    assert_eq!(raw::open(map, &mut [7; 34], &mut [7.0; 6], &mut layout), 0);
-    assert_eq!(raw::interval(map, &layout, 2, &mut [7; 6], &mut interval), 0);
-    (layout, interval)
+    let map = Map::open(map).unwrap();
+    let mut interval = [7; 6];
+    assert_eq!(raw::interval(map.bytes(), map.layout(), 2, &mut [7; 6], &mut interval), 0);
+    (*map.layout(), interval)
+}
+
+/// The lists of a map's tags.
+fn listed(map: &[u8]) -> (Vec<u64>, Vec<u8>) {
+    let map = Map::open(map).unwrap();
+    (map.starts().to_vec(), map.letters().to_vec())
+}
+
+/// Opening writes so many entries of each list, and none behind or beside them.
+#[test]
+fn opening_writes_nothing_but_its_lists() {
+    for name in SHIPPED {
+        let map = map_bytes(name);
+        let (known_starts, known_letters) = listed(&map);
+        let tags = known_starts.len();
+        for [room_of_starts, room_of_letters] in [
+            [0, 0],
+            [tags, tags],
+            [tags + 5, tags + 9],
+            [tags - 1, tags],
+            [tags, tags - 1],
+            [200, 0],
+        ] {
+            let mut lists = Guarded::new(([7u64; 200], [7u8; 200]));
+            let (starts, letters) = &mut lists.inner;
+            let (mut words, mut degrees) = (Guarded::new([7; 34]), Guarded::new([7.0; 6]));
+            let mut layout = Guarded::new([7; 7]);
+            let number = raw::open(
+                &map,
+                &mut starts[..room_of_starts],
+                &mut letters[..room_of_letters],
+                &mut words.inner,
+                &mut degrees.inner,
+                &mut layout.inner,
+            );
+            if tags <= room_of_starts.min(room_of_letters) {
+                assert_eq!(number, 0);
+                assert_eq!(
+                    (&starts[..tags], &letters[..tags]),
+                    (&known_starts[..], &known_letters[..])
+                );
+                assert!(starts[tags..].iter().all(|&start| start == 7));
+                assert!(letters[tags..].iter().all(|&letter| letter == 7));
+                continue;
+            }
+            assert_eq!(
+                (number, &words.inner[..6]),
+                (15, &[tags as u64, tags as u64, 0, 0, 0, 0][..])
+            );
+            assert_eq!((*starts, *letters), ([7; 200], [7; 200]));
+            assert_eq!(
+                (&words.inner[6..], degrees.inner, layout.inner),
+                (&[7; 28][..], [7.0; 6], [7; 7])
+            );
+        }
+    }
 }
 
 /// What is asked for a sub file's interval: the answer and the interval. No values are written.
@@ -146,6 +202,8 @@ fn any_layout_has_intervals() {
 struct Asked<'a> {
     map: &'a [u8],
     layout: Layout,
+    starts: &'a [u64],
+    letters: &'a [u8],
     interval: [u64; 6],
 }
 
@@ -191,6 +249,7 @@ impl Asked<'_> {
         let number = raw::collect(
             self.map,
             &self.layout,
+            self.letters,
             &self.interval,
             GRID,
             tile,
@@ -223,8 +282,9 @@ impl Asked<'_> {
             ids: [7; 15],
             tags: [7; 75],
         });
+        let Asked { map, layout, starts, letters, interval } = self;
         let number =
-            raw::fetch(self.map, &self.layout, &self.interval, GRID, tile, feature, lent, &mut got);
+            raw::fetch(map, layout, starts, letters, interval, GRID, tile, feature, lent, &mut got);
         let untouched = ([7; 8], [[7.0; 20]; 4], [b'#'; 60]);
         if number != 0 {
             let words = got.words[6..].iter().chain(&got.ids).chain(&got.tags);
@@ -235,14 +295,36 @@ impl Asked<'_> {
     }
 }
 
+/// Lists of any length, with other entries here and there.
+fn any_lists(
+    random: &mut Random,
+    map: &[u8],
+    (starts, letters): &(Vec<u64>, Vec<u8>),
+) -> (Vec<u64>, Vec<u8>) {
+    let (mut starts, mut letters) = (starts.clone(), letters.clone());
+    if random.next() & 3 == 0 {
+        starts.truncate(random.next() as usize % 110);
+        letters.truncate(random.next() as usize % 110);
+    }
+    for start in &mut starts {
+        *start = if random.next() & 15 == 0 { random.word(map) } else { *start };
+    }
+    for letter in &mut letters {
+        let any = [b'b', b'h', b'i', b'f', b's', 0, random.next() as u8];
+        *letter = if random.next() & 15 == 0 { any[random.next() as usize % 7] } else { *letter };
+    }
+    (starts, letters)
+}
+
 #[test]
-fn any_layout_and_any_interval_will_do() {
+fn any_layout_any_lists_and_any_interval_will_do() {
     let map = map_bytes("islands-debug.map");
-    let known = opened(&map);
+    let (known, known_lists) = (opened(&map), listed(&map));
     let mut random = Random(7);
     let mut seen = [0; 21];
     for _ in 0..10_000 {
         let (mut layout, mut interval) = known;
+        let (starts, letters) = &any_lists(&mut random, &map, &known_lists);
         // Most words stay the map's, or little would be read.
         for word in layout.iter_mut().chain(&mut interval) {
             if random.next() & 3 == 0 {
@@ -250,7 +332,7 @@ fn any_layout_and_any_interval_will_do() {
             }
         }
         let (tile, feature) = (random.next() as usize % 13, random.next() % 60);
-        let asked = Asked { map: &map, layout, interval };
+        let asked = Asked { map: &map, layout, starts, letters, interval };
         let there = interval[0] != 0;
         assert_eq!(asked.on_grid(), if there { [[1, 12], [1, 5]] } else { [[0, 7]; 2] });
         let numbers = [
@@ -275,7 +357,8 @@ fn words_that_say_the_same_are_taken_alike() {
     let map = map_bytes("islands-debug.map");
     let (layout, interval) = opened(&map);
     let mut random = Random(9);
-    let plain = Asked { map: &map, layout, interval };
+    let (starts, letters) = &listed(&map);
+    let plain = Asked { map: &map, layout, starts, letters, interval };
     for _ in 0..1_000 {
         let (mut layout, mut interval) = (layout, interval);
         layout[0] = random.next() | 1;
@@ -284,7 +367,10 @@ fn words_that_say_the_same_are_taken_alike() {
         interval[2] = interval[2].wrapping_add(random.next() << 8);
         interval[3] = interval[3].wrapping_add(random.next() << 8);
         interval[5] = random.next();
-        let other = Asked { map: &map, layout, interval };
+        // No call looks at the places of the tags.
+        (layout[word::LAYOUT_POINT_TAGS], layout[word::LAYOUT_WAY_TAGS]) =
+            (random.next(), random.next());
+        let other = Asked { map: &map, layout, starts, letters, interval };
         let (tile, zoom, feature) =
             (random.next() as usize % 13, random.next() as u8, random.next() % 60);
         assert_eq!(other.on_grid(), plain.on_grid());
@@ -298,8 +384,9 @@ fn words_that_say_the_same_are_taken_alike() {
 }
 
 #[test]
-fn any_state_and_any_layout_will_do() {
+fn any_state_any_letters_and_any_layout_will_do() {
     let map = map_bytes("islands-debug.map");
+    let known_lists = listed(&map);
     let mut random = Random(1);
     let mut seen = [0; 21];
     for _ in 0..20_000 {
@@ -310,9 +397,11 @@ fn any_state_and_any_layout_will_do() {
         let before = state.inner;
         let (mut words, mut signed_words) = (Guarded::new([1; 21]), Guarded::new([1; 2]));
         let (mut degrees, mut ids) = (Guarded::new([1.0; 2]), Guarded::new([1; 15]));
+        let (_, letters) = any_lists(&mut random, &map, &known_lists);
         let number = raw::stream_next(
             &map,
             &layout,
+            &letters,
             &mut state.inner,
             &mut words.inner,
             &mut signed_words.inner,
@@ -358,7 +447,7 @@ fn any_state_and_any_layout_will_do() {
 #[test]
 fn fetching_writes_nothing_but_its_lists() {
     let map = map_bytes("islands.map");
-    let (layout, interval) = opened(&map);
+    let ((layout, interval), (starts, letters)) = (opened(&map), listed(&map));
     for feature in [0, 10, 35, 40, 46, 175, 176, u64::MAX] {
         for room in [0, 1, 3, 100] {
             let mut lists = Guarded::new(([7u64; 100], [[7.0f64; 100]; 4], [b'#'; 400]));
@@ -368,6 +457,8 @@ fn fetching_writes_nothing_but_its_lists() {
             let number = raw::fetch(
                 &map,
                 &layout,
+                &starts,
+                &letters,
                 &interval,
                 GRID,
                 10,
@@ -455,14 +546,25 @@ fn tags_and_way_data_of_any_place() {
     for _ in 0..20_000 {
         let at = random.word(&map) as usize;
         let mut words = Guarded::new([1; 10]);
-        let number = raw::tag(
-            &map,
-            at,
-            random.word(&map) as usize,
-            (random.next() % 40) as usize,
-            &mut words.inner,
-        );
+        let starts: Vec<u64> = (0..random.next() % 9).map(|_| random.word(&map)).collect();
+        let letters: Vec<u8> =
+            (0..random.next() % 9).map(|_| b'a' + random.next() as u8 % 26).collect();
+        let [first, count] = [(); 2].map(|_| random.word(&map) as usize);
+        let k = (random.next() % 12) as usize;
+        let number = raw::tag(&map, &starts, &letters, first, count, k, &mut words.inner);
         assert!(matches!(number, 0 | 1 | 7 | 9 | 11), "{number}");
+        // 7 comes without a look at the map, and says which tag.
+        let entry = first.checked_add(k);
+        let start = entry.filter(|_| k < count).and_then(|entry| starts.get(entry));
+        assert_eq!(number == 7, start.is_none());
+        assert!(number != 7 || words.inner[0] == k as u64);
+        if number == 0 {
+            let letter = entry.and_then(|entry| letters.get(entry)).copied().unwrap_or(0);
+            let kind =
+                b"bhifs".iter().position(|&known| known == letter).map_or(0, |kind| kind + 1);
+            assert_eq!(words.inner[word::TAG_KIND], kind as u64);
+            assert!(words.inner[word::TAG_PLACE] > *start.unwrap());
+        }
 
         let blocks = random.word(&map);
         let mut measured = Guarded::new([7; 9]);

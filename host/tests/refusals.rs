@@ -2,7 +2,7 @@
 
 mod common;
 
-use common::lent::{self, twice, Layout, State, Tiles, Told};
+use common::lent::{self, twice, Layout, Opened, State, Tiles, Told};
 use common::repository;
 use mapsforge::{word, Refusal};
 use std::collections::BTreeSet;
@@ -160,20 +160,24 @@ impl Example {
         }
     }
 
+    /// A tag is listed that starts at byte 0 and has no inline value.
+    fn opened(&self) -> Opened<'_> {
+        Opened { map: &self.map, layout: self.layout, starts: &[0], letters: &[0] }
+    }
+
     fn tiles(&self) -> Tiles<'_> {
-        let Example { map, layout, interval, grid, .. } = self;
-        Tiles { map, layout: *layout, interval: *interval, grid: *grid }
+        Tiles { opened: self.opened(), interval: self.interval, grid: self.grid }
     }
 
     /// The answer of a call. The lists are empty.
     fn ask(&self, call: &str) -> Answer {
         let Example { map, layout, interval, grid, tile, zoom, .. } = self;
-        let (tiles, [k, count]) = (self.tiles(), self.tag);
+        let (tiles, opened, [k, count]) = (self.tiles(), self.opened(), self.tag);
         let told = twice(|lent| match call {
-            "open" => lent::open(map, lent),
+            "open" => lent::open(map, &[0; 6], lent),
             "interval" => lent::interval(map, layout, 0, lent),
             "sub_file" => lent::sub_file(map, layout, *zoom, lent),
-            "tag" => lent::tag(map, 0, count, k, lent),
+            "tag" => lent::tag(&opened, 0, count, k, lent),
             "text" => lent::text(map, 0, lent),
             "tile_count" => lent::tile_count(interval, *grid, lent),
             "tile_index" => lent::tile_index(interval, *grid, 0, 0, lent),
@@ -181,7 +185,7 @@ impl Example {
             "column" => lent::column(0.0, *zoom, lent),
             "longitude" => lent::longitude(0, *zoom, lent),
             "stream_open" => tiles.stream(0, *tile, *zoom, lent),
-            "stream_next" => lent::next(map, layout, &[0; 7], lent),
+            "stream_next" => lent::next(&opened, &[0; 7], lent),
             "stream_accept" => lent::accept(map, &[0; 7], &[0; 6], lent),
             "stream_decline" => lent::decline(&[0; 7], lent),
             "collect" => tiles.collect(*tile, lent),
@@ -195,7 +199,7 @@ impl Example {
 
     /// What the calls of a stream answer, with calls out of turn at each place. Each way is accepted, or else declined.
     fn stream(&self) -> Vec<(&'static str, u64)> {
-        let (map, layout) = (&self.map, &self.layout);
+        let map = &self.map;
         let opened = twice(|lent| self.tiles().stream(0, self.tile, self.zoom, lent));
         let mut seen = vec![("stream_open", answered(&opened).0)];
         if opened.number != 0 {
@@ -207,7 +211,7 @@ impl Example {
             *state = if told.number == 0 { told.state() } else { *state };
             told
         };
-        let next = |state: &State| twice(|lent| lent::next(map, layout, state, lent));
+        let next = |state: &State| twice(|lent| lent::next(&self.opened(), state, lent));
         let accept = |state: &State, room: u64| {
             twice(|lent| lent::accept(map, state, &[room, room, room, 0, 0, 0], lent))
         };

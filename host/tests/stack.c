@@ -13,23 +13,23 @@
 enum { BYTES = 1 << 20, ROOM = 1 << 16, STACK = 1 << 18, UNTOUCHED = 0xa5, ZOOM = 255 };
 
 /* What the calls take and give: nothing of it is on the stack. */
-static uint8_t map[BYTES], buffer[ROOM];
+static uint8_t map[BYTES], letters[ROOM], buffer[ROOM];
 static size_t len, sub_file, tile;
 static mapsforge_grid grid;
 static uint64_t feature, refusal, words[64], header[MAPSFORGE_OPEN_WORDS], layout[MAPSFORGE_LAYOUT_WORDS];
 static uint64_t interval[MAPSFORGE_INTERVAL_WORDS], state[MAPSFORGE_STATE_WORDS], points[MAPSFORGE_MAX_ROWS], ways[MAPSFORGE_MAX_ROWS];
-static uint64_t counts[ROOM], ids[MAPSFORGE_MAX_TAGS], tags[MAPSFORGE_MAX_TAGS * MAPSFORGE_STRING_WORDS];
+static uint64_t starts[ROOM], counts[ROOM], ids[MAPSFORGE_MAX_TAGS], tags[MAPSFORGE_MAX_TAGS * MAPSFORGE_STRING_WORDS];
 static int64_t signed_words[MAPSFORGE_SIGNED_WORDS];
 static double degrees[MAPSFORGE_OPEN_DEGREES], place[MAPSFORGE_POSITION_DEGREES];
 static double latitudes[ROOM], longitudes[ROOM], initial_latitudes[ROOM], initial_longitudes[ROOM];
 
 static void nothing(void) {}
-static void open_map(void) { refusal = mapsforge_open(map, len, header, degrees, layout); }
+static void open_map(void) { refusal = mapsforge_open(map, len, starts, ROOM, letters, ROOM, header, degrees, layout); }
 static void find_interval(void) { refusal = mapsforge_interval(map, len, layout, sub_file, words, interval); }
 static void find_sub_file(void) { refusal = mapsforge_sub_file(map, len, layout, ZOOM, words); }
 static void tag(void) {
-    size_t count = (size_t)layout[MAPSFORGE_LAYOUT_WAY_TAG_COUNT];
-    refusal = mapsforge_tag(map, len, (size_t)layout[MAPSFORGE_LAYOUT_WAY_TAGS], count, count - 1, words);
+    size_t first = (size_t)layout[MAPSFORGE_LAYOUT_POINT_TAG_COUNT], count = (size_t)layout[MAPSFORGE_LAYOUT_WAY_TAG_COUNT];
+    refusal = mapsforge_tag(map, len, starts, ROOM, letters, ROOM, first, count, count - 1, words);
 }
 static void text(void) {
     static const uint8_t longest[] = {0xf0, 0x9f, 0x98, 0x80, 0xf0, 0x9f, 0x98};
@@ -43,15 +43,20 @@ static void longitude(void) { refusal = mapsforge_longitude(4096, 13, words, pla
 static void stream_open(void) {
     refusal = mapsforge_stream_open(map, len, layout, interval, sub_file, MAPSFORGE_CORNERS(grid), tile, ZOOM, state, words);
 }
-static void stream_next(void) { refusal = mapsforge_stream_next(map, len, layout, state, words, signed_words, place, ids); }
+static void stream_next(void) {
+    refusal = mapsforge_stream_next(map, len, layout, letters, ROOM, state, words, signed_words, place, ids);
+}
 static void stream_accept(void) {
     refusal = mapsforge_stream_accept(map, len, state, counts, ROOM, latitudes, ROOM, longitudes, ROOM, words, place);
 }
 static void stream_decline(void) { refusal = mapsforge_stream_decline(state, words); }
-static void collect(void) { refusal = mapsforge_collect(map, len, layout, interval, MAPSFORGE_CORNERS(grid), tile, words, points, ways); }
+static void collect(void) {
+    refusal = mapsforge_collect(map, len, layout, letters, ROOM, interval, MAPSFORGE_CORNERS(grid), tile, words, points, ways);
+}
 static void fetch(void) {
-    refusal = mapsforge_fetch(map, len, layout, interval, MAPSFORGE_CORNERS(grid), tile, feature, counts, ROOM, latitudes, ROOM, longitudes,
-                              ROOM, initial_latitudes, ROOM, initial_longitudes, ROOM, buffer, ROOM, words, signed_words, place, ids, tags);
+    refusal = mapsforge_fetch(map, len, layout, starts, ROOM, letters, ROOM, interval, MAPSFORGE_CORNERS(grid), tile, feature, counts, ROOM,
+                              latitudes, ROOM, longitudes, ROOM, initial_latitudes, ROOM, initial_longitudes, ROOM, buffer, ROOM, words,
+                              signed_words, place, ids, tags);
 }
 /* Two nodes in one block. */
 static const uint8_t way[] = {1, 2, 1, 1, 2, 2};

@@ -16,6 +16,8 @@ const GRID: [i32; 4] = [4094, 2270, 4097, 2272];
 struct Tiles {
     bytes: Vec<u8>,
     layout: [u64; word::LAYOUT_WORDS],
+    starts: Vec<u64>,
+    letters: Vec<u8>,
     interval: [u64; word::INTERVAL_WORDS],
 }
 
@@ -27,14 +29,21 @@ impl Tiles {
     fn of(name: &str) -> Tiles {
         let bytes = map_bytes(name);
         let (mut layout, mut interval) = ([7; word::LAYOUT_WORDS], [7; 6]);
-        assert_eq!(raw::open(&bytes, &mut [7; 34], &mut [7.0; 6], &mut layout), 0);
+        // The maps have 43 tags of points and 58 of ways.
+        let (mut starts, mut letters) = (vec![7; 101], vec![7; 101]);
+        let (lists, words) = ((&mut starts, &mut letters), &mut [7; 34]);
+        assert_eq!(raw::open(&bytes, lists.0, lists.1, words, &mut [7.0; 6], &mut layout), 0);
         assert_eq!(raw::interval(&bytes, &layout, SUB_FILE, &mut [7; 6], &mut interval), 0);
-        Tiles { bytes, layout, interval }
+        Tiles { bytes, layout, starts, letters, interval }
+    }
+
+    fn opened(&self) -> lent::Opened<'_> {
+        let Tiles { bytes, layout, starts, letters, .. } = self;
+        lent::Opened { map: bytes, layout: *layout, starts, letters }
     }
 
     fn lent(&self) -> lent::Tiles<'_> {
-        let (layout, interval) = (self.layout, self.interval);
-        lent::Tiles { map: &self.bytes, layout, interval, grid: GRID }
+        lent::Tiles { opened: self.opened(), interval: self.interval, grid: GRID }
     }
 
     fn collect(&self, tile: usize) -> [u64; word::COLLECT_WORDS] {
@@ -43,6 +52,7 @@ impl Tiles {
         let number = raw::collect(
             &self.bytes,
             &self.layout,
+            &self.letters,
             &self.interval,
             GRID,
             tile,
@@ -77,6 +87,7 @@ impl Tiles {
         let number = raw::stream_next(
             &self.bytes,
             &self.layout,
+            &self.letters,
             state,
             &mut words,
             &mut [7; 2],
@@ -114,9 +125,10 @@ impl Tiles {
             initial_longitudes: &mut [7.0; 100],
             buffer: &mut [b'#'; 1000],
         };
-        let (layout, interval) = (&self.layout, &self.interval);
-        let number =
-            raw::fetch(&self.bytes, layout, interval, GRID, tile, feature, lists, &mut got);
+        let Tiles { bytes, layout, starts, letters, interval } = self;
+        let number = raw::fetch(
+            bytes, layout, starts, letters, interval, GRID, tile, feature, lists, &mut got,
+        );
         assert_eq!(number, 0);
         (counts, got)
     }
@@ -130,6 +142,8 @@ struct Made {
     words: [u64; word::OPEN_WORDS],
     degrees: [f64; word::OPEN_DEGREES],
     layout: [u64; word::LAYOUT_WORDS],
+    /// The listed tags: where each starts, and its letter.
+    listed: Vec<(u64, u8)>,
 }
 
 impl Made {
@@ -173,6 +187,10 @@ impl Made {
             (self.words[words[k]], self.layout[layout[k]]) = (known[k], known[k]);
         }
         for name in names {
+            let start = self.bytes.len() as u64;
+            // Of these names the letter is the last byte; another one counts as none.
+            let letter = name.split_once("=%").map_or(0, |(_, behind)| behind.as_bytes()[0]);
+            self.listed.push((start, if b"bhifs".contains(&letter) { letter } else { 0 }));
             self.text(name);
         }
     }
@@ -187,6 +205,7 @@ impl Made {
             words,
             degrees: [0.0; word::OPEN_DEGREES],
             layout: [0; word::LAYOUT_WORDS],
+            listed: Vec::new(),
         };
         made.words[word::OPEN_MAGIC_SIZE] = 20;
         made.word(word::OPEN_HEADER_SIZE, 300, 4);
@@ -215,12 +234,12 @@ impl Made {
         made.tags(
             [word::OPEN_POINT_TAGS, word::OPEN_POINT_TAG_COUNT],
             [word::LAYOUT_POINT_TAGS, word::LAYOUT_POINT_TAG_COUNT],
-            &["a=b", "c=d"],
+            &["a=b", "c=%h"],
         );
         made.tags(
             [word::OPEN_WAY_TAGS, word::OPEN_WAY_TAG_COUNT],
             [word::LAYOUT_WAY_TAGS, word::LAYOUT_WAY_TAG_COUNT],
-            &["e=f", "g=h", "i=j"],
+            &["e=%s", "g=h", "i=%x%b"],
         );
         made.word(word::OPEN_SUB_FILES, 2, 1);
         made.layout[word::LAYOUT_INTERVALS] = made.bytes.len() as u64;
@@ -244,8 +263,17 @@ fn opening_gives_the_headers_fields() {
     for flags in (0..0x80).step_by(4) {
         let made = Made::with(flags);
         let (mut words, mut degrees, mut layout) = ([7; 34], [7.0; 6], [7; 7]);
-        assert_eq!(raw::open(&made.bytes, &mut words, &mut degrees, &mut layout), 0);
+        let (mut starts, mut letters) = ([7; 6], [7; 7]);
+        let lists = (&mut starts, &mut letters);
+        let number =
+            raw::open(&made.bytes, lists.0, lists.1, &mut words, &mut degrees, &mut layout);
+        assert_eq!(number, 0);
         assert_eq!((words, degrees, layout), (made.words, made.degrees, made.layout));
+        // Five tags, and entries behind them that nobody writes.
+        let (known_starts, known_letters): (Vec<_>, Vec<_>) = made.listed.iter().copied().unzip();
+        assert_eq!((&starts[..5], &letters[..5]), (&known_starts[..], &known_letters[..]));
+        assert_eq!(letters[..5], *b"\0hs\0\0");
+        assert_eq!((starts[5], &letters[5..]), (7, &[7; 2][..]));
         for (sub_file, known) in INTERVALS.into_iter().enumerate() {
             let mut interval = [7; word::INTERVAL_WORDS];
             let number = raw::interval(&made.bytes, &layout, sub_file, &mut [7; 6], &mut interval);
@@ -267,7 +295,12 @@ fn opening_gives_the_headers_fields() {
 fn shipped_maps_have_their_magic_and_their_debug_flag() {
     for name in SHIPPED {
         let (bytes, mut words, mut layout) = (map_bytes(name), [7; word::OPEN_WORDS], [7; 7]);
-        assert_eq!(raw::open(&bytes, &mut words, &mut [7.0; 6], &mut layout), 0);
+        // A list as long as any map needs.
+        let mut lists = (vec![7; word::MOST_ENTRIES], vec![7; word::MOST_ENTRIES]);
+        let number =
+            raw::open(&bytes, &mut lists.0, &mut lists.1, &mut words, &mut [7.0; 6], &mut layout);
+        assert_eq!(number, 0);
+        assert_eq!(word::MOST_ENTRIES, 2 * usize::from(u16::MAX));
         let (magic, size) = (words[word::OPEN_MAGIC] as usize, words[word::OPEN_MAGIC_SIZE]);
         assert_eq!(&bytes[magic..][..size as usize], b"mapsforge binary OSM");
         assert_eq!(layout[word::LAYOUT_DEBUG], u64::from(name == "islands-debug.map"));
@@ -285,10 +318,13 @@ fn a_tile_count_and_a_kind_may_be_of_nothing() {
 
     let map = Map::open(&tiles.bytes).unwrap();
     for (k, tag) in map.point_tags().iter().enumerate() {
-        let (start, count) = (tiles.layout[word::LAYOUT_POINT_TAGS], map.point_tags().len());
-        let mut words = [7; word::TAG_WORDS];
-        assert_eq!(raw::tag(&tiles.bytes, start as usize, count, k, &mut words), 0);
+        let (mut words, count) = ([7; word::TAG_WORDS], map.point_tags().len());
+        let lists = (map.starts(), map.letters());
+        assert_eq!(raw::tag(&tiles.bytes, lists.0, lists.1, 0, count, k, &mut words), 0);
         assert_eq!(words[word::TAG_KIND] == word::KIND_NONE, tag.kind.is_none());
+        // It ends where the next one starts.
+        let next = map.starts()[k + 1];
+        assert!(k + 1 == count || words[word::TAG_END] == next);
     }
 }
 
@@ -364,24 +400,56 @@ fn nodes_are_counted() {
     assert_eq!(got, [1, 2, 6]);
 }
 
-/// A tag table where no names are: each is empty and without an inline value, and nothing is refused for that.
+/// Tags that start where no names are: each is empty, and nothing is refused for that.
 #[test]
 fn names_behind_the_map_are_empty() {
-    let mut tiles = Tiles::of("islands.map");
+    let tiles = Tiles::of("islands.map");
     // The two points of this tile have no inline values.
     let known = [tiles.fetch(8, 0).1, tiles.fetch(8, 1).1];
-    let behind = tiles.bytes.len() + 1;
-    tiles.layout[word::LAYOUT_POINT_TAGS] = behind as u64;
-    for (point, known) in known.iter().enumerate() {
-        let got = tiles.fetch(8, point as u64).1;
-        assert_eq!((got.words, got.ids, got.degrees), (known.words, known.ids, known.degrees));
-        assert!(known.tags[word::STRING_SIZE] > 0);
-        assert_eq!(got.tags, [0; 75]);
+    let behind = tiles.bytes.len() as u64 + 1;
+    // A list without entries has no starts either.
+    for starts in [vec![behind; 101], Vec::new()] {
+        let tiles = Tiles { starts, ..Tiles::of("islands.map") };
+        for (point, known) in known.iter().enumerate() {
+            let got = tiles.fetch(8, point as u64).1;
+            assert_eq!((got.words, got.ids, got.degrees), (known.words, known.ids, known.degrees));
+            assert!(known.tags[word::STRING_SIZE] > 0);
+            assert_eq!(got.tags, [0; 75]);
+        }
+        // Asked for itself, such a name is refused: there is no text, or no entry.
+        let mut words = [7; word::TAG_WORDS];
+        let (starts, number) = (&tiles.starts, if tiles.starts.is_empty() { 7 } else { 1 });
+        assert_eq!(raw::tag(&tiles.bytes, starts, &tiles.letters, 0, 43, 2, &mut words), number);
+        assert_eq!(words[1..], [7; word::TAG_WORDS - 1]);
+        assert_eq!(words[word::VALUE], if number == 7 { 2 } else { 7 });
     }
-    // Asked for itself, such a name is refused.
-    let mut words = [7; word::TAG_WORDS];
-    assert_eq!(raw::tag(&tiles.bytes, behind, 43, 0, &mut words), 1);
-    assert_eq!(words, [7; word::TAG_WORDS]);
+}
+
+/// Values are skipped by the listed letters alone. Without a list no value is skipped, and what the words of the layout say
+/// of the places of tags does not matter.
+#[test]
+fn values_are_skipped_by_the_listed_letters() {
+    let tiles = Tiles::of("islands.map");
+    let all = |tiles: &Tiles| (0..12).map(|tile| tiles.collect(tile)).collect::<Vec<_>>();
+    let mut other = Tiles::of("islands.map");
+    other.layout[word::LAYOUT_POINT_TAGS] = 0;
+    other.layout[word::LAYOUT_WAY_TAGS] = u64::MAX;
+    assert_eq!(all(&other), all(&tiles));
+    // Every tag of ways has two bytes behind the ids, so that the first way of a tile without points goes astray.
+    let altered = Tiles { letters: vec![b'h'; 101], ..Tiles::of("islands.map") };
+    let mut words = [7; word::COLLECT_WORDS];
+    let number = raw::collect(
+        &altered.bytes,
+        &altered.layout,
+        &altered.letters,
+        &altered.interval,
+        GRID,
+        9,
+        &mut words,
+        &mut [7; 256],
+        &mut [7; 256],
+    );
+    assert!(number != 0 || words != tiles.collect(9));
 }
 
 // ---- which words are written
@@ -429,25 +497,27 @@ impl Tried {
             assert_eq!((short.number, short.refusal()), (15, needed));
         }
         let told = twice(|lent| asked(&enough, lent));
-        let names = [
-            "node_counts",
-            "latitudes",
-            "longitudes",
-            "initial_latitudes",
-            "initial_longitudes",
-            "buffer",
-        ];
+        let names = list_names(call);
         let fronts: Vec<_> = names.into_iter().zip(needed).filter(|(_, n)| *n > 0).collect();
         self.of_lists(call, answer(&told), &told, &fronts);
         told
     }
 }
 
+/// The lists that a call writes, in the order of refusal 15's values.
+fn list_names(call: &str) -> [&'static str; 6] {
+    let [mut first, mut second] = ["node_counts", "latitudes"];
+    if call == "open" {
+        [first, second] = ["starts", "letters"];
+    }
+    [first, second, "longitudes", "initial_latitudes", "initial_longitudes", "buffer"]
+}
+
 #[test]
 fn each_answer_writes_its_own_words() {
     let mut tried = Tried { writes: Writes::read(), answers: BTreeSet::new() };
     for flags in [0, 0x7c] {
-        tried.of("open", "a map", |lent| lent::open(&Made::with(flags).bytes, lent));
+        open(&mut tried, &Made::with(flags).bytes);
     }
     for name in SHIPPED {
         let tiles = Tiles::of(name);
@@ -474,20 +544,24 @@ fn each_answer_writes_its_own_words() {
     assert_eq!(tried.answers.len(), 25);
 }
 
+fn open(tried: &mut Tried, map: &[u8]) {
+    tried.with_lists("open", |_| "a map", |lengths, lent| lent::open(map, lengths, lent));
+}
+
 /// Opening, intervals, tags, and places in a grid.
 fn of_header(tried: &mut Tried, tiles: &Tiles) {
-    let Tiles { bytes, layout, interval } = tiles;
-    tried.of("open", "a map", |lent| lent::open(bytes, lent));
+    let Tiles { bytes, layout, interval, .. } = tiles;
+    open(tried, bytes);
     for sub_file in 0..3 {
         tried.of("interval", "an interval", |lent| lent::interval(bytes, layout, sub_file, lent));
     }
     tried.of("interval", "a missing one", |lent| lent::interval(bytes, layout, 3, lent));
     tried.of("sub_file", "a sub file", |lent| lent::sub_file(bytes, layout, 14, lent));
     tried.of("sub_file", "none", |lent| lent::sub_file(bytes, layout, 22, lent));
-    let [start, count] =
-        [word::LAYOUT_WAY_TAGS, word::LAYOUT_WAY_TAG_COUNT].map(|k| layout[k] as usize);
+    let [first, count] =
+        [word::LAYOUT_POINT_TAG_COUNT, word::LAYOUT_WAY_TAG_COUNT].map(|k| layout[k] as usize);
     for k in 0..count {
-        tried.of("tag", "a tag", |lent| lent::tag(bytes, start, count, k, lent));
+        tried.of("tag", "a tag", |lent| lent::tag(&tiles.opened(), first, count, k, lent));
     }
     let missing = [0; word::INTERVAL_WORDS];
     tried.of("tile_count", "a count", |lent| lent::tile_count(interval, GRID, lent));
@@ -514,9 +588,9 @@ fn of_tile(tried: &mut Tried, tiles: &Tiles, tile: usize) {
         tried.with_lists("fetch", kind, |lengths, lent| asked.fetch(tile, k, lengths, lent));
     }
     let opened = tried.of("stream_open", "a stream", |lent| asked.stream(2, tile, 21, lent));
-    let (map, layout, mut state) = (&tiles.bytes, &tiles.layout, opened.state());
+    let (map, of_map, mut state) = (&tiles.bytes, tiles.opened(), opened.state());
     loop {
-        let told = twice(|lent| lent::next(map, layout, &state, lent));
+        let told = twice(|lent| lent::next(&of_map, &state, lent));
         let answer = ["a point", "a way", "the end"][told.word(word::NEXT_KIND) as usize];
         tried.of_lists("stream_next", answer, &told, &[]);
         state = told.state();
@@ -524,7 +598,7 @@ fn of_tile(tried: &mut Tried, tiles: &Tiles, tile: usize) {
             return;
         }
         if answer == "a way" {
-            assert_eq!(twice(|lent| lent::next(map, layout, &state, lent)).refusal(), [0; 6]);
+            assert_eq!(twice(|lent| lent::next(&of_map, &state, lent)).refusal(), [0; 6]);
             tried.of("stream_decline", "a way", |lent| lent::decline(&state, lent));
             let accepted = tried.with_lists(
                 "stream_accept",
@@ -543,12 +617,16 @@ fn refused_calls_leave_all_else_alone() {
     let tiles = Tiles::of("islands.map");
     let Tiles { bytes, interval, .. } = &tiles;
     let (asked, reversed) = (tiles.lent(), lent::Tiles { grid: [5, 0, 4, 0], ..tiles.lent() });
-    let front = lent::Tiles { map: &bytes[..23_000], ..asked };
+    let opened = lent::Opened { map: &bytes[..23_000], ..tiles.opened() };
+    let front = lent::Tiles { opened, ..asked };
     let refused = |number: u64, values: [u64; 6], told: Told| {
         assert_eq!((told.number, told.refusal()), (number, values));
     };
     let none = [0; 6];
-    refused(1, none, twice(|lent| lent::open(&bytes[..300], lent)));
+    refused(1, none, twice(|lent| lent::open(&bytes[..300], &[101; 6], lent)));
+    let listed = [101, 101, 0, 0, 0, 0];
+    refused(15, listed, twice(|lent| lent::open(bytes, &[101, 100, 0, 0, 0, 0], lent)));
+    refused(15, listed, twice(|lent| lent::open(bytes, &[100, 200, 0, 0, 0, 0], lent)));
     refused(14, none, twice(|lent| lent::tile_count(interval, reversed.grid, lent)));
     refused(14, none, twice(|lent| reversed.entry(0, lent)));
     refused(8, none, twice(|lent| asked.stream(2, 12, 13, lent)));

@@ -451,8 +451,10 @@ fn fetch_refused(sub_file: &SubFile<'_, '_>, tile: usize) -> Refusal {
         buffer: &mut [],
     };
     let mut got = raw::FetchWords::default();
+    let (bytes, layout, starts) = (map.bytes(), map.layout(), map.starts());
+    let letters = map.letters();
     let number =
-        raw::fetch(map.bytes(), map.layout(), &interval, corners, tile, 0, lists, &mut got);
+        raw::fetch(bytes, layout, starts, letters, &interval, corners, tile, 0, lists, &mut got);
     Refusal::check(number, &got.words).unwrap_err()
 }
 

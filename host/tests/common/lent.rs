@@ -200,21 +200,32 @@ pub type State = [u64; word::STATE_WORDS];
 /// How many entries the lists have, and how many bytes the buffer.
 pub type Lengths = [u64; word::VALUES];
 
+/// A map, and what its calls take of its header.
+#[derive(Clone, Copy)]
+pub struct Opened<'a> {
+    pub map: &'a [u8],
+    pub layout: Layout,
+    pub starts: &'a [u64],
+    pub letters: &'a [u8],
+}
+
 /// The tiles of a sub file, as the library takes them.
 #[derive(Clone, Copy)]
 pub struct Tiles<'a> {
-    pub map: &'a [u8],
-    pub layout: Layout,
+    pub opened: Opened<'a>,
     pub interval: Interval,
     pub grid: [i32; 4],
 }
 
-pub fn open(map: &[u8], lent: u64) -> Answered {
+/// Lists of these lengths are lent, for starts and for letters.
+pub fn open(map: &[u8], lengths: &Lengths, lent: u64) -> Answered {
+    let [starts, letters, ..] = lengths.map(|length| length as usize);
+    let (mut starts, mut letters) = (vec![lent; starts], vec![lent as u8; letters]);
     let (mut words, mut layout) = ([lent; 34], [lent; 7]);
     let mut degrees = [f64::from_bits(lent); 6];
-    let number = raw::open(map, &mut words, &mut degrees, &mut layout);
+    let number = raw::open(map, &mut starts, &mut letters, &mut words, &mut degrees, &mut layout);
     let got = Answered::of(number, lent).words("words", &words).words("layout", &layout);
-    got.floats("degrees", &degrees)
+    got.floats("degrees", &degrees).words("starts", &starts).bytes("letters", &letters)
 }
 
 pub fn interval(map: &[u8], layout: &Layout, sub_file: usize, lent: u64) -> Answered {
@@ -227,8 +238,9 @@ pub fn sub_file(map: &[u8], layout: &Layout, zoom: u8, lent: u64) -> Answered {
     of_words::<8>(lent, |words| raw::sub_file(map, layout, zoom, words))
 }
 
-pub fn tag(map: &[u8], start: usize, count: usize, k: usize, lent: u64) -> Answered {
-    of_words::<10>(lent, |words| raw::tag(map, start, count, k, words))
+pub fn tag(opened: &Opened<'_>, first: usize, count: usize, k: usize, lent: u64) -> Answered {
+    let Opened { map, starts, letters, .. } = opened;
+    of_words::<10>(lent, |words| raw::tag(map, starts, letters, first, count, k, words))
 }
 
 pub fn text(text: &[u8], room: usize, lent: u64) -> Answered {
@@ -259,12 +271,12 @@ pub fn longitude(column: u32, zoom: u8, lent: u64) -> Answered {
 
 impl Tiles<'_> {
     pub fn entry(&self, tile: usize, lent: u64) -> Answered {
-        let Tiles { map, layout, interval, grid } = self;
+        let Tiles { opened: Opened { map, layout, .. }, interval, grid } = self;
         of_words::<9>(lent, |words| raw::index_entry(map, layout, interval, *grid, tile, words))
     }
 
     pub fn stream(&self, sub_file: usize, tile: usize, zoom: u8, lent: u64) -> Answered {
-        let Tiles { map, layout, interval, grid } = self;
+        let Tiles { opened: Opened { map, layout, .. }, interval, grid } = self;
         let mut state = [lent; 7];
         let got = of_words::<6>(lent, |words| {
             raw::stream_open(map, layout, interval, sub_file, *grid, tile, zoom, &mut state, words)
@@ -273,16 +285,17 @@ impl Tiles<'_> {
     }
 
     pub fn collect(&self, tile: usize, lent: u64) -> Answered {
-        let Tiles { map, layout, interval, grid } = self;
+        let Tiles { opened: Opened { map, layout, letters, .. }, interval, grid } = self;
         let (mut points, mut ways) = ([lent; 256], [lent; 256]);
         let got = of_words::<14>(lent, |words| {
-            raw::collect(map, layout, interval, *grid, tile, words, &mut points, &mut ways)
+            let (points, ways) = (&mut points, &mut ways);
+            raw::collect(map, layout, letters, interval, *grid, tile, words, points, ways)
         });
         got.words("points", &points).words("ways", &ways)
     }
 
     pub fn fetch(&self, tile: usize, feature: u64, lengths: &Lengths, lent: u64) -> Answered {
-        let Tiles { map, layout, interval, grid } = self;
+        let Tiles { opened: Opened { map, layout, starts, letters }, interval, grid } = self;
         let degree = f64::from_bits(lent);
         let mut got = FetchWords {
             words: [lent; 35],
@@ -303,7 +316,9 @@ impl Tiles<'_> {
             initial_longitudes,
             buffer: &mut buffer,
         };
-        let number = raw::fetch(map, layout, interval, *grid, tile, feature, lists, &mut got);
+        let number = raw::fetch(
+            map, layout, starts, letters, interval, *grid, tile, feature, lists, &mut got,
+        );
         let arrays = Answered::of(number, lent)
             .words("words", &got.words)
             .signed("signed_words", &got.signed_words)
@@ -331,12 +346,14 @@ fn odd(state: &State, lent: u64) -> State {
     odd
 }
 
-pub fn next(map: &[u8], layout: &Layout, state: &State, lent: u64) -> Answered {
+pub fn next(opened: &Opened<'_>, state: &State, lent: u64) -> Answered {
+    let Opened { map, layout, letters, .. } = opened;
     let (mut signed, mut ids) = ([lent as i64; 2], [lent; 15]);
     let (mut degrees, before) = ([f64::from_bits(lent); 2], odd(state, lent));
     let mut after = before;
     let got = of_words::<21>(lent, |words| {
-        raw::stream_next(map, layout, &mut after, words, &mut signed, &mut degrees, &mut ids)
+        let (signed, degrees, ids) = (&mut signed, &mut degrees, &mut ids);
+        raw::stream_next(map, layout, letters, &mut after, words, signed, degrees, ids)
     });
     let got = got.signed("signed_words", &signed).floats("degrees", &degrees);
     got.words("ids", &ids).state(&before, &after)
