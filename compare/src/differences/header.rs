@@ -42,6 +42,8 @@ pub fn header(map: &[u8]) -> Option<Header> {
 pub struct HeaderParts {
     /// Projection, language, comment, created by, and all tags, as far as they are there.
     pub texts: Vec<Range<usize>>,
+    /// Where each of these starts, which is the first byte of its length.
+    pub starts: Vec<usize>,
     /// The places of the points' and the ways' first tag.
     pub tables: [usize; 2],
     /// The place of the number of intervals.
@@ -54,7 +56,8 @@ pub fn header_parts(map: &[u8]) -> Option<HeaderParts> {
     walk.header()?;
     let [.., points, ways] = walk.tables[..] else { return None };
     let intervals = walk.at();
-    Some(HeaderParts { texts: walk.texts, tables: [points, ways], intervals })
+    let (texts, starts) = (walk.texts, walk.starts);
+    Some(HeaderParts { texts, starts, tables: [points, ways], intervals })
 }
 
 /// The way through a header as far as its texts go, whether or not its other fields are good.
@@ -65,14 +68,16 @@ struct Walk<'a> {
     padded: bool,
     length: usize,
     texts: Vec<Range<usize>>,
+    #[cfg_attr(not(feature = "both"), allow(dead_code))]
+    starts: Vec<usize>,
     tables: Vec<usize>,
 }
 
 impl<'a> Walk<'a> {
     fn of(map: &'a [u8]) -> Self {
         let (plain, texts, tables) = (Vec::new(), Vec::new(), Vec::new());
-        let length = map.len();
-        Walk { left: map, plain, refusal: None, padded: false, length, texts, tables }
+        let (length, starts) = (map.len(), Vec::new());
+        Walk { left: map, plain, refusal: None, padded: false, length, texts, starts, tables }
     }
 
     fn at(&self) -> usize {
@@ -104,6 +109,7 @@ impl<'a> Walk<'a> {
     }
 
     fn text(&mut self) -> Option<()> {
+        self.starts.push(self.at());
         match text(self.left) {
             Some(Text::Refused(refusal)) => {
                 self.refusal = Some(refusal);

@@ -8,7 +8,6 @@ mod parts;
 mod reader;
 mod tags;
 
-#[cfg(feature = "both")]
 use std::ops::Range;
 
 use mapsforge_rs::header::DEBUG_INFO_MASK;
@@ -17,6 +16,9 @@ use mapsforge_rs::types::{MapFile, MapHeader, ZoomInterval};
 #[cfg(feature = "both")]
 pub use parts::{StreamParts, WayParts};
 pub use reader::{Cause, Parting};
+pub use tags::Listed;
+#[cfg(feature = "both")]
+pub use tags::Table;
 
 use super::ENTRY_BYTES;
 use crate::answer::Answer;
@@ -63,16 +65,32 @@ pub struct ReadParts {
     pub sizes: Vec<Range<usize>>,
 }
 
-/// A map's bytes, and the header that was read from it, or from what it was before it was damaged.
+/// A map's bytes, and the header that was read from it, or from what it was before it was damaged. Its tags are those
+/// of the header, or those that are listed.
 #[derive(Clone, Copy)]
 pub struct Opened<'a> {
     pub map: &'a [u8],
     pub header: &'a MapHeader,
+    listed: Option<Listed<'a>>,
 }
 
 impl<'a> Opened<'a> {
     pub fn of(file: &'a MapFile<Source>) -> Self {
-        Opened { map: file.reader.map(), header: &file.header }
+        Opened { map: file.reader.map(), header: &file.header, listed: None }
+    }
+
+    /// The same with tags by lists.
+    #[cfg(feature = "both")]
+    pub fn listed(self, listed: Listed<'a>) -> Self {
+        Opened { listed: Some(listed), ..self }
+    }
+
+    /// The stored text that starts at a place, or the refusal.
+    pub fn text_at(self, start: u64) -> Result<Range<u64>, Answer> {
+        let mut reader = Reader::new(self, View::Streamed);
+        reader.seek(u128::from(start));
+        reader.text()?;
+        Ok(reader.texts[0]..reader.at() as u64)
     }
 
     /// `read_tile`.
@@ -96,7 +114,7 @@ impl<'a> Opened<'a> {
         let tile = reader.tile(address);
         let Reader { parting, signatures, .. } = reader;
         let with_texts = |tile: Tile| {
-            let texts = tile.features().map(|feature| tags::texts(&feature, self.header)).collect();
+            let texts = tile.features().map(|feature| tags::texts(&feature, self)).collect();
             Collected { tile, texts, signatures }
         };
         (tile.map(with_texts), parting)
@@ -184,19 +202,6 @@ impl<'a> Opened<'a> {
     #[cfg(feature = "both")]
     pub fn stream_parts(self, address: &Address, zoom: u8) -> Result<StreamParts, Answer> {
         Reader::new(self, View::Streamed).stream_parts(address, zoom)
-    }
-
-    /// So many tags of a table that starts at a place. One that the walk through the texts does not reach, as
-    /// no header has it, is empty.
-    #[cfg(feature = "both")]
-    pub fn tags(self, start: u64, count: usize) -> Vec<String> {
-        let mut reader = Reader::new(self, View::Collected);
-        reader.seek(u128::from(start));
-        let reached = (0..count).map_while(|_| reader.text().ok());
-        let replaced = |text| String::from_utf8(text).expect("a collected text is replaced");
-        let mut tags: Vec<String> = reached.map(replaced).collect();
-        tags.resize(count, String::new());
-        tags
     }
 
     /// A way's data from a place on, or the refusal.

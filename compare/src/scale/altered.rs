@@ -89,11 +89,12 @@ impl<'a> Map<'a> {
     fn lists(&self, tally: &mut Tally, each: u64, random: &mut Random) -> Checked {
         let Ok(file) = &self.opening else { return Ok(()) };
         let (map, mut copy) = (&self.base.map[..], self.base.map.clone());
-        let (opened, layout) = (Opened::of(file), opening::our_layout(map));
+        let (opened, (layout, lists)) = (Opened::of(file), opening::ours(map));
         let kept = bytes::opening(map, &file.header);
         for &at in &self.tiles {
             let interval = library::interval(map, &layout, at.sub_file as usize).interval;
-            let tile = Tile { opened, ask: Ask { map, layout, interval, at }, kept: &kept };
+            let ask = Ask { map, layout, tags: lists.lend(), as_named: true, interval, at };
+            let tile = Tile { opened, ask, kept: &kept };
             let before = tally.copies;
             for _ in 0..each {
                 let place = |why| format!("sub file {}, tile {}, {why}", at.sub_file, at.tile);

@@ -32,8 +32,7 @@ pub fn of_header(
     opening::sub_file(check, map, layout, opening, random.byte())?;
     let Ok(file) = opening else { return Ok(()) };
     for (ways, tags) in [(false, &file.header.poi_tags), (true, &file.header.way_tags)] {
-        let k = random.below(tags.len() + 1);
-        opening::tag(check, map, said.table(ways), tags, k)?;
+        opening::tag(check, file, said, ways, random.below(tags.len() + 1))?;
     }
     Ok(())
 }
@@ -48,11 +47,11 @@ pub fn of_tile(
     at: Address,
     random: &mut Random,
 ) -> Checked {
-    said.check(check, map)?;
+    said.check(check, map, random)?;
     let at = if random.below(32) == 0 { random.other_place(at) } else { at };
     let layout = said.layout();
     let interval = opening::interval(check, map, &layout, opening, at.sub_file as usize)?;
-    let ask = Ask { map, layout, interval, at };
+    let ask = Ask { map, layout, tags: said.tags(), as_named: true, interval, at };
     match opening {
         Ok(file) => tile(check, lent, file, &ask, random)?,
         Err(_) => tile(check, lent, &mut foreign::unopened(map), &ask, random)?,
@@ -73,7 +72,7 @@ pub fn tile(
     random: &mut Random,
 ) -> Checked {
     indexed::entry(check, file, ask)?;
-    let tile = known::tile(check, file, &ask.at)?;
+    let tile = known::tile(check, file, ask)?;
     features(check, lent, ask, &tile, random)?;
     let zoom = random.zoom(&file.header, &ask.at);
     let number = random.sub_file_number(ask.at.sub_file);

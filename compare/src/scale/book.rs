@@ -71,11 +71,11 @@ impl Counts {
 fn of_map(check: &mut Check, counts: &mut Counts, base: &Base, each: u64) -> Checked {
     let mut random = Random::new(SEED);
     let opening = opening::of(&mut Check::default(), &base.map)?;
-    let (map, layout) = (&base.map[..], opening::our_layout(&base.map));
+    let (map, (layout, lists)) = (&base.map[..], opening::ours(&base.map));
     for &at in &base.tiles {
         let place = |why| format!("sub file {}, tile {}: {why}", at.sub_file, at.tile);
         let interval = library::interval(map, &layout, at.sub_file as usize).interval;
-        let ask = Ask { map, layout, interval, at };
+        let ask = Ask { map, layout, tags: lists.lend(), as_named: true, interval, at };
         let Some(tile) = Collected::of(&opening, ask, counts).map_err(place)? else {
             continue;
         };

@@ -61,13 +61,16 @@ pub enum Reason {
     TileNumber,
     /// A zoom above 63 in columns and longitudes.
     Zoom,
+    /// Tags whose listed letters are not those of their listed names, or too many tags to give to the Rust.
+    Listed,
     Tile(Cause),
 }
 
-const REASONS: [(Reason, &str); 12] = [
+const REASONS: [(Reason, &str); 13] = [
     (Reason::HeaderText, "a header text's length has over 32 bits"),
     (Reason::TileNumber, "a tile's number above 2^31 - 1, or as many columns"),
     (Reason::Zoom, "a zoom above 63"),
+    (Reason::Listed, "tags listed otherwise than a map has them"),
     (Reason::Tile(Cause::TextLength), "a collected text's length has over 32 bits"),
     (Reason::Tile(Cause::Number), "a number of more than nine bytes"),
     (Reason::Tile(Cause::Coordinate), "a coordinate above 2^53"),
@@ -207,7 +210,8 @@ impl Check {
     /// How many collected tiles and streams the model answered in place of the Rust.
     fn tiles_settled(&self) -> u64 {
         let settled = REASONS.iter().zip(self.answers_settled);
-        let of_tile = settled.filter(|((reason, _), _)| matches!(reason, Reason::Tile(_)));
+        let of_tile =
+            settled.filter(|((reason, _), _)| matches!(reason, Reason::Tile(_) | Reason::Listed));
         of_tile.map(|(_, answers)| answers).sum()
     }
 

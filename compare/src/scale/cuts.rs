@@ -52,7 +52,8 @@ impl Cuts {
     fn of_map(&mut self, base: &Base, all: bool, cut: &mut usize) -> Checked {
         let map = &base.map[..];
         let opening = opening::of(&mut Check::default(), map)?;
-        let layout = Said::of(map, &opening)?.layout();
+        let said = Said::of(map, &opening)?;
+        let (layout, tags) = (said.layout(), said.tags());
         let Ok(mut file) = opening else { return Ok(()) };
         self.maps += 1;
         self.whole += u64::from(all);
@@ -62,7 +63,8 @@ impl Cuts {
             let sub_file = usize::try_from(at.sub_file).ok();
             let intervals = &file.header.zoom_interval_configuration;
             let interval = sub_file.and_then(|sub_file| intervals.get(sub_file));
-            let ask = Ask { map, layout, interval: interval.map_or([0; 6], interval_words), at };
+            let interval = interval.map_or([0; 6], interval_words);
+            let ask = Ask { map, layout, tags, as_named: true, interval, at };
             file.reader = Source::new(map);
             let lengths =
                 if all { (0..map.len()).collect() } else { random.lengths_of(&file, &ask) };
@@ -87,7 +89,7 @@ impl Cuts {
         random: &mut Random,
     ) -> Checked {
         if in_header {
-            // the tags are looked up in the map, which does not have all of them any more
+            // the names are looked up in the map, which does not have all of them any more
             return foreign::cut_off(&mut self.check, lent, ask, random);
         }
         file.reader = Source::new(ask.map);

@@ -9,33 +9,38 @@ use mapsforge_rs::types::{BoundingBox, MapFile, MapHeader, ZoomInterval};
 use super::check::{Call, Check, Checked, ANSWERS};
 use super::lent::{Fronts, Lent};
 use super::library::{
-    self, degrees, Ask, Collect, Fetch, Got, Interval, Layout, Next, State, SIGNED, WORD,
+    self, degrees, Ask, Got, Interval, Next, State, TagLists, Tags, SIGNED, WORD,
 };
-use super::{asked, collected, indexed, intervals, known, streamed};
-use crate::differences::tile::Opened;
+use super::{asked, intervals, opening, streamed};
+use crate::differences::tile::{Opened, Table};
 use crate::random::Random;
 use crate::source::Source;
 use crate::tiles::Address;
 
 /// The Rust is given up to so many tags of a table.
 const TAGS: u64 = 1 << 10;
-/// Up to so many features of a stream are asked for that nothing is compared with.
-const STEPS: usize = 40;
+/// So many entries of a list are told.
+const SHOWN: usize = 40;
 
 /// A map that does not open has no words, and so no sub file.
 pub fn unopened(map: &[u8]) -> MapFile<Source<'_>> {
-    file(map, &[0; 7], &[0; 6])
+    MapFile { header: header(false, &[0; 6]), reader: Source::new(map) }
 }
 
-/// The map with the header that the words say, but for tags above the limit; the sub file is its first.
-fn file<'a>(map: &'a [u8], layout: &Layout, interval: &Interval) -> MapFile<Source<'a>> {
-    let [debug, points, point_count, ways, way_count, ..] = *layout;
-    let mut header = header(debug != 0, interval);
-    let opened = Opened { map, header: &header };
-    let tags = |start, count: u64| opened.tags(start, count.min(TAGS) as usize);
-    let (poi_tags, way_tags) = (tags(points, point_count), tags(ways, way_count));
-    (header.poi_tags, header.way_tags) = (poi_tags, way_tags);
-    MapFile { header, reader: Source::new(map) }
+/// The map with the header that the words say; the sub file is its first. Whether it has the tags that are listed, too:
+/// it then has their names, and the Rust can be asked.
+fn file<'a>(ask: &Ask<'a>) -> (MapFile<Source<'a>>, bool) {
+    let [debug, _, points, _, ways, ..] = ask.layout;
+    let header = header(debug != 0, &ask.interval);
+    let mut file = MapFile { header, reader: Source::new(ask.map) };
+    let opened = ask.opened(&file);
+    let names = |table: Table, count: u64| {
+        (count <= TAGS).then(|| opened.plain_names(table, count)).flatten()
+    };
+    let names = names(Table::Points, points).zip(names(Table::Ways, ways));
+    let as_named = names.is_some();
+    (file.header.poi_tags, file.header.way_tags) = names.unwrap_or_default();
+    (file, as_named)
 }
 
 /// A header without tags; nothing else of it matters to a tile.
@@ -76,18 +81,40 @@ fn taken(interval: &Interval) -> Option<ZoomInterval> {
     })
 }
 
-/// A tile by words that are the map's own or were so once, some of them changed; and calls of a stream by words that
-/// no call wrote.
+/// A tile by words and lists that are the map's own or were so once, some of them changed; and calls of a stream by words
+/// that no call wrote.
 pub fn compare(check: &mut Check, lent: &mut Lent, own: &Ask, random: &mut Random) -> Checked {
-    let ask = random.foreign(own);
-    let file = file(ask.map, &ask.layout, &ask.interval);
-    let place = |why| format!("layout {:x?}, interval {:x?}: {why}", ask.layout, ask.interval);
+    let lists = random.lists(own);
+    let ask = Ask { tags: lists.lend(), ..random.foreign(own) };
+    let (file, as_named) = file(&ask);
+    let ask = Ask { as_named, ..ask };
+    let place = |why| told(&ask, why);
     intervals::made_up(check, ask.map, &ask.layout, random)?;
+    some_tag(check, &file, &ask, random).map_err(place)?;
     asked::grid(check, &file, &ask, random).map_err(place)?;
     by_words(check, lent, file, &ask, random).map_err(place)?;
     let state = random.state(ask.map.len());
     let place = |why| place(format!("state {state:x?}: {why}"));
     made_up(check, lent, &ask, &state, random).map_err(place)
+}
+
+/// What is asked, beside what differs. Long lists are not shown.
+fn told(ask: &Ask, why: String) -> String {
+    let Ask { layout, interval, tags, .. } = ask;
+    let starts = &tags.starts[..tags.starts.len().min(SHOWN)];
+    let letters = &tags.letters[..tags.letters.len().min(SHOWN)];
+    let words = format!("layout {layout:x?}, interval {interval:x?}");
+    format!("{words}, starts {starts:x?}, letters {letters:x?}: {why}")
+}
+
+/// A tag by the lists, whichever entries are asked for.
+fn some_tag(check: &mut Check, file: &MapFile<Source>, ask: &Ask, random: &mut Random) -> Checked {
+    let [points, ways] = [ask.layout[2], ask.layout[4]];
+    let [first, count] =
+        [[0, points], [points, ways], [random.next() >> random.below(64), ways]][random.below(3)];
+    let near = (count.min(1 << 16) as usize + 2).min(ask.tags.starts.len() + 2);
+    let k = [random.below(near), random.next() as usize][usize::from(random.below(16) == 0)];
+    opening::listed_tag(check, Opened::of(file), &ask.tags, [first, count], k)
 }
 
 /// Each call of a stream by made-up words for its state. What it answers nothing is compared with, but it writes no
@@ -105,7 +132,7 @@ fn made_up(
         check.words("the state of a refused open", &state, before)?;
     }
     let mut state = *before;
-    let next = library::stream_next(ask.map, &ask.layout, &mut state);
+    let next = library::stream_next(ask, &mut state);
     if any_next(check, &next)? {
         check.words("the state of a refused next", &state, before)?;
     }
@@ -120,11 +147,14 @@ fn made_up(
     Ok(())
 }
 
-/// Intervals and a tile by the whole map's words, where the map is cut off before them.
+/// Intervals and a tile by the whole map's words and lists, where the map is cut off before its header ends.
 pub fn cut_off(check: &mut Check, lent: &mut Lent, ask: &Ask, random: &mut Random) -> Checked {
     intervals::by_layout(check, ask.map, &ask.layout, random)?;
     let ask = Ask { at: Address { sub_file: 0, ..ask.at }, ..*ask };
-    by_words(check, lent, file(ask.map, &ask.layout, &ask.interval), &ask, random)
+    let (file, as_named) = file(&ask);
+    let ask = Ask { as_named, ..ask };
+    some_tag(check, &file, &ask, random)?;
+    by_words(check, lent, file, &ask, random)
 }
 
 /// The sub file is the first one of the header that the words say.
@@ -135,78 +165,7 @@ fn by_words(
     ask: &Ask,
     random: &mut Random,
 ) -> Checked {
-    if ask.layout[2].max(ask.layout[4]) <= TAGS {
-        return asked::tile(check, lent, &mut file, ask, random);
-    }
-    many_tags(check, lent, &mut file, ask, random)
-}
-
-/// With more tags than the Rust is given: what it says of a tile that has none of the others.
-fn many_tags(
-    check: &mut Check,
-    lent: &mut Lent,
-    file: &mut MapFile<Source>,
-    ask: &Ask,
-    random: &mut Random,
-) -> Checked {
-    indexed::entry(check, file, ask)?;
-    match known::tile(check, file, &ask.at)? {
-        Err(refusal) if refusal[0] == 7 => any_tile(check, lent, ask, random)?,
-        tile => asked::features(check, lent, ask, &tile, random)?,
-    }
-    any_stream(check, lent, ask, random)
-}
-
-/// A tile that nothing is compared with: a refusal must leave everything alone.
-fn any_tile(check: &mut Check, lent: &mut Lent, ask: &Ask, random: &mut Random) -> Checked {
-    any_collect(check, &library::collect(ask))?;
-    let lengths = random.lengths(&[2, 10, 10, 2, 2, 200]);
-    let fetch = library::fetch(ask, random.below(20) as u64, lent.lists(lengths));
-    match any_fetch(check, &fetch)? {
-        true => lent.check(check, lengths, &Fronts::default()),
-        false => lent.check_behind(check, lengths),
-    }
-}
-
-/// The same of a stream. One that declines may read elsewhere than collecting does, and so have other tags.
-fn any_stream(check: &mut Check, lent: &mut Lent, ask: &Ask, random: &mut Random) -> Checked {
-    let mut state = [WORD; 7];
-    let opened = library::stream_open(ask, random.next(), random.byte(), &mut state);
-    if refused(check, Call::StreamOpen, &opened)? {
-        return check.words("the state of a stream that does not open", &state, &[WORD; 7]);
-    }
-    for _ in 0..STEPS {
-        if !step(check, lent, ask, &mut state, random)? {
-            break;
-        }
-    }
-    Ok(())
-}
-
-/// A feature of a stream, and whether there is another behind it.
-fn step(
-    check: &mut Check,
-    lent: &mut Lent,
-    ask: &Ask,
-    state: &mut State,
-    random: &mut Random,
-) -> Checked<bool> {
-    let before = *state;
-    let next = library::stream_next(ask.map, &ask.layout, state);
-    if any_next(check, &next)? {
-        check.words("the state of a refused next", state, &before)?;
-        return Ok(false);
-    }
-    if next.got.words[6] != 1 {
-        return Ok(next.got.words[6] == 0);
-    }
-    if accept(check, lent, ask, state, random)? {
-        return Ok(true);
-    }
-    let number = library::stream_decline(state);
-    check.call(Call::StreamDecline, number);
-    check.same("a decline", number, 0)?;
-    Ok(true)
+    asked::tile(check, lent, &mut file, ask, random)
 }
 
 /// Whether an accept is not refused; a refused one leaves state and lists alone.
@@ -273,28 +232,6 @@ fn any_next(check: &mut Check, next: &Next) -> Checked<bool> {
     Ok(false)
 }
 
-/// A tile writes as many rows as it has, and a refused one none.
-fn any_collect(check: &mut Check, collect: &Collect) -> Checked {
-    let refused = refused(check, Call::Collect, &collect.got)?;
-    let rows = if refused { 0 } else { collect.got.words[9] as usize };
-    kept(check, "points behind the rows", &collect.points[rows..])?;
-    kept(check, "ways behind the rows", &collect.ways[rows..])
-}
-
-/// Whether a fetch is refused; a point and a way keep each other's words.
-fn any_fetch(check: &mut Check, fetch: &Fetch) -> Checked<bool> {
-    if refused(check, Call::Fetch, &fetch.got)? {
-        return collected::nothing(check, fetch).map(|()| true);
-    }
-    if fetch.got.words[6] == 0 {
-        return kept(check, "words of a point", &fetch.got.words[30..]).map(|()| false);
-    }
-    check.same("a way", fetch.got.words[6], 1)?;
-    kept(check, "the elevation of a way", &fetch.got.words[29..30])?;
-    check.same("the elevation of a way", fetch.signed[1], SIGNED[1])?;
-    Ok(false)
-}
-
 impl Random {
     /// The tile, or one beside it, by words of which up to three are others.
     fn foreign<'a>(&mut self, own: &Ask<'a>) -> Ask<'a> {
@@ -310,6 +247,52 @@ impl Random {
             *word = self.other_word(*word, own.map.len());
         }
         ask
+    }
+
+    /// The lists as they were filled, or with other letters, other starts, or fewer entries or more.
+    fn lists(&mut self, own: &Ask) -> TagLists {
+        let Tags { starts, letters } = own.tags;
+        let mut lists = TagLists { starts: starts.to_vec(), letters: letters.to_vec() };
+        let change = self.below(8);
+        if change < 4 {
+            self.other_letters(&mut lists.letters);
+        }
+        if matches!(change, 0 | 4 | 5) {
+            self.other_starts(&mut lists.starts, own.map.len());
+        }
+        if matches!(change, 1 | 5 | 6) {
+            let [starts, letters] =
+                [lists.starts.len(), lists.letters.len()].map(|length| self.other_length(length));
+            lists.starts.resize(starts, self.next());
+            lists.letters.resize(letters, b's');
+        }
+        lists
+    }
+
+    /// One letter is another one, or all are the same.
+    fn other_letters(&mut self, letters: &mut [u8]) {
+        let letter = [b'b', b'h', b'i', b'f', b's', 0, 1, self.byte()][self.below(8)];
+        match self.below(letters.len() + 1) {
+            0 => letters.fill(letter),
+            k => letters[k - 1] = letter,
+        }
+    }
+
+    /// A tag starts elsewhere: where another one does, a byte beside it, or anywhere.
+    fn other_starts(&mut self, starts: &mut [u64], length: usize) {
+        let tags = starts.len();
+        for _ in 0..self.below(4).min(tags) {
+            let (k, from) = (self.below(tags), self.below(tags));
+            starts[k] = match self.below(3) {
+                0 => starts[from],
+                1 => starts[k].wrapping_add(self.below(3) as u64).wrapping_sub(1),
+                _ => self.other_word(starts[k], length),
+            };
+        }
+    }
+
+    fn other_length(&mut self, length: usize) -> usize {
+        [0, length, self.below(length + 1), length + self.below(4)][self.below(4)]
     }
 
     /// Words for a state that no call wrote: any first word and any last, counts and places or anything between.

@@ -104,7 +104,8 @@ impl Held {
         let map = &self.map[..damage.length(&self.map)];
         let sub_file = [at.sub_file, random.below(4) as u64][random.below(4) / 3];
         let interval = self.interval(sub_file).map_or([0; 6], interval_words);
-        let kept = Ask { map, layout: self.said.layout(), interval, at };
+        let (layout, tags) = (self.said.layout(), self.said.tags());
+        let kept = Ask { map, layout, tags, as_named: false, interval, at };
         caught(|| foreign::compare(check, lent, &kept, &mut random))?
     }
 

@@ -5,8 +5,9 @@ use mapsforge_rs::grid;
 use mapsforge_rs::types::MapFile;
 
 use super::check::{caught, Check, Checked, Reason};
+use super::library::Ask;
 use crate::answer::{as_the_rust, Answer};
-use crate::differences::tile::{Cause, Opened, Parting, Port};
+use crate::differences::tile::{Cause, Parting, Port};
 use crate::random::Random;
 use crate::source::Source;
 use crate::tiles::delivery::Delivery;
@@ -16,10 +17,11 @@ use crate::tiles::{rust, Address};
 /// A tile that collects, or the refusal.
 pub type Tile = Result<Collected, Answer>;
 
-pub fn tile(check: &mut Check, file: &mut MapFile<Source>, at: &Address) -> Checked<Tile> {
-    let (model, parting) = Opened::of(file).fetched(at);
-    if let Some(parting) = parting {
-        check.settle(Reason::Tile(parting.cause));
+pub fn tile(check: &mut Check, file: &mut MapFile<Source>, ask: &Ask) -> Checked<Tile> {
+    let at = &ask.at;
+    let (model, parting) = ask.opened(file).fetched(at);
+    if let Some(reason) = model_alone(ask, parting.as_ref()) {
+        check.settle(reason);
         return Ok(model);
     }
     grid::lend(at.grid);
@@ -35,6 +37,14 @@ pub fn tile(check: &mut Check, file: &mut MapFile<Source>, at: &Address) -> Chec
         said_by_the_model(&mut rust.tile, model.tile)?;
     }
     Ok(Ok(rust))
+}
+
+/// Why the model answers in place of the Rust, if it does.
+fn model_alone(ask: &Ask, parting: Option<&Parting>) -> Option<Reason> {
+    if !ask.as_named {
+        return Some(Reason::Listed);
+    }
+    parting.map(|parting| Reason::Tile(parting.cause))
 }
 
 /// What must come where the Rust answers and the model too. "In comparing, both new ones count as the
@@ -136,19 +146,21 @@ impl Script {
     pub fn of(
         check: &mut Check,
         file: &mut MapFile<Source>,
-        at: &Address,
+        ask: &Ask,
         zoom: u8,
         plan: &Plan,
     ) -> Checked<Self> {
-        let opened = Opened::of(file);
+        let (opened, at) = (ask.opened(file), &ask.at);
         let mut model = Script::new(plan);
         let Port { answer, parting, texts } = opened.stream(at, zoom, &mut model);
         (model.end, model.texts) = (answer, texts);
         model.opens = opened.unopened(at).is_none();
-        if let Some(parting) = parting {
-            check.settle(Reason::Tile(parting.cause));
-            model.empty = parting.cause == Cause::Empty;
-            model.same_before(file, at, zoom, &parting)?;
+        model.empty = parting.is_some_and(|parting| parting.cause == Cause::Empty);
+        if let Some(reason) = model_alone(ask, parting.as_ref()) {
+            check.settle(reason);
+            if let Some(parting) = parting.filter(|_| ask.as_named) {
+                model.same_before(file, at, zoom, &parting)?;
+            }
             return Ok(model);
         }
         let mut rust = Script::new(plan);

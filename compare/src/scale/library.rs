@@ -3,7 +3,10 @@
 
 use mapsforge::sys;
 use mapsforge_rs::grid::Grid;
+use mapsforge_rs::types::MapFile;
 
+use crate::differences::tile::{Listed, Opened};
+use crate::source::Source;
 use crate::tiles::Address;
 
 /// What stands in words, degrees and lists before a call.
@@ -36,14 +39,50 @@ pub type Layout = [u64; 7];
 /// A sub file's interval, as `interval` gives it and other calls take it; its first word is 0 if there is none.
 pub type Interval = [u64; 6];
 
-/// A tile of a map, and the words that are handed in for its header. The address's sub file is the
+/// The lists of a map's tags that are handed in: where each starts, and its letter.
+#[derive(Clone, Copy, Debug)]
+pub struct Tags<'a> {
+    pub starts: &'a [u64],
+    pub letters: &'a [u8],
+}
+
+/// The same, kept beside the map that filled them.
+#[derive(Clone, Default)]
+pub struct TagLists {
+    pub starts: Vec<u64>,
+    pub letters: Vec<u8>,
+}
+
+impl TagLists {
+    /// Lists of these lengths that hold the pattern.
+    fn holding([starts, letters]: [usize; 2]) -> Self {
+        TagLists { starts: vec![WORD; starts], letters: vec![BYTE; letters] }
+    }
+
+    pub fn lend(&self) -> Tags<'_> {
+        Tags { starts: &self.starts, letters: &self.letters }
+    }
+}
+
+/// A tile of a map, and the words and lists that are handed in for its header. The address's sub file is the
 /// other side's: our calls know it by its interval.
 #[derive(Clone, Copy)]
 pub struct Ask<'a> {
     pub map: &'a [u8],
     pub layout: Layout,
+    pub tags: Tags<'a>,
+    /// Whether these are the tags of the header that the Rust is given.
+    pub as_named: bool,
     pub interval: Interval,
     pub at: Address,
+}
+
+impl<'a> Ask<'a> {
+    /// The map with this header and the tags that are handed in.
+    pub fn opened(&self, file: &'a MapFile<Source>) -> Opened<'a> {
+        let (Tags { starts, letters }, counts) = (self.tags, [self.layout[2], self.layout[4]]);
+        Opened::of(file).listed(Listed { starts, letters, counts })
+    }
 }
 
 /// The answer of a call: 0 or the number of a refusal, and its words.
@@ -71,19 +110,49 @@ fn bare(got: Got<6>) -> u64 {
     }
 }
 
+/// So many entries behind each list of tags are looked at too, although they are not lent.
+pub const BEHIND: usize = 3;
+
 pub struct Open {
     pub got: Got<34>,
     pub degrees: [f64; 6],
     pub layout: Layout,
+    /// What was lent, and what stands behind it.
+    pub lists: TagLists,
 }
 
-pub fn open(map: &[u8]) -> Open {
+/// Lists of these lengths are lent: of starts, and of letters.
+pub fn open(map: &[u8], lengths: [usize; 2]) -> Open {
     let (mut degrees, mut layout) = (degrees(), [WORD; 7]);
+    let mut lists = TagLists::holding(lengths.map(|length| length + BEHIND));
+    let (starts, letters) = (&mut lists.starts[..lengths[0]], &mut lists.letters[..lengths[1]]);
     // SAFETY: each call lends what include/mapsforge.h asks for, and nothing of it overlaps
     let got = Got::of(|words| unsafe {
-        sys::mapsforge_open(map.as_ptr(), map.len(), words, &mut degrees, &mut layout)
+        sys::mapsforge_open(
+            map.as_ptr(),
+            map.len(),
+            starts.as_mut_ptr(),
+            starts.len(),
+            letters.as_mut_ptr(),
+            letters.len(),
+            words,
+            &mut degrees,
+            &mut layout,
+        )
     });
-    Open { got, degrees, layout }
+    Open { got, degrees, layout, lists }
+}
+
+/// Opens a map as a caller does: with empty lists, and then with those that 15 asks for, which are kept.
+pub fn opened(map: &[u8]) -> Open {
+    let mut open = open(map, [0; 2]);
+    if open.got.number == 15 {
+        open = self::open(map, [open.got.words[0] as usize, open.got.words[1] as usize]);
+    }
+    let TagLists { starts, letters } = &mut open.lists;
+    starts.truncate(starts.len() - BEHIND);
+    letters.truncate(letters.len() - BEHIND);
+    open
 }
 
 /// What asking for a sub file's interval gives.
@@ -108,11 +177,23 @@ pub fn sub_file(map: &[u8], layout: &Layout, zoom: u8) -> Got<8> {
     })
 }
 
-/// Tag `k` of a table that starts at a place and has so many tags.
-pub fn tag(map: &[u8], [start, count]: [u64; 2], k: usize) -> Got<10> {
+/// Tag `k` of so many from an entry of the lists on.
+pub fn tag(map: &[u8], tags: &Tags, [first, count]: [u64; 2], k: usize) -> Got<10> {
+    let Tags { starts, letters } = tags;
     // SAFETY: as above
     Got::of(|words| unsafe {
-        sys::mapsforge_tag(map.as_ptr(), map.len(), start as usize, count as usize, k, words)
+        sys::mapsforge_tag(
+            map.as_ptr(),
+            map.len(),
+            starts.as_ptr(),
+            starts.len(),
+            letters.as_ptr(),
+            letters.len(),
+            first as usize,
+            count as usize,
+            k,
+            words,
+        )
     })
 }
 
@@ -140,7 +221,7 @@ pub fn tile_index(ask: &Ask, [x, y]: [i32; 2]) -> Got<8> {
 }
 
 pub fn index_entry(ask: &Ask) -> Got<9> {
-    let Ask { map, layout, interval, at: Address { grid, tile, .. } } = ask;
+    let Ask { map, layout, interval, at: Address { grid, tile, .. }, .. } = ask;
     // SAFETY: as above
     Got::of(|words| unsafe {
         sys::mapsforge_index_entry(
@@ -176,7 +257,7 @@ pub fn longitude(column: u32, zoom: u8) -> (u64, f64) {
 
 /// The number of a sub file is handed in too, which the stream's end answers.
 pub fn stream_open(ask: &Ask, number: u64, zoom: u8, state: &mut State) -> Got<6> {
-    let Ask { map, layout, interval, at: Address { grid, tile, .. } } = ask;
+    let Ask { map, layout, interval, at: Address { grid, tile, .. }, .. } = ask;
     // SAFETY: as above
     Got::of(|words| unsafe {
         sys::mapsforge_stream_open(
@@ -205,7 +286,8 @@ pub struct Next {
     pub ids: [u64; 15],
 }
 
-pub fn stream_next(map: &[u8], layout: &Layout, state: &mut State) -> Next {
+pub fn stream_next(ask: &Ask, state: &mut State) -> Next {
+    let Ask { map, layout, tags: Tags { letters, .. }, .. } = ask;
     let (mut signed, mut degrees, mut ids) = (SIGNED, degrees(), [WORD; 15]);
     // SAFETY: as above
     let got = Got::of(|words| unsafe {
@@ -214,6 +296,8 @@ pub fn stream_next(map: &[u8], layout: &Layout, state: &mut State) -> Next {
             map.as_ptr(),
             map.len(),
             layout,
+            letters.as_ptr(),
+            letters.len(),
             state,
             words,
             signed,
@@ -272,7 +356,8 @@ pub struct Collect {
 }
 
 pub fn collect(ask: &Ask) -> Collect {
-    let Ask { map, layout, interval, at: Address { grid, tile, .. } } = ask;
+    let Ask { map, layout, interval, at: Address { grid, tile, .. }, .. } = ask;
+    let letters = ask.tags.letters;
     let (mut points, mut ways) = ([WORD; 256], [WORD; 256]);
     // SAFETY: as above
     let got = Got::of(|words| unsafe {
@@ -280,6 +365,8 @@ pub fn collect(ask: &Ask) -> Collect {
             map.as_ptr(),
             map.len(),
             layout,
+            letters.as_ptr(),
+            letters.len(),
             interval,
             grid.x_min,
             grid.y_min,
@@ -312,7 +399,8 @@ pub struct Fetch {
 }
 
 pub fn fetch(ask: &Ask, feature: u64, lists: Lists) -> Fetch {
-    let Ask { map, layout, interval, at: Address { grid, tile, .. } } = ask;
+    let Ask { map, layout, interval, at: Address { grid, tile, .. }, .. } = ask;
+    let Tags { starts, letters: listed } = ask.tags;
     let Lists { nodes, initial_latitudes, initial_longitudes, buffer } = lists;
     let Nodes { counts, latitudes, longitudes } = nodes;
     let (mut signed, mut degrees) = (SIGNED, degrees());
@@ -323,6 +411,10 @@ pub fn fetch(ask: &Ask, feature: u64, lists: Lists) -> Fetch {
             map.as_ptr(),
             map.len(),
             layout,
+            starts.as_ptr(),
+            starts.len(),
+            listed.as_ptr(),
+            listed.len(),
             interval,
             grid.x_min,
             grid.y_min,

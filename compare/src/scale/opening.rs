@@ -4,11 +4,13 @@ use mapsforge_rs::header::DEBUG_INFO_MASK;
 use mapsforge_rs::types::{MapFile, MapHeader, ZoomInterval};
 
 use super::check::{caught, Call, Check, Checked, Reason};
-use super::library::{self, kept_but, Interval, Layout, WORD};
+use super::library::{self, kept_but, Interval, Layout, Open, TagLists, Tags, BYTE, WORD};
 use crate::answer::Answer;
+use crate::differences::tile::Opened;
 use crate::differences::{self, header_parts, HeaderParts};
 use crate::leaves::value_letter;
 use crate::maps::open;
+use crate::random::Random;
 use crate::source::Source;
 
 /// The size of an interval in the header.
@@ -33,6 +35,7 @@ pub struct Said {
     words: [u64; 34],
     degrees: [f64; 6],
     layout: Layout,
+    lists: TagLists,
 }
 
 impl Said {
@@ -49,12 +52,14 @@ impl Said {
             words: words(header, &parts),
             degrees: degrees(header),
             layout: layout(header, &parts),
+            lists: lists(header, &parts),
         })
     }
 
     fn refused(refusal: &[u64]) -> Self {
         let words = kept_but(0, &refusal[1..]);
-        Said { number: refusal[0], words, degrees: library::degrees(), layout: [WORD; 7] }
+        let (degrees, layout, lists) = (library::degrees(), [WORD; 7], TagLists::default());
+        Said { number: refusal[0], words, degrees, layout, lists }
     }
 
     /// What is handed on to other calls: of a map that does not open, zeros.
@@ -62,18 +67,72 @@ impl Said {
         handed_on(self.number, self.layout)
     }
 
-    /// Our opening against it.
-    pub fn check(&self, check: &mut Check, map: &[u8]) -> Checked {
-        let ours = library::open(map);
-        check.got(Call::Open, &ours.got, self.number, &self.words)?;
-        check.floats("Open's degrees", &ours.degrees, &self.degrees)?;
-        check.words("Open's layout", &ours.layout, &self.layout)
+    /// The lists that opening fills; of a map that does not open, none.
+    pub fn tags(&self) -> Tags<'_> {
+        self.lists.lend()
     }
 
-    /// Place and count of the points' tags, or of the ways'.
+    /// Our opening against it, with lists that are long enough and with others.
+    pub fn check(&self, check: &mut Check, map: &[u8], random: &mut Random) -> Checked {
+        let tags = self.lists.starts.len();
+        for lengths in [random.enough_for(tags), random.lengths_for(tags)] {
+            let place = |why| format!("opened with lists of {lengths:?}: {why}");
+            self.check_with(check, map, lengths).map_err(place)?;
+        }
+        Ok(())
+    }
+
+    /// Wish 3: "Lists shorter than both tag counts together meet 15 at opening, tested last. Here and later, entries
+    /// behind those filled keep their values."
+    pub fn check_with(&self, check: &mut Check, map: &[u8], lengths: [usize; 2]) -> Checked {
+        let (ours, tags) = (library::open(map, lengths), self.lists.starts.len());
+        if self.number == 0 && lengths.iter().any(|&length| length < tags) {
+            let tags = tags as u64;
+            let short = Said::refused(&[15, tags, tags, 0, 0, 0, 0]);
+            return short.is(check, &ours);
+        }
+        self.is(check, &ours)
+    }
+
+    fn is(&self, check: &mut Check, ours: &Open) -> Checked {
+        check.got(Call::Open, &ours.got, self.number, &self.words)?;
+        check.floats("Open's degrees", &ours.degrees, &self.degrees)?;
+        check.words("Open's layout", &ours.layout, &self.layout)?;
+        let TagLists { starts, letters } = &self.lists;
+        let listed = |k: usize| starts.get(k).copied().unwrap_or(WORD);
+        let theirs: Vec<u64> = (0..ours.lists.starts.len()).map(listed).collect();
+        check.words("Open's starts", &ours.lists.starts, &theirs)?;
+        let listed = |k: usize| letters.get(k).copied().unwrap_or(BYTE);
+        let theirs: Vec<u8> = (0..ours.lists.letters.len()).map(listed).collect();
+        check.same("Open's letters", &ours.lists.letters, &theirs)
+    }
+
+    /// The first entry of the points' tags and how many there are, or of the ways'.
     pub fn table(&self, ways: bool) -> [u64; 2] {
-        let at = if ways { 31 } else { 29 };
-        [self.words[at], self.words[at + 1]]
+        match ways {
+            false => [0, self.words[30]],
+            true => [self.words[30], self.words[32]],
+        }
+    }
+}
+
+impl Random {
+    /// Lists of tags that are long enough, each exactly or by some entries more.
+    fn enough_for(&mut self, tags: usize) -> [usize; 2] {
+        [(); 2].map(|()| tags + [0, 0, 1, self.below(9)][self.below(4)])
+    }
+
+    /// Lists of tags that have no entries, or too few, or are long enough.
+    fn lengths_for(&mut self, tags: usize) -> [usize; 2] {
+        let [mut starts, mut letters] = self.enough_for(tags);
+        let short = [0, tags.saturating_sub(1), self.below(tags + 1)][self.below(3)];
+        match self.below(4) {
+            0 => return [0, 0],
+            1 => starts = short,
+            2 => letters = short,
+            _ => {}
+        }
+        [starts, letters]
     }
 }
 
@@ -85,10 +144,19 @@ fn handed_on(number: u64, layout: Layout) -> Layout {
     }
 }
 
-/// The layout that our library gives, to be handed on.
-pub fn our_layout(map: &[u8]) -> Layout {
-    let ours = library::open(map);
-    handed_on(ours.got.number, ours.layout)
+/// The layout and the lists that our library gives, to be handed on.
+pub fn ours(map: &[u8]) -> (Layout, TagLists) {
+    let ours = library::opened(map);
+    (handed_on(ours.got.number, ours.layout), ours.lists)
+}
+
+/// Where each tag of points, and then each of ways, starts, and its letter as the Rust finds it.
+fn lists(header: &MapHeader, parts: &HeaderParts) -> TagLists {
+    let tags = header.poi_tags.iter().chain(&header.way_tags);
+    let letters: Vec<u8> = tags.map(|tag| value_letter(tag) as u8).collect();
+    let first = parts.starts.len() - letters.len();
+    let starts = parts.starts[first..].iter().map(|&start| start as u64).collect();
+    TagLists { starts, letters }
 }
 
 /// That each text is the Rust's, where its ill-formed parts are replaced.
@@ -159,32 +227,59 @@ fn layout(header: &MapHeader, parts: &HeaderParts) -> Layout {
     [debug, points, lists[0], ways, lists[1], parts.intervals as u64 + 1, intervals]
 }
 
-/// Tag `k` of a table, its text and its kind.
-pub fn tag(check: &mut Check, map: &[u8], table: [u64; 2], tags: &[String], k: usize) -> Checked {
-    let ours = library::tag(map, table, k);
-    let Some(tag) = tags.get(k) else {
+/// Tag `k` of so many from an entry of the lists on, its text and its kind, by any lists.
+pub fn listed_tag(
+    check: &mut Check,
+    opened: Opened,
+    tags: &Tags,
+    table: [u64; 2],
+    k: usize,
+) -> Checked {
+    let ours = library::tag(opened.map, tags, table, k);
+    let [first, count] = table;
+    let entry = first.checked_add(k as u64).and_then(|entry| usize::try_from(entry).ok());
+    let start = entry.filter(|_| (k as u64) < count).and_then(|entry| tags.starts.get(entry));
+    let Some(&start) = start else {
         return check.refused(Call::Tag, &ours, &[7, k as u64]);
     };
-    check.call(Call::Tag, ours.number);
-    check.same("Tag", ours.number, 0)?;
-    let [place, size, behind, kind] = [6, 7, 8, 9].map(|k| ours.words[k]);
-    check.words("Tag's values", &ours.words[..6], &[WORD; 6])?;
-    let text = part(map, place, size).map(String::from_utf8_lossy);
-    check.same("Tag's text", text.as_deref(), Some(tag.as_str()))?;
-    check.words("Tag's end and kind", &[behind, kind], &[place + size, kind_of(tag)])
+    let place = match opened.text_at(start) {
+        Ok(place) => place,
+        Err(refusal) => return check.refused(Call::Tag, &ours, &refusal),
+    };
+    let letter = entry.and_then(|entry| tags.letters.get(entry)).copied();
+    let own = [place.start, place.end - place.start, place.end, kind_of(letter)];
+    check.got(Call::Tag, &ours, 0, &kept_but(6, &own))
+}
+
+/// Tag `k` of the points' or the ways', by the lists that opening filled: its text is the Rust's.
+pub fn tag(
+    check: &mut Check,
+    file: &MapFile<Source>,
+    said: &Said,
+    ways: bool,
+    k: usize,
+) -> Checked {
+    let (opened, tags, table) = (Opened::of(file), said.tags(), said.table(ways));
+    listed_tag(check, opened, &tags, table, k)?;
+    let names = if ways { &file.header.way_tags } else { &file.header.poi_tags };
+    let Some(name) = names.get(k) else { return Ok(()) };
+    let ours = library::tag(opened.map, &tags, table, k);
+    let text = part(opened.map, ours.words[6], ours.words[7]).map(String::from_utf8_lossy);
+    check.same("Tag's text", text.as_deref(), Some(name.as_str()))?;
+    check.same("Tag's kind", ours.words[9], kind_of(Some(value_letter(name) as u8)))
 }
 
 /// The number of the letter of a tag's inline value.
-fn kind_of(tag: &str) -> u64 {
-    let letter = value_letter(tag) as u8;
-    b"bhifs".iter().position(|&known| known == letter).map_or(0, |k| k as u64 + 1)
+fn kind_of(letter: Option<u8>) -> u64 {
+    let known = b"bhifs".iter().position(|&known| Some(known) == letter);
+    known.map_or(0, |k| k as u64 + 1)
 }
 
 /// All tags of both tables, and one past the last.
-pub fn tags(check: &mut Check, map: &[u8], said: &Said, header: &MapHeader) -> Checked {
-    for (ways, tags) in [(false, &header.poi_tags), (true, &header.way_tags)] {
+pub fn tags(check: &mut Check, file: &MapFile<Source>, said: &Said) -> Checked {
+    for (ways, tags) in [(false, &file.header.poi_tags), (true, &file.header.way_tags)] {
         for k in 0..=tags.len() {
-            tag(check, map, said.table(ways), tags, k)?;
+            tag(check, file, said, ways, k)?;
         }
     }
     Ok(())

@@ -44,7 +44,7 @@ pub fn stream(
     plan: &Plan,
     random: &mut Random,
 ) -> Checked {
-    let script = Script::of(check, file, &question.ask.at, question.zoom, plan)?;
+    let script = Script::of(check, file, &question.ask, question.zoom, plan)?;
     let (state, texts) = ([WORD; 7], Vec::new());
     let mut run = Run { question, state, check, lent, random, texts, text: 0 };
     if !script.opens {
@@ -121,7 +121,7 @@ impl Run<'_, '_> {
                     let mut plan = script.plan.clone();
                     plan.declined.push(heads - 1);
                     let Question { ask, zoom, .. } = self.question;
-                    script = Script::of(self.check, file, &ask.at, *zoom, &plan)?;
+                    script = Script::of(self.check, file, ask, *zoom, &plan)?;
                     self.texts = std::mem::take(&mut script.texts);
                     self.decline()?;
                 }
@@ -135,8 +135,7 @@ impl Run<'_, '_> {
 
     fn next(&mut self) -> (Next, State) {
         let before = self.state;
-        let Ask { map, layout, .. } = &self.question.ask;
-        (library::stream_next(map, layout, &mut self.state), before)
+        (library::stream_next(&self.question.ask, &mut self.state), before)
     }
 
     /// A streamed feature has no signature.

@@ -30,14 +30,14 @@ pub fn compare(check: &mut Check, lent: &mut Lent, base: &Base, random: &mut Ran
     let map = &base.map[..];
     let opening = opening::of(check, map)?;
     let said = Said::of(map, &opening)?;
-    header(check, map, &opening, &said)?;
+    header(check, map, &opening, &said, random)?;
     for text in header_parts(map).iter().flat_map(|parts| &parts.texts) {
         indexed::text(check, lent, &map[text.clone()], random)?;
     }
     let layout = said.layout();
     let ask = |at: &Address| {
         let interval = opening::interval(check, map, &layout, &opening, at.sub_file as usize)?;
-        Ok(Ask { map, layout, interval, at: *at })
+        Ok(Ask { map, layout, tags: said.tags(), as_named: true, interval, at: *at })
     };
     let asks = base.tiles.iter().map(ask).collect::<Checked<Vec<_>>>()?;
     let mut file = opening.unwrap_or_else(|_| foreign::unopened(map));
@@ -52,10 +52,23 @@ pub fn compare(check: &mut Check, lent: &mut Lent, base: &Base, random: &mut Ran
     Ok(())
 }
 
-fn header(check: &mut Check, map: &[u8], opening: &Opening, said: &Said) -> Checked {
-    said.check(check, map)?;
+fn header(
+    check: &mut Check,
+    map: &[u8],
+    opening: &Opening,
+    said: &Said,
+    random: &mut Random,
+) -> Checked {
+    said.check(check, map, random)?;
+    let tags = said.tags().starts.len();
+    let lengths = [0, tags.saturating_sub(1), tags, tags + 1, 2 * tags + 9];
+    for starts in lengths {
+        for letters in lengths {
+            said.check_with(check, map, [starts, letters])?;
+        }
+    }
     if let Ok(file) = opening {
-        opening::tags(check, map, said, &file.header)?;
+        opening::tags(check, file, said)?;
     }
     let intervals =
         opening.as_ref().map_or(0, |file| file.header.zoom_interval_configuration.len());
@@ -133,7 +146,7 @@ fn tile(
     random: &mut Random,
 ) -> Checked {
     indexed::entry(check, file, ask)?;
-    let tile = known::tile(check, file, &ask.at)?;
+    let tile = known::tile(check, file, ask)?;
     collected::collect(check, ask, &tile)?;
     let features = tile.as_ref().map_or(0, |tile| tile.texts.len() as u64);
     for k in (0..=features).chain([u64::MAX]) {

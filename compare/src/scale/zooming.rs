@@ -86,10 +86,10 @@ fn damaged_copies(tally: &mut Tally, bases: &[Base], options: &Options) -> u64 {
 fn of_tiles(tally: &mut Tally, map: &[u8], tiles: &[Address], random: &mut Random) -> Checked {
     let opening = opening::of(&mut Check::default(), map)?;
     let file = opening.unwrap_or_else(|_| foreign::unopened(map));
-    let layout = opening::our_layout(map);
+    let (layout, lists) = opening::ours(map);
     for &at in tiles {
         let interval = library::interval(map, &layout, at.sub_file as usize).interval;
-        let ask = Ask { map, layout, interval, at };
+        let ask = Ask { map, layout, tags: lists.lend(), as_named: true, interval, at };
         let place = |why| format!("sub file {}, tile {}, {why}", at.sub_file, at.tile);
         pairs::of_tile(tally, Opened::of(&file), &ask, random).map_err(place)?;
     }

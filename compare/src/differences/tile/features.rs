@@ -1,7 +1,7 @@
 //! Points and ways.
 
 use super::reader::{Read, Reader};
-use super::tags::letter;
+use super::tags::Table;
 use crate::tiles::feature::{Block, Head, Point, Position, Text, Way};
 
 /// The most nodes of a block.
@@ -28,7 +28,7 @@ impl Reader<'_> {
     pub fn point(&mut self) -> Read<Point> {
         let signature = self.signature()?;
         let position = self.position()?;
-        let (layer, ids) = self.tags(&self.opened.header.poi_tags)?;
+        let (layer, ids) = self.tags(Table::Points)?;
         let flags = self.byte()?;
         let name = self.text_if(flags & 0x80)?;
         let house_number = self.text_if(flags & 0x40)?;
@@ -44,7 +44,7 @@ impl Reader<'_> {
         let stored_end = self.at() + u128::from(size);
         let bitmap = self.bytes(2)?;
         let bitmap = u16::from_be_bytes([bitmap[0], bitmap[1]]);
-        let (layer, ids) = self.tags(&self.opened.header.way_tags)?;
+        let (layer, ids) = self.tags(Table::Ways)?;
         Ok(WayHead { bitmap, ids, stored_end, layer, signature })
     }
 
@@ -73,19 +73,19 @@ impl Reader<'_> {
     }
 
     /// "Layer is the high four bits minus 5 (−5 to 10), tag count the low four." and "Values follow
-    /// all ids of the feature."
-    fn tags(&mut self, table: &[String]) -> Read<(u64, Vec<u64>)> {
+    /// all ids of the feature." Wish 3: "Values are skipped by the listed letter, even an altered one".
+    fn tags(&mut self, table: Table) -> Read<(u64, Vec<u64>)> {
         let special = self.byte()?;
         let ids = (0..special & 0x0F).map(|_| self.id(table)).collect::<Read<Vec<_>>>()?;
         for &id in &ids {
-            self.skip_value(&table[id as usize])?;
+            self.skip_value(self.opened.letter(table, id))?;
         }
         Ok((u64::from(special >> 4), ids))
     }
 
-    fn id(&mut self, table: &[String]) -> Read<u64> {
+    fn id(&mut self, table: Table) -> Read<u64> {
         let id = self.unsigned()?;
-        if id >= table.len() as u64 {
+        if id >= self.opened.tag_count(table) {
             return Err(vec![7, id]);
         }
         Ok(id)
@@ -93,8 +93,8 @@ impl Reader<'_> {
 
     /// "b 1 byte, h 2, i and f 4, s a length (not held to the limit of texts) and that many bytes;
     /// any other letter, or none, skips nothing."
-    fn skip_value(&mut self, tag: &str) -> Read<()> {
-        let size = match letter(tag) {
+    fn skip_value(&mut self, letter: Option<u8>) -> Read<()> {
+        let size = match letter {
             Some(b'b') => 1,
             Some(b'h') => 2,
             Some(b'i' | b'f') => 4,

@@ -4,6 +4,7 @@
 use super::super::damage::Damage;
 use super::bytes::Bytes;
 use super::calls::List;
+use crate::differences::header_parts;
 use crate::differences::tile::{StreamParts, WayParts};
 use crate::maps::writer::PROJECTION;
 use crate::random::Random;
@@ -18,8 +19,9 @@ pub enum Control {
     Head,
     Accepted,
     Tried,
-    /// Only in what opening gives.
+    /// Only in what opening gives: in its degrees, and in the lists of tags.
     Box,
+    TagLetter,
     /// Only in a text's bytes.
     PointText,
     WayText,
@@ -32,7 +34,7 @@ pub enum Control {
 }
 
 /// In the order of their numbers.
-pub const CONTROLS: [Control; 12] = [
+pub const CONTROLS: [Control; 13] = [
     Control::Entry,
     Control::NextEntry,
     Control::Point,
@@ -40,6 +42,7 @@ pub const CONTROLS: [Control; 12] = [
     Control::Accepted,
     Control::Tried,
     Control::Box,
+    Control::TagLetter,
     Control::PointText,
     Control::WayText,
     Control::Bitmap,
@@ -58,6 +61,7 @@ impl Control {
     ) -> Option<Damage> {
         match self {
             Control::NextEntry => random.marked(map, &parts.entry, parts.next_entry.as_ref()?),
+            Control::TagLetter => random.one_bit(map, &letters(map)),
             _ => random.one_bit(map, &self.stretches(parts, list)),
         }
     }
@@ -75,6 +79,7 @@ impl Control {
             Control::Accepted => accepted.iter().map(|way| way.rest.clone()).collect(),
             Control::Tried => tried.iter().map(|way| way.rest.clone()).collect(),
             Control::Box => vec![PROJECTION - 18..PROJECTION - 2],
+            Control::TagLetter => Vec::new(),
             Control::PointText => points.iter().flat_map(|point| point.texts.clone()).collect(),
             Control::WayText => accepted.iter().flat_map(|way| way.texts.clone()).collect(),
             Control::Bitmap => heads.iter().map(|way| way.bitmap.clone()).collect(),
@@ -102,6 +107,7 @@ impl Control {
             Control::Accepted => "behind the head of an accepted way",
             Control::Tried => "of one that was declined after an accept",
             Control::Box => "the bounding box (shows in opening)",
+            Control::TagLetter => "the letter of a tag (in the lists)",
             Control::PointText => "a point's text (in its bytes)",
             Control::WayText => "an accepted way's text (in its bytes)",
             Control::Bitmap => "a head's bitmap (in the words)",
@@ -109,6 +115,17 @@ impl Control {
             Control::LastSize => "the last way's stored size (in the state)",
         }
     }
+}
+
+/// The letters of the header's tags by which values are skipped.
+fn letters(map: &[u8]) -> Vec<Bytes> {
+    let texts = header_parts(map).map_or(Vec::new(), |parts| parts.texts);
+    let letter = |text: Bytes| {
+        let mark = map[text.clone()].windows(2).position(|pair| pair == b"=%")?;
+        let at = text.start + mark + 2;
+        (at < text.end && b"bhifs".contains(&map[at])).then_some(at..at + 1)
+    };
+    texts.into_iter().filter_map(letter).collect()
 }
 
 /// The last byte of a way whose last block has nodes.

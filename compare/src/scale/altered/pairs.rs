@@ -30,10 +30,12 @@ impl Pair<'_> {
     }
 
     fn opening(&self, check: &mut Check) -> Checked {
-        let [copied, open] = [self.copy, self.ask.map].map(library::open);
+        let [copied, open] = [self.copy, self.ask.map].map(library::opened);
         check.got(Kind::Open, &copied.got, open.got.number, &open.got.words)?;
         check.floats("degrees", &copied.degrees, &open.degrees)?;
         check.words("layout", &copied.layout, &open.layout)?;
+        check.words("starts", &copied.lists.starts, &open.lists.starts)?;
+        check.same("letters", &copied.lists.letters, &open.lists.letters)?;
         let interval = |map| library::interval(map, &open.layout, self.ask.at.sub_file as usize);
         let [copied, given] = [self.copy, self.ask.map].map(interval);
         check.got(Kind::Interval, &copied.got, given.got.number, &given.got.words)?;
@@ -57,12 +59,13 @@ impl Pair<'_> {
     /// The number of the map's answer is the one that the model says.
     fn step(&self, alike: &mut Alike, step: &Step, k: usize, states: &mut [State; 2]) -> Checked {
         let [copied, state] = states;
-        let (copy, map, layout) = (self.copy, self.ask.map, &self.ask.layout);
+        let (copy, map) = (self.copy, self.ask.map);
         match step.call {
             Call::Next => {
-                let next = library::stream_next(map, layout, state);
+                let next = library::stream_next(&self.ask, state);
                 alike.check.same("a next by the model", next.got.number, step.number)?;
-                alike.next(&library::stream_next(copy, layout, copied), &next)
+                let on_copy = Ask { map: copy, ..self.ask };
+                alike.next(&library::stream_next(&on_copy, copied), &next)
             }
             Call::Accept(_) => {
                 // each accept has lists with a word of their own

@@ -115,7 +115,7 @@ impl Run<'_> {
     fn next(&mut self, both: &mut Both) -> Checked {
         let before = both.stream;
         let tile = self.book.tile;
-        let ours = library::stream_next(tile.ask.map, &tile.ask.layout, &mut both.stream);
+        let ours = library::stream_next(&tile.ask, &mut both.stream);
         let (points, ways) = (self.book.points, self.book.ways);
         let page = &mut both.page;
         if page.waits {

@@ -48,7 +48,7 @@ pub fn stream(ask: &Ask, zoom: u8, rule: Rule, given: &Given) -> Ended {
     answered("open", opened.number)?;
     let (mut points, mut ways) = (Vec::new(), Vec::new());
     loop {
-        let next = library::stream_next(ask.map, &ask.layout, &mut run.state);
+        let next = library::stream_next(ask, &mut run.state);
         answered("next", next.got.number)?;
         match next.got.words[6] {
             POINT => points.push(next),
