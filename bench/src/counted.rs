@@ -6,6 +6,7 @@ use std::hint::black_box;
 use std::path::{Path, PathBuf};
 use std::process::Command;
 
+use crate::crafted;
 use crate::map::Map;
 use crate::ours::Ours;
 use crate::rust::Rust;
@@ -28,6 +29,12 @@ pub fn table(files: &[&str]) {
             let ours = instructions(SIDES[0], work.word(), Some(file));
             println!("| {} | {} | {ours} | | |", map.name, work.name());
         }
+    }
+    for file in crafted::BOTH {
+        let name = Map::read(file).name;
+        crafted::WORKS
+            .iter()
+            .for_each(|work| print_line(&name, work.name(), work.word(), Some(file)));
     }
     print_line("(none)", way_data::COUNTED.name, WAY_DATA, None);
 }
@@ -58,6 +65,15 @@ pub fn ours_way_data() -> u64 {
 fn ours_of(works: &[Work], file: &str) -> Vec<(&'static str, u64)> {
     let figure = |work: &Work| (work.word(), instructions(SIDES[0], work.word(), Some(file)));
     works.iter().map(figure).collect()
+}
+
+/// The maps that are made here.
+pub fn ours_crafted() -> Vec<(String, u64)> {
+    let of_map = |file: &'static str| {
+        let figures = ours_of(&crafted::WORKS, file);
+        figures.into_iter().map(move |(work, ours)| (format!("{file} {work}"), ours))
+    };
+    crafted::BOTH.into_iter().chain([crafted::OURS]).flat_map(of_map).collect()
 }
 
 /// What callgrind collects inside of `bench_counted`. Its file stays, for callgrind_annotate.

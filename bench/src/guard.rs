@@ -14,7 +14,7 @@ const MOST: f64 = 0.03;
 
 const HEAD: &str = "\
 # Instructions of our side, as callgrind counts them: each work done once on each shipped map (maps/), empty tiles once on a copy of
-# islands.map in which every tile is marked empty, and way data read once.
+# islands.map in which every tile is marked empty, some works on maps that bench makes (crafted/), and way data read once.
 # bench/run --check compares them within 3 %; bench/run --keep writes them anew.
 ";
 
@@ -62,7 +62,7 @@ fn counted() -> Vec<(String, u64)> {
     let empty = counted::ours_empty(&format!("{MAPS}/{}.map", SHIPPED[0]));
     let empty = empty.into_iter().map(|(work, ours)| (work.to_string(), ours));
     let way_data = (counted::WAY_DATA.to_string(), counted::ours_way_data());
-    of_maps.chain(empty).chain([way_data]).collect()
+    of_maps.chain(empty).chain(counted::ours_crafted()).chain([way_data]).collect()
 }
 
 /// The kept figures by their works.

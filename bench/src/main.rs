@@ -1,6 +1,7 @@
 //! The library measured against the Rust map reader, on the same bytes in one process.
 //!
-//! `bench [MAP...]` prints tables of times, `bench --instructions [MAP...]` a table of instructions.
+//! `bench [MAP...]` prints tables of times, `bench --instructions [MAP...]` a table of instructions. Some maps it makes itself:
+//! `crafted/many-tags` and the others of `crafted.rs` may be named too.
 //! `bench --check` compares our instructions on the shipped maps with those that are kept, and
 //! `bench --keep` keeps them. For a profiler, `bench count SIDE WORK MAP [TIMES]` does a work once or so many times, and
 //! `bench count SIDE way-data` reads way data once.
@@ -9,6 +10,7 @@
 #[allow(dead_code)]
 mod answer;
 mod counted;
+mod crafted;
 mod guard;
 mod map;
 mod ours;
@@ -58,6 +60,8 @@ fn tables(files: &[&str]) {
     times::contents(&maps);
     println!();
     times::table(&maps);
+    println!();
+    times::crafted();
     println!();
     way_data::table();
 }

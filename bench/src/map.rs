@@ -8,6 +8,7 @@ use std::process;
 use mapsforge_rs::grid::{self, Grid};
 use mapsforge_rs::types::{BoundingBox, MapFile, ZoomInterval};
 
+use crate::crafted;
 use crate::source::Source;
 
 pub struct Map {
@@ -58,7 +59,8 @@ impl Map {
     }
 
     fn of(file: &str) -> Result<Self, String> {
-        let bytes = fs::read(file).map_err(|error| format!("cannot be read: {error}"))?;
+        let read = || fs::read(file).map_err(|error| format!("cannot be read: {error}"));
+        let bytes = crafted::map(file).map_or_else(read, Ok)?;
         let name = Path::new(file).file_name().expect("a file").to_string_lossy().into_owned();
         let sub_files = sub_files(&bytes)?;
         Ok(Map { name, bytes, sub_files })

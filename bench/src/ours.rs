@@ -21,7 +21,7 @@ pub struct Ours<'a> {
 impl<'a> Ours<'a> {
     pub fn new(map: &'a Map) -> Self {
         let mut calls = Calls::new(&map.bytes);
-        assert_eq!(calls.open(), 0, "a map that opens");
+        assert_eq!(calls.open_first(), 0, "a map that opens");
         calls.keep_intervals(map.sub_files.len());
         Ours { map, calls }
     }

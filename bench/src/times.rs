@@ -2,6 +2,7 @@
 
 use std::time::Instant;
 
+use crate::crafted;
 use crate::map::Map;
 use crate::ours::Ours;
 use crate::rust::Rust;
@@ -35,33 +36,58 @@ pub fn contents(maps: &[Map]) {
     }
 }
 
-pub fn table(maps: &[Map]) {
+fn head() {
     println!("| map | work | items | ours, ns an item | Rust, ns an item | ours / Rust | median |");
     println!("|---|---|---:|---:|---:|---:|---:|");
+}
+
+pub fn table(maps: &[Map]) {
+    head();
     for map in maps {
         let mut sides = sides(map);
-        let mut lines = WORKS.map(|work| Line::new(map, work, &mut sides));
-        // all lines go on side by side, so that a busy spell of the machine does not spoil one of them
-        for round in 0..MOST_ROUNDS {
-            let due = lines.iter_mut().filter(|line| line.has_round(round));
-            due.for_each(|line| line.round(&mut sides));
-        }
-        lines.into_iter().for_each(|line| line.print(&map.name));
+        lines(map, &WORKS, &mut sides);
         if map.left_out()[0] > 0 {
             OURS_ALONE.iter().for_each(|&work| alone(map, work, sides[0].as_mut()));
         }
     }
 }
 
+/// The maps that are made here, and the works on them that were slow.
+pub fn crafted() {
+    head();
+    for name in crafted::BOTH {
+        let map = Map::read(name);
+        let slow = lines(&map, &crafted::WORKS, &mut sides(&map));
+        slow.iter().for_each(|line| assert!(line.ratio() <= crafted::MOST, "{name}: too slow"));
+    }
+    let map = Map::read(crafted::OURS);
+    crafted::WORKS.iter().for_each(|&work| alone(&map, work, &mut Ours::new(&map)));
+}
+
+/// All lines go on side by side, so that a busy spell of the machine does not spoil one of them.
+fn lines(map: &Map, works: &[Work], sides: &mut Sides) -> Vec<Line> {
+    let mut lines: Vec<Line> = works.iter().map(|&work| Line::new(map, work, sides)).collect();
+    for round in 0..MOST_ROUNDS {
+        let due = lines.iter_mut().filter(|line| line.has_round(round));
+        due.for_each(|line| line.round(sides));
+    }
+    lines.iter().for_each(|line| line.print(&map.name));
+    lines
+}
+
 /// A line of ours alone: the least time of its rounds.
 fn alone(map: &Map, work: Work, ours: &mut dyn Side) {
     let mut wanted = Tally::counts();
     ours.run(work, &mut wanted);
-    assert_eq!([wanted.points, wanted.ways, wanted.refused], [0; 3], "an empty tile has nothing");
+    if OURS_ALONE.contains(&work) {
+        let features = [wanted.points, wanted.ways, wanted.refused];
+        assert_eq!(features, [0; 3], "an empty tile has nothing");
+    }
     let once = seconds(ours, work, 1, &wanted);
     let times = (SECONDS / once).ceil() as u32;
     let round = || seconds(ours, work, times, &wanted);
-    let least = std::iter::repeat_with(round).take(MOST_ROUNDS).fold(f64::MAX, f64::min);
+    let rounds = ((LINE_SECONDS / once) as usize).clamp(LEAST_ROUNDS, MOST_ROUNDS);
+    let least = std::iter::repeat_with(round).take(rounds).fold(f64::MAX, f64::min);
     let (item, count) = work.items(&wanted);
     let ours = least * 1e9 / count as f64;
     println!("| {} | {} | {count} {item}s | {ours:.1} | | | |", map.name, work.name());
@@ -104,7 +130,11 @@ impl Line {
         self.ratios.push(ours / rust);
     }
 
-    fn print(mut self, map: &str) {
+    fn ratio(&self) -> f64 {
+        self.least[0] / self.least[1]
+    }
+
+    fn print(&self, map: &str) {
         let (item, count) = self.work.items(&self.wanted);
         // a map may have no tile but empty ones
         if count == 0 {
@@ -112,12 +142,13 @@ impl Line {
         }
         let plural = if count == 1 { "" } else { "s" };
         let [ours, rust] = self.least.map(|seconds| seconds * 1e9 / count as f64);
-        self.ratios.sort_by(f64::total_cmp);
+        let mut ratios = self.ratios.clone();
+        ratios.sort_by(f64::total_cmp);
         println!(
             "| {map} | {} | {count} {item}{plural} | {ours:.1} | {rust:.1} | {:.2} | {:.2} |",
             self.work.name(),
-            ours / rust,
-            self.ratios[self.ratios.len() / 2]
+            self.ratio(),
+            ratios[ratios.len() / 2]
         );
     }
 }

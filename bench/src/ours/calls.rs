@@ -33,6 +33,9 @@ pub struct Opened {
     pub words: [u64; 34],
     pub degrees: [f64; 6],
     layout: [u64; 7],
+    /// The lists of the map's tags, as long as it needs them.
+    starts: Vec<u64>,
+    letters: Vec<u8>,
 }
 
 pub struct Next {
@@ -93,7 +96,13 @@ impl<'a> Calls<'a> {
     pub fn new(map: &'a [u8]) -> Self {
         Calls {
             map,
-            opened: Opened { words: [0; 34], degrees: [0.0; 6], layout: [0; 7] },
+            opened: Opened {
+                words: [0; 34],
+                degrees: [0.0; 6],
+                layout: [0; 7],
+                starts: Vec::new(),
+                letters: Vec::new(),
+            },
             intervals: Vec::new(),
             values: [0; 6],
             interval: [0; 6],
@@ -115,8 +124,32 @@ impl<'a> Calls<'a> {
 
     pub fn open(&mut self) -> u64 {
         let map = black_box(self.map);
-        let Opened { words, degrees, layout } = &mut self.opened;
-        unsafe { sys::mapsforge_open(map.as_ptr(), map.len(), words, degrees, layout) }
+        let Opened { words, degrees, layout, starts, letters } = &mut self.opened;
+        unsafe {
+            sys::mapsforge_open(
+                map.as_ptr(),
+                map.len(),
+                starts.as_mut_ptr(),
+                starts.len(),
+                letters.as_mut_ptr(),
+                letters.len(),
+                words,
+                degrees,
+                layout,
+            )
+        }
+    }
+
+    /// Opens the map with lists of the lengths that it asks for, which are kept.
+    pub fn open_first(&mut self) -> u64 {
+        let number = self.open();
+        if number != 15 {
+            return number;
+        }
+        let [starts, letters] = [self.opened.words[0], self.opened.words[1]];
+        self.opened.starts = vec![0; starts as usize];
+        self.opened.letters = vec![0; letters as usize];
+        self.open()
     }
 
     pub fn interval(&mut self, sub_file: usize) -> u64 {
@@ -175,6 +208,8 @@ impl<'a> Calls<'a> {
                 self.map.as_ptr(),
                 self.map.len(),
                 &self.opened.layout,
+                self.opened.letters.as_ptr(),
+                self.opened.letters.len(),
                 &mut self.state,
                 words,
                 signed,
@@ -215,6 +250,8 @@ impl<'a> Calls<'a> {
                 self.map.as_ptr(),
                 self.map.len(),
                 &self.opened.layout,
+                self.opened.letters.as_ptr(),
+                self.opened.letters.len(),
                 &self.intervals[sub_file],
                 grid.x_min,
                 grid.y_min,
@@ -237,6 +274,10 @@ impl<'a> Calls<'a> {
                 self.map.as_ptr(),
                 self.map.len(),
                 &self.opened.layout,
+                self.opened.starts.as_ptr(),
+                self.opened.starts.len(),
+                self.opened.letters.as_ptr(),
+                self.opened.letters.len(),
                 &self.intervals[sub_file],
                 grid.x_min,
                 grid.y_min,
