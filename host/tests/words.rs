@@ -425,31 +425,44 @@ fn names_behind_the_map_are_empty() {
     }
 }
 
-/// Values are skipped by the listed letters alone. Without a list no value is skipped, and what the words of the layout say
-/// of the places of tags does not matter.
+/// What the layout's words say of the places of tags does not matter: the lists say where they are.
 #[test]
-fn values_are_skipped_by_the_listed_letters() {
+fn no_call_looks_where_the_layout_has_the_tags() {
     let tiles = Tiles::of("islands.map");
-    let all = |tiles: &Tiles| (0..12).map(|tile| tiles.collect(tile)).collect::<Vec<_>>();
     let mut other = Tiles::of("islands.map");
     other.layout[word::LAYOUT_POINT_TAGS] = 0;
     other.layout[word::LAYOUT_WAY_TAGS] = u64::MAX;
-    assert_eq!(all(&other), all(&tiles));
-    // Every tag of ways has two bytes behind the ids, so that the first way of a tile without points goes astray.
-    let altered = Tiles { letters: vec![b'h'; 101], ..Tiles::of("islands.map") };
+    for tile in 0..12 {
+        assert_eq!(other.collect(tile), tiles.collect(tile));
+    }
+    assert_eq!(other.fetch(10, 40).1.tags, tiles.fetch(10, 40).1.tags);
+}
+
+/// A map of one tile, right behind its entry: a way with one tag, of which the value is the byte 7F. Behind the way, whose
+/// stored size is 7, stands a byte more.
+const ONE_WAY: [u8; 17] = [0, 0, 0, 0, 5, 0, 1, 0, 7, 0xff, 0xff, 0x51, 0, 0x7f, 0, 0, 0];
+
+/// The answer of collecting it with these letters, and whether the stored size is the decoded length.
+fn one_way(letters: &[u8]) -> (u64, u64) {
+    let (layout, interval) = ([0, 0, 0, 0, 1, 0, 0], [1, 0, 0, 0, 0, 99]);
     let mut words = [7; word::COLLECT_WORDS];
-    let number = raw::collect(
-        &altered.bytes,
-        &altered.layout,
-        &altered.letters,
-        &altered.interval,
-        GRID,
-        9,
-        &mut words,
-        &mut [7; 256],
-        &mut [7; 256],
-    );
-    assert!(number != 0 || words != tiles.collect(9));
+    let rows = (&mut [7; 256], &mut [7; 256]);
+    let number =
+        raw::collect(&ONE_WAY, &layout, letters, &interval, [0; 4], 0, &mut words, rows.0, rows.1);
+    (number, words[word::COLLECT_EXACT])
+}
+
+#[test]
+fn values_are_skipped_by_the_listed_letter() {
+    assert_eq!(one_way(b"b"), (0, 1));
+    // Two bytes are skipped: the flags too, so that the way ends a byte later.
+    assert_eq!(one_way(b"h"), (0, 0));
+    // Nothing is: 7F is taken for the flags, and the map ends before all that they say.
+    assert_eq!(one_way(b"\0"), (1, 7));
+    assert_eq!(one_way(b"x"), (1, 7));
+    // Nor is a value by a letter behind the end of the list, or by one that is another tag's.
+    assert_eq!(one_way(b""), (1, 7));
+    assert_eq!(one_way(b"\0b"), (1, 7));
 }
 
 // ---- which words are written

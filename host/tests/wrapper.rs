@@ -8,8 +8,8 @@ use common::{
 };
 use mapsforge::check;
 use mapsforge::{
-    raw, row_of_latitude, BoundingBox, Feature, Grid, Lengths, Map, MapFile, Name, Refusal, Step,
-    SubFile,
+    raw, row_of_latitude, BoundingBox, Feature, Grid, InlineKind, Lengths, Map, MapFile, Name,
+    Refusal, Step, SubFile,
 };
 use std::f64::consts::PI;
 use std::io::{ErrorKind, Read};
@@ -463,6 +463,30 @@ fn interval_words(map: &Map<'_>, sub_file: usize) -> [u64; 6] {
     let number = raw::interval(map.bytes(), map.layout(), sub_file, &mut [0; 6], &mut interval);
     assert_eq!(number, 0);
     interval
+}
+
+/// The lists that a map keeps are those of its own names, points first.
+#[test]
+fn a_map_keeps_the_lists_of_its_tags() {
+    for name in SHIPPED {
+        let bytes = map_bytes(name);
+        let map = Map::open(&bytes).unwrap();
+        let names: Vec<_> = map.point_tags().iter().chain(map.way_tags().iter()).collect();
+        assert_eq!((map.starts().len(), map.letters().len()), (names.len(), names.len()));
+        for ((name, &start), &letter) in names.iter().zip(map.starts()).zip(map.letters()) {
+            let (size, behind) = common::stored(&bytes, start as usize);
+            assert_eq!(&bytes[behind..][..size], name.text.bytes());
+            let known = match name.kind {
+                Some(InlineKind::Byte) => b'b',
+                Some(InlineKind::Short) => b'h',
+                Some(InlineKind::Int) => b'i',
+                Some(InlineKind::Float) => b'f',
+                Some(InlineKind::Text) => b's',
+                None => 0,
+            };
+            assert_eq!(letter, known);
+        }
+    }
 }
 
 #[test]

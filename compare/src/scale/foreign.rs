@@ -86,13 +86,13 @@ fn taken(interval: &Interval) -> Option<ZoomInterval> {
 pub fn compare(check: &mut Check, lent: &mut Lent, own: &Ask, random: &mut Random) -> Checked {
     let lists = random.lists(own);
     let ask = Ask { tags: lists.lend(), ..random.foreign(own) };
-    let (file, as_named) = file(&ask);
+    let (mut file, as_named) = file(&ask);
     let ask = Ask { as_named, ..ask };
     let place = |why| told(&ask, why);
     intervals::made_up(check, ask.map, &ask.layout, random)?;
     some_tag(check, &file, &ask, random).map_err(place)?;
     asked::grid(check, &file, &ask, random).map_err(place)?;
-    by_words(check, lent, file, &ask, random).map_err(place)?;
+    asked::tile(check, lent, &mut file, &ask, random).map_err(place)?;
     let state = random.state(ask.map.len());
     let place = |why| place(format!("state {state:x?}: {why}"));
     made_up(check, lent, &ask, &state, random).map_err(place)
@@ -151,21 +151,10 @@ fn made_up(
 pub fn cut_off(check: &mut Check, lent: &mut Lent, ask: &Ask, random: &mut Random) -> Checked {
     intervals::by_layout(check, ask.map, &ask.layout, random)?;
     let ask = Ask { at: Address { sub_file: 0, ..ask.at }, ..*ask };
-    let (file, as_named) = file(&ask);
+    let (mut file, as_named) = file(&ask);
     let ask = Ask { as_named, ..ask };
     some_tag(check, &file, &ask, random)?;
-    by_words(check, lent, file, &ask, random)
-}
-
-/// The sub file is the first one of the header that the words say.
-fn by_words(
-    check: &mut Check,
-    lent: &mut Lent,
-    mut file: MapFile<Source>,
-    ask: &Ask,
-    random: &mut Random,
-) -> Checked {
-    asked::tile(check, lent, &mut file, ask, random)
+    asked::tile(check, lent, &mut file, &ask, random)
 }
 
 /// Whether an accept is not refused; a refused one leaves state and lists alone.
