@@ -1,5 +1,5 @@
-//! Words for a header that are not the map's own. Whatever they are, the answers are those of a map with
-//! such a header, which the Rust can be given.
+//! Words and lists of tags for a header that are not the map's own. Whatever they are, the answers are those of a map with
+//! such a header. The Rust can be given it where the listed names have the listed letters; else the model answers alone.
 
 use std::ops::Range;
 
