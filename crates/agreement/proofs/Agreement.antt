@@ -9,7 +9,7 @@ use Rattle.parsing.specs.Good.{Good, split, ok-val, ok-at}
 use Rattle.agreement.specs.Calls.{Call}
 use Rattle.agreement.specs.Collected.{StoredTile}
 use Rattle.agreement.specs.Book.{bookStart}
-use Rattle.agreement.specs.Declined.{LiesIn, this, later, bytesOf, DifferOnly}
+use Rattle.agreement.specs.Declined.{LiesIn, this, later, passedBytes, DifferOnly}
 use Rattle.agreement.specs.View.{streamedReplies}
 use Rattle.agreement.specs.MapLayout.{MapLayout, MapLaws, signatures, openMap, openedBytes, rowsAt}
 use Rattle.agreement.specs.Demand3.{Collects, Agrees, pointBytes, Opens, MapCollects, MapAgrees, mapReplies, OnlyDeclined, MapAlterable, Demand3}
@@ -24,7 +24,7 @@ module _ (m m′ : List ℕ) (long : length m ≡ length m′) where
   read-near {i = i} {e = e} {a = a} g s h = g .near m m′ i a e (record { long = long; same = λ j u v. s j u (rw h v) }) h
 
   signatures-near : (p : Parser Unit) → Good p → (l : List ℕ) (u : Unit) (x : ℕ)
-      → ((j : ℕ) → LiesIn j (map (λ i. bytesOf p m i) l) → getD m j 0 ≡ getD m′ j 0) → signatures p l m ≡ ok u x → signatures p l m′ ≡ ok u x
+      → ((j : ℕ) → LiesIn j (map (λ i. passedBytes p m i) l) → getD m j 0 ≡ getD m′ j 0) → signatures p l m ≡ ok u x → signatures p l m′ ≡ ok u x
   signatures-near p g [] u x s h = h
   signatures-near p g (i ∷ l) u x s h =
       let a = split (p m i) (λ _ _. signatures p l m) u x h in

@@ -10,7 +10,7 @@ use native.Mathlib.Omega.{arith}
 use lib.IntN.{pos}
 use lib.ListN.{getD}
 use Rattle.parsing.specs.Parse.{Parser, Part, part, Maybe, none, some, optional}
-use Rattle.byte_source.specs.BigEndian.{valueOf, bigEndian}
+use Rattle.byte_source.specs.BigEndian.{bigEndianOf, bigEndian}
 use Rattle.utils.specs.Vbe.{groups, unsigned, signed, coordinate, text}
 use Rattle.format.specs.Lent.{Reply}
 use Rattle.format.specs.WayData.{node, block, dataBlock, wayData}
@@ -65,7 +65,7 @@ stored = record {
 }
 
 collects : Collects plainHead plainTile before 0 stored
-unfolding part optional valueOf bigEndian groups unsigned signed coordinate text node block dataBlock wayData row zoomTable debugSignature tileHead values tagId tagged pointFields point headRest head wayFields dataBlockCount body
+unfolding part optional bigEndianOf bigEndian groups unsigned signed coordinate text node block dataBlock wayData row zoomTable debugSignature tileHead values tagId tagged pointFields point headRest head wayFields dataBlockCount body
 collects = record { past = 9; collects = refl; sizes = refl; small = omega arith }
 
 -- the point, then the way, which is declined
@@ -108,7 +108,7 @@ firstNamed [] = 0
 firstNamed (r ∷ rs) = named (r .answer)
 
 pub literally-false : Literally → ⊥
-unfolding part optional valueOf bigEndian groups unsigned signed coordinate text node tagged values tagId pointFields debugSignature point
+unfolding part optional bigEndianOf bigEndian groups unsigned signed coordinate text node tagged values tagId pointFields debugSignature point
 literally-false f =
     let a = f before 0 stored collects land 1 calls after differ in
     let e : _≡_ {A = ℕ} 0 1 = ap firstNamed (a .replies) in

@@ -23,8 +23,8 @@ pub data LiesIn (j : ℕ) : List Bytes → Type 0 where
   later : {b : Bytes} {l : List Bytes} → LiesIn j l → LiesIn j (b ∷ l)
 
 -- the bytes that a read at place i passes; none if it is refused
-abbrev pub bytesOf : {A : Type 0} → Parser A → List ℕ → ℕ → Bytes
-bytesOf p m i = record { from = i; to = endOf (p m i) }
+abbrev pub passedBytes : {A : Type 0} → Parser A → List ℕ → ℕ → Bytes
+passedBytes p m i = record { from = i; to = endOf (p m i) }
 
 -- two maps of one length differ only in allowed bytes
 pub record DifferOnly (m m′ : List ℕ) (Allowed : ℕ → Type 0) : Type 0 where

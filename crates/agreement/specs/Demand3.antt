@@ -13,7 +13,7 @@ use Rattle.agreement.specs.Heads.{pointsUpTo}
 use Rattle.agreement.specs.Stream.{StreamAnswer, State, stream, freshStream, openStream}
 use Rattle.agreement.specs.Collected.{StoredTile, allExact, collect, storedCollection, storedTile}
 use Rattle.agreement.specs.Book.{bookReplies}
-use Rattle.agreement.specs.Declined.{Bytes, LiesIn, bytesOf, DifferOnly, declinedBytes}
+use Rattle.agreement.specs.Declined.{Bytes, LiesIn, passedBytes, DifferOnly, declinedBytes}
 use Rattle.agreement.specs.View.{collectedTile, streamedReplies}
 use Rattle.agreement.specs.MapLayout.{MapLayout, openMap, openedBytes, rowsAt, openTile, collectTile}
 
@@ -40,7 +40,7 @@ pub record Agrees (tileHead : Parser TileHead) (F : Format) (m : List ℕ) (i : 
 
 -- the first n points of a tile
 abbrev pub pointBytes : (F : Format) → List ℕ → StoredTile F → ℕ → Bytes
-pointBytes F m t n = bytesOf (many (F .point) n) m (t .start)
+pointBytes F m t n = passedBytes (many (F .point) n) m (t .start)
 
 -- a byte that may be altered: it lies in a way declined untried, and in no point up to the zoom. (If a way was declined, all these points
 -- were delivered: proofs/Delivered.antt.)

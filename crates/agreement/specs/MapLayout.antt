@@ -10,7 +10,7 @@ use Rattle.agreement.specs.Format.{Format, Laws}
 use Rattle.agreement.specs.Stream.{State, openStream}
 use Rattle.agreement.specs.Collected.{StoredTile, collect}
 use Rattle.agreement.specs.View.{View, ViewLaws}
-use Rattle.agreement.specs.Declined.{Bytes, bytesOf}
+use Rattle.agreement.specs.Declined.{Bytes, passedBytes}
 
 pub record MapLayout : Type 1 where
   pub Header : Type 0
@@ -53,7 +53,7 @@ openMap C m = andThen (C .header m 0) (λ h e. andThen (signatures (C .signature
 -- the header as opening reads it, the tile's entry, and the index signatures
 abbrev pub openedBytes : (C : MapLayout) → List ℕ → C .Header → List Bytes
 openedBytes C m h =
-    bytesOf (C .header) m 0 ∷ bytesOf (C .entry h) m (C .entryAt h) ∷ map (λ i. bytesOf (C .signature) m i) (C .signaturesAt h)
+    passedBytes (C .header) m 0 ∷ passedBytes (C .entry h) m (C .entryAt h) ∷ map (λ i. passedBytes (C .signature) m i) (C .signaturesAt h)
 
 -- the rows that count at a zoom
 abbrev pub rowsAt : (C : MapLayout) → C .Header → (zoom : ℕ) → ℕ

@@ -18,23 +18,23 @@ use Rattle.parsing.specs.Parse.{Res, ok, no, Part, part, chunk}
 use Rattle.parsing.proofs.Steps.{chunk-none, chunk-here, chunk-behind, chunk-past}
 use Rattle.parsing.proofs.Ends.{PastEnd, bind-end, chunk-end}
 use Rattle.parsing.proofs.Sized.{Sized, chunk-sized, return-sized, bind-sized}
-use Rattle.byte_source.specs.BigEndian.{valueOf, bigEndian, twosComplement, Holds}
+use Rattle.byte_source.specs.BigEndian.{bigEndianOf, bigEndian, twosComplement, Holds}
 use Rattle.byte_source.specs.declared.Span.{Span}
 use Rattle.byte_source.specs.Answers.{spanBytes, partIn}
 use Rattle.byte_source.proofs.ReadLaws.{reads}
 
-value-append : (acc : ℕ) (xs ys : List ℕ) → valueOf acc (xs ++ ys) ≡ valueOf (valueOf acc xs) ys
-unfolding valueOf
+value-append : (acc : ℕ) (xs ys : List ℕ) → bigEndianOf acc (xs ++ ys) ≡ bigEndianOf (bigEndianOf acc xs) ys
+unfolding bigEndianOf
 value-append acc [] ys = refl
 value-append acc (x ∷ xs) ys = value-append (256 * acc + x) xs ys
 
-value-above : (acc : ℕ) (ys : List ℕ) → valueOf acc ys ≡ acc * 256 ^ length ys + valueOf 0 ys
-unfolding valueOf
+value-above : (acc : ℕ) (ys : List ℕ) → bigEndianOf acc ys ≡ acc * 256 ^ length ys + bigEndianOf 0 ys
+unfolding bigEndianOf
 value-above acc [] = rw (pow-zero 256, mul-one acc) (omega arith)
 value-above acc (y ∷ ys) =
     let w = 256 ^ length ys in
-    let a : valueOf (256 * acc + y) ys ≡ (256 * acc + y) * w + valueOf 0 ys = value-above (256 * acc + y) ys in
-    let b : valueOf (256 * 0 + y) ys ≡ (256 * 0 + y) * w + valueOf 0 ys = value-above (256 * 0 + y) ys in
+    let a : bigEndianOf (256 * acc + y) ys ≡ (256 * acc + y) * w + bigEndianOf 0 ys = value-above (256 * acc + y) ys in
+    let b : bigEndianOf (256 * 0 + y) ys ≡ (256 * 0 + y) * w + bigEndianOf 0 ys = value-above (256 * 0 + y) ys in
     rw (a, b, pow-suc 256 (length ys), add-mul (256 * acc) y w, mul-comm 256 acc, mul-assoc acc 256 w, mul-comm 256 w) (omega arith)
 
 -- two numbers, one behind the other
@@ -43,7 +43,7 @@ joined j k s at x y f h g =
     let len : length (take k (drop (at + j) s)) ≡ k = length-take-le k (drop (at + j) s) (omega (arith, length-drop (at + j) s)) in
     let small : x * 256 ^ k + 256 ^ k ≤ 256 ^ j * 256 ^ k = below x (256 ^ j) (256 ^ k) (h .small) in
     record {
-      value = rw (take-add j k (drop at s), drop-drop j at s, value-append 0 (take j (drop at s)) (take k (drop (at + j) s)), value-above (valueOf 0 (take j (drop at s))) (take k (drop (at + j) s)), len, ← h .value, ← g .value);
+      value = rw (take-add j k (drop at s), drop-drop j at s, value-append 0 (take j (drop at s)) (take k (drop (at + j) s)), value-above (bigEndianOf 0 (take j (drop at s))) (take k (drop (at + j) s)), len, ← h .value, ← g .value);
       small = rw (pow-add 256 j k) (omega (arith, g .small));
     }
   where
@@ -52,7 +52,7 @@ joined j k s at x y f h g =
 
 -- one byte
 pub single : (s : List ℕ) (at x : ℕ) → at < length s → x ≡ getD s at 0 → x < 256 → Holds 1 s at x
-unfolding valueOf
+unfolding bigEndianOf
 single s at x h e b = record { value = rw (drop-cons s at 0 h) (omega arith); small = b }
 
 pub pair16 : (s : List ℕ) (at x y : ℕ) → at + 2 ≤ length s → x ≡ getD s at 0 → x < 256 → y ≡ getD s (at + 1) 0 → y < 256 → Holds 2 s at ((x + y * 256) % 256 * 256 + (x + y * 256) / 256)

@@ -10,14 +10,14 @@ use Rattle.parsing.specs.Parse.{Parser, _>>=_, return, chunk}
 use Rattle.parsing.specs.Good.{Good, goods}
 
 -- the number of these bytes behind acc, most significant byte first
-unfoldable pub valueOf : ℕ → List ℕ → ℕ
-valueOf acc [] = acc
-valueOf acc (b ∷ s) = valueOf (256 * acc + b) s
+unfoldable pub bigEndianOf : ℕ → List ℕ → ℕ
+bigEndianOf acc [] = acc
+bigEndianOf acc (b ∷ s) = bigEndianOf (256 * acc + b) s
 
 unfoldable pub bigEndian : ℕ → Parser ℕ
 bigEndian k = do
   b ← chunk k
-  return (valueOf 0 b)
+  return (bigEndianOf 0 b)
 
 abbrev pub twosComplement : ℕ → ℤ
 twosComplement n = cond (ltb n (2 ^ 31)) (pos n) (negℤ (pos (2 ^ 32 - n)))
@@ -40,5 +40,5 @@ pub ruleset bytes = (goods, bigEndian-good, int32-good)
 
 -- a number that the next k bytes hold
 pub record Holds (k : ℕ) (s : List ℕ) (at r : ℕ) : Type 0 where
-  pub value : r ≡ valueOf 0 (take k (drop at s))
+  pub value : r ≡ bigEndianOf 0 (take k (drop at s))
   pub small : r < 256 ^ k

@@ -10,6 +10,7 @@ use borrow.Author.Needs.{needs}
 use borrow.Author.Tests.{ltb-true, lt-ltb, le-ltb, le-leb}
 use Rattle.parsing.specs.Parse.{Res, ok, no, Parser, andThen, mapRes, many, Maybe, passed}
 use Rattle.parsing.specs.Good.{ok-val, ok-at, no-ok}
+use Rattle.parsing.proofs.Views.{view-stop}
 use Rattle.error.specs.Refusals.{refused}
 use Rattle.error.specs.declared.Refusal.{Refusal}
 use Rattle.error.specs.declared.Refusal.the-variants.{InvalidFeature}
@@ -30,7 +31,7 @@ use Rattle.tile_head.specs.declared.TileHeadRead.{TileHeadRead}
 use Rattle.tile_head.specs.declared.TileHeadRead.the-variants as head-read
 use Rattle.tile_place.specs.Places as places
 use Rattle.tile_place.specs.Places.{placeOf}
-use Rattle.tile_place.specs.declared.TilePlace.{TilePlace}
+use Rattle.tile_place.specs.declared.FoundTile.{FoundTile}
 use Rattle.tile_place.specs.declared.PlaceRead.{PlaceRead}
 use Rattle.tile_place.specs.declared.PlaceRead.the-variants as place-read
 use Rattle.tile_place.proofs.PlaceLaws.{located-ordered}
@@ -47,11 +48,11 @@ use Rattle.tile.specs.Tile.{shownTile, tileRes, collectTile, TileIs}
 use Rattle.tile.specs.declared.Tile.{Tile}
 use Rattle.tile.specs.declared.TileAnswer.the-variants as tile-answer
 use Rattle.tile.specs.declared.TileRead.{TileRead}
-use Rattle.feature_place.specs.FeaturePlace.{Place, pointAt, wayAt, placeRes, placeRefusal, placeIn, featurePlace, pointPlace, wayPlace, behind, tileRefusal, tileStart}
+use Rattle.feature_place.specs.FeaturePlace.{Place, pointAt, wayAt, featurePlaceRes, featurePlaceRefusal, placeIn, featurePlace, pointPlace, wayPlace, behindHead, tileRefusal, tileStart}
 use Rattle.feature_place.specs.declared.FeaturePlace.the-variants as place
 
-pub feature-refused : Taken placeRefusal place.Refused
-feature-refused g e h = taken placeRefusal h refl
+pub feature-refused : Taken featurePlaceRefusal place.Refused
+feature-refused g e h = taken featurePlaceRefusal h refl
 
 pub tile-refused : Taken tileRefusal tile-answer.Refused
 tile-refused g e h = taken tileRefusal h refl
@@ -64,11 +65,7 @@ module _ (l : TileKinds) (m : List ℕ) (at n : ℕ) (g : End) (q : endRes n g �
   points = many (point (l .debug) (l .points)) n m at
 
   pub points-stop : (x y : Refusal) → g ≡ end.Refused x → y ≡ endRefusal g → refused y ≡ pointPlace l m at n
-  points-stop x y h w = ap refused (w ∙ ap endRefusal h) ∙ go points (ap (endRes n) (sym h) ∙ q)
-    where
-      go : (r : Res (List Point)) → refused x ≡ mapRes length r → refused x ≡ andThen r (λ _ e. answer (pointAt e))
-      go (ok ps e) d = no-ok d
-      go (no k v) d = cc
+  points-stop x y h w = ap refused (w ∙ ap endRefusal h) ∙ view-stop length points (λ _ e. answer (pointAt e)) (sym q ∙ ap (endRes n) h)
 
   pub points-end : (k : ℕ) → g ≡ end.At k → answer (pointAt k) ≡ pointPlace l m at n
   points-end k h = go points (ap (endRes n) (sym h) ∙ q)
@@ -83,11 +80,7 @@ module _ (l : TileKinds) (m : List ℕ) (at n : ℕ) (g : WaysRead) (q : waysRes
   ways = many (way (formatOf l)) n m at
 
   pub ways-stop : (x y : Refusal) → g ≡ ways-read.Refused x → y ≡ waysRefusal g → refused y ≡ wayPlace l m at n
-  ways-stop x y h w = ap refused (w ∙ ap waysRefusal h) ∙ go ways (ap waysRes (sym h) ∙ q)
-    where
-      go : (r : Res (List (Way (formatOf l)))) → refused x ≡ mapRes allExact r → refused x ≡ andThen r (λ _ e. answer (wayAt e))
-      go (ok ps e) d = no-ok d
-      go (no k v) d = cc
+  ways-stop x y h w = ap refused (w ∙ ap waysRefusal h) ∙ view-stop allExact ways (λ _ e. answer (wayAt e)) (sym q ∙ ap waysRes h)
 
   pub ways-end : (b : Bool) (k : ℕ) → g ≡ ways-read.Value b k → answer (wayAt k) ≡ wayPlace l m at n
   ways-end b k h = go ways (ap waysRes (sym h) ∙ q)
@@ -98,13 +91,13 @@ module _ (l : TileKinds) (m : List ℕ) (at n : ℕ) (g : WaysRead) (q : waysRes
 
 -- points from 0, ways behind them
 module _ (l : TileKinds) (m : List ℕ) (e points ways offset k : ℕ) (r : Res Place) where
-  pub a-point : k < points → r ≡ pointPlace l m e k → r ≡ behind l m e points ways offset k
+  pub a-point : k < points → r ≡ pointPlace l m e k → r ≡ behindHead l m e points ways offset k
   a-point h q = q ∙ rw (lt-ltb k points h)
 
-  pub a-way : (first : ℕ) → points ≤ k → k - points < ways → first ≡ cut (e + offset) → r ≡ wayPlace l m first (k - points) → r ≡ behind l m e points ways offset k
+  pub a-way : (first : ℕ) → points ≤ k → k - points < ways → first ≡ cut (e + offset) → r ≡ wayPlace l m first (k - points) → r ≡ behindHead l m e points ways offset k
   a-way first h b w q = q ∙ ap (λ a. wayPlace l m a (k - points)) w ∙ rw (le-ltb k points h, lt-ltb (k - points) ways b)
 
-pub no-feature : (l : TileKinds) (m : List ℕ) (e points ways offset k : ℕ) → points ≤ k → ways ≤ k - points → refused InvalidFeature ≡ behind l m e points ways offset k
+pub no-feature : (l : TileKinds) (m : List ℕ) (e points ways offset k : ℕ) → points ≤ k → ways ≤ k - points → refused InvalidFeature ≡ behindHead l m e points ways offset k
 no-feature l m e points ways offset k h b = rw (le-ltb k points h, le-ltb (k - points) ways b)
 
 -- ways that are there start inside the map
@@ -132,7 +125,7 @@ module _ (l : TileKinds) (H : Parser format.TileHead) (m : List ℕ) (small : le
       ap (λ a. wayPlace l m a (k - length (t .points))) (cut-fits (t .start + t .head .offset) (omega arith))
   uncut k false h = refl
 
-  pub behind-is : (k : ℕ) → behind l m (t .start) (length (t .points)) (length (t .ways)) (t .head .offset) k ≡ placeIn F t k m
+  pub behind-is : (k : ℕ) → behindHead l m (t .start) (length (t .points)) (length (t .ways)) (t .head .offset) k ≡ placeIn F t k m
   behind-is k =
       ap (cond (ltb k (length (t .points))) (pointPlace l m (t .start) k))
       (uncut k (ltb (k - length (t .points)) (length (t .ways))) refl)
@@ -153,13 +146,13 @@ module _ (b : Bool) (i : Maybe Interval) (grid : Grid) (number : ℕ) (m : List 
       go (ok a z) d = no-ok d
       go (no n v) d = cc
 
-  module _ (p : TilePlace) (e : g ≡ place-read.At p) (small : length m < 2 ^ 64) (hd : TileHeadRead) (qh : headRes hd ≡ mapRes (headAt (p .«min_zoom») (p .«max_zoom») (p .«max_zoom»)) (intervalHead (p .empty) b (p .«min_zoom») (p .«max_zoom») m (p .at))) where
+  module _ (p : FoundTile) (e : g ≡ place-read.At p) (small : length m < 2 ^ 64) (hd : TileHeadRead) (qh : headRes hd ≡ mapRes (headAt (p .«min_zoom») (p .«max_zoom») (p .«max_zoom»)) (intervalHead (p .empty) b (p .«min_zoom») (p .«max_zoom») m (p .at))) where
     -- the head is that of the tile, whose place may be cut
     seen : (a : Located) (z : ℕ) → place-found ≡ ok a z → p ≡ placeOf a → headRes hd ≡ mapRes (headAt (a .interval .min) (a .interval .max) (a .interval .max)) (headOf a)
     unfolding intervalHead
     seen a z o d =
         qh
-        ∙ ap (λ (c : TilePlace). mapRes (headAt (c .«min_zoom») (c .«max_zoom») (c .«max_zoom»)) (intervalHead (c .empty) b (c .«min_zoom») (c .«max_zoom») m (c .at))) d
+        ∙ ap (λ (c : FoundTile). mapRes (headAt (c .«min_zoom») (c .«max_zoom») (c .«max_zoom»)) (intervalHead (c .empty) b (c .«min_zoom») (c .«max_zoom») m (c .at))) d
         ∙ rw (le-leb (a .interval .min) (a .interval .max) (located-ordered b i grid number m a z o))
         (ap (mapRes (headAt (a .interval .min) (a .interval .max) (a .interval .max))) (head-cut (a .empty) b (rowsOfInterval (a .interval .min) (a .interval .max)) m (a .entry .absolute) small))
 
@@ -223,7 +216,7 @@ module _ (l : TileKinds) (i : Maybe Interval) (grid : Grid) (number k : ℕ) (m 
       go (no n v) d = cc
 
   pub found : (g : End) (n : ℕ) (t : TileRead) (r : Res Place) → endRes tt g ≡ tileStart (l .debug) i grid number m → g ≡ end.At n → length m < 2 ^ 64
-      → TileIs (collectTile l i grid number m) t → t .answer ≡ tile-answer.Collected → r ≡ behind l m n (t .tile .points) (t .tile .ways) (t .tile .«first_way_offset») k → r ≡ featurePlace l i grid number k m
+      → TileIs (collectTile l i grid number m) t → t .answer ≡ tile-answer.Collected → r ≡ behindHead l m n (t .tile .points) (t .tile .ways) (t .tile .«first_way_offset») k → r ≡ featurePlace l i grid number k m
   unfolding collectTile featurePlace tileStart
   found g n t r q e small b c w = go located (ap (endRes tt) (sym e) ∙ q) (ap (λ a. tileRes a (t .tile)) (sym c) ∙ b .answer)
     where
@@ -233,8 +226,8 @@ module _ (l : TileKinds) (i : Maybe Interval) (grid : Grid) (number k : ℕ) (m 
           let C = collected (locatedHead (l .debug) a) (formatOf l) m (tileAt a) st u j in
           let start : n ≡ st .start = ok-at (d ∙ ap passed (C .head)) in
           w
-          ∙ ap (λ (x : Tile). behind l m n (x .points) (x .ways) (x .«first_way_offset») k) (ok-val i)
-          ∙ ap (λ x. behind l m x (length (st .points)) (length (st .ways)) (st .head .offset) k) start
+          ∙ ap (λ (x : Tile). behindHead l m n (x .points) (x .ways) (x .«first_way_offset») k) (ok-val i)
+          ∙ ap (λ x. behindHead l m x (length (st .points)) (length (st .ways)) (st .head .offset) k) start
           ∙ behind-is l (locatedHead (l .debug) a) m small (tileAt a) st u j k
       on a d (no x y) j i = no-ok (sym i)
 

@@ -26,15 +26,15 @@ pub data Place : Type 0 where
   pointAt : ℕ → Place
   wayAt : ℕ → Place
 
-abbrev pub placeRes : FeaturePlace → Res Place
-placeRes (place.Point n) = answer (pointAt n)
-placeRes (place.Way n) = answer (wayAt n)
-placeRes (place.Refused r) = refused r
+abbrev pub featurePlaceRes : FeaturePlace → Res Place
+featurePlaceRes (place.Point n) = answer (pointAt n)
+featurePlaceRes (place.Way n) = answer (wayAt n)
+featurePlaceRes (place.Refused r) = refused r
 
-abbrev pub placeRefusal : FeaturePlace → Refusal
-placeRefusal (place.Point n) = Source
-placeRefusal (place.Way n) = Source
-placeRefusal (place.Refused r) = r
+abbrev pub featurePlaceRefusal : FeaturePlace → Refusal
+featurePlaceRefusal (place.Point n) = Source
+featurePlaceRefusal (place.Way n) = Source
+featurePlaceRefusal (place.Refused r) = r
 
 -- of a collected tile; 17 for a number at or above the count
 abbrev pub placeIn : (F : Format) → StoredTile F → (k : ℕ) → List ℕ → Res Place
@@ -66,8 +66,8 @@ abbrev pub wayPlace : TileKinds → List ℕ → (at n : ℕ) → Res Place
 wayPlace l m at n = andThen (many (way (formatOf l)) n m at) (λ _ x. answer (wayAt x))
 
 -- behind a head that ends at e, in a tile with these counts and this first-way offset
-abbrev pub behind : TileKinds → List ℕ → (e points ways offset k : ℕ) → Res Place
-behind l m e points ways offset k =
+abbrev pub behindHead : TileKinds → List ℕ → (e points ways offset k : ℕ) → Res Place
+behindHead l m e points ways offset k =
     cond (ltb k points) (pointPlace l m e k) (cond (ltb (k - points) ways) (wayPlace l m (cut (e + offset)) (k - points)) (no 17 []))
 
 abbrev pub tileRefusal : TileAnswer → Refusal

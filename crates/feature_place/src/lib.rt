@@ -12,7 +12,7 @@ ghost use mathlib.Core.Path.{_≡_};
 ghost use Rattle.types.specs.Types.{gridOf, endRes};
 ghost use Rattle.index.specs.Answers.{intervalFound};
 ghost use Rattle.tile_layout.specs.TileLayout.{kindsOf};
-ghost use Rattle.feature_place.specs.FeaturePlace.{placeRes, placeRefusal, tileRefusal, pointPlace, wayPlace, behind, tileStart, featurePlace};
+ghost use Rattle.feature_place.specs.FeaturePlace.{featurePlaceRes, featurePlaceRefusal, tileRefusal, pointPlace, wayPlace, behindHead, tileStart, featurePlace};
 
 // Where a point starts, or a way; its signature's place in debug maps.
 pub enum FeaturePlace {
@@ -22,7 +22,7 @@ pub enum FeaturePlace {
 }
 
 pub fn feature_refusal(got: FeaturePlace) -> Refusal
-    ensures { λ r. ⌜ r ≡ placeRefusal got ⌝ }
+    ensures { λ r. ⌜ r ≡ featurePlaceRefusal got ⌝ }
 {
     match got {
         FeaturePlace::Refused(r) => r,
@@ -42,7 +42,7 @@ fn tile_refusal(answer: TileAnswer) -> Refusal
 
 // Behind n points.
 fn point_place(map: &[u8], at: usize, n: u64, layout: TileLayout, letters: &[u8]) -> FeaturePlace
-    ensures { λ r. ⌜ placeRes r ≡ pointPlace (kindsOf layout (now (letters .entry))) (now (map .entry)) at n ⌝ }
+    ensures { λ r. ⌜ featurePlaceRes r ≡ pointPlace (kindsOf layout (now (letters .entry))) (now (map .entry)) at n ⌝ }
 {
     let end = tile_walk::pass_points(map, at, n, layout, letters);
     let End::At(next) = end else {
@@ -53,7 +53,7 @@ fn point_place(map: &[u8], at: usize, n: u64, layout: TileLayout, letters: &[u8]
 
 // Behind n ways.
 fn way_place(map: &[u8], at: usize, n: u64, layout: TileLayout, letters: &[u8]) -> FeaturePlace
-    ensures { λ r. ⌜ placeRes r ≡ wayPlace (kindsOf layout (now (letters .entry))) (now (map .entry)) at n ⌝ }
+    ensures { λ r. ⌜ featurePlaceRes r ≡ wayPlace (kindsOf layout (now (letters .entry))) (now (map .entry)) at n ⌝ }
 {
     let got = tile_walk::measure_ways(map, at, n, layout, letters);
     let WaysRead::Value(_, next) = got else {
@@ -73,7 +73,7 @@ fn behind_head(
     letters: &[u8],
     feature: u64,
 ) -> FeaturePlace
-    ensures { λ r. ⌜ placeRes r ≡ behind (kindsOf layout (now (letters .entry))) (now (map .entry)) start points ways offset feature ⌝ }
+    ensures { λ r. ⌜ featurePlaceRes r ≡ behindHead (kindsOf layout (now (letters .entry))) (now (map .entry)) start points ways offset feature ⌝ }
 {
     if feature < points {
         return point_place(map, start, feature, layout, letters);
@@ -119,7 +119,7 @@ pub fn find_feature(
     tile: usize,
     feature: u64,
 ) -> FeaturePlace
-    ensures { λ r. ⌜ placeRes r ≡ featurePlace (kindsOf layout (now (letters .entry))) (intervalFound found) (gridOf grid) tile feature (now (map .entry)) ⌝ }
+    ensures { λ r. ⌜ featurePlaceRes r ≡ featurePlace (kindsOf layout (now (letters .entry))) (intervalFound found) (gridOf grid) tile feature (now (map .entry)) ⌝ }
 {
     let end = tile_start(map, layout.debug, found, grid, tile);
     let End::At(start) = end else {

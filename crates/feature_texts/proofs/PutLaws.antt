@@ -21,7 +21,7 @@ use Rattle.text.specs.declared.Written.the-variants.{Upto, Refused}
 use Rattle.text.proofs.WrittenLaws.{written-fits, written-short}
 use Rattle.format.specs.Lent.{front, sets-front}
 use Rattle.types.specs.Types.{maybePart}
-use Rattle.fetched.specs.Fetched.{bytesOf, startedName, idTexts}
+use Rattle.fetched.specs.Fetched.{partBytes, startedName, idTexts}
 use Rattle.feature_texts.specs.FeatureTexts.{textsIn, writeTexts}
 use Rattle.feature_texts.specs.declared.TextParts.{TextParts}
 use Rattle.feature_texts.proofs.TextLaws.{texts-are}
@@ -98,13 +98,13 @@ module _ (s : List ℕ) (p : TextParts) (m ids b : List ℕ) (room : length (tex
   strings = idTexts (startedName s (p .tags) m) ids
 
   abbrev name : List ℕ
-  name = bytesOf (maybePart m (p .name))
+  name = partBytes (maybePart m (p .name))
 
   abbrev house : List ℕ
-  house = bytesOf (maybePart m (p .«house_number»))
+  house = partBytes (maybePart m (p .«house_number»))
 
   abbrev reference : List ℕ
-  reference = bytesOf (maybePart m (p .reference))
+  reference = partBytes (maybePart m (p .reference))
 
   all : textsIn s p m ids ≡ strings ++ replaced name ++ replaced house ++ replaced reference
   all = texts-are (startedName s (p .tags) m) ids (maybePart m (p .name)) (maybePart m (p .«house_number»)) (maybePart m (p .reference))

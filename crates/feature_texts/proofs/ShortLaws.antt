@@ -24,7 +24,7 @@ use Rattle.byte_source.specs.BigEndian.{bigEndian}
 use Rattle.tagged.specs.TagIds.{filledIds, tagIds}
 use Rattle.tagged.specs.declared.TagIds.{TagIds}
 use Rattle.fields.proofs.StreamLaws.{Gives, any, gives-bind, gives-return, text-within}
-use Rattle.fetched.specs.Fetched.{bytesOf, foundBytes, startedName, idTexts, present, buffered}
+use Rattle.fetched.specs.Fetched.{partBytes, foundBytes, startedName, idTexts, present, buffered}
 use Rattle.feature_texts.specs.Known.{Stored, PointTexts}
 use Rattle.feature_texts.proofs.TextLaws.{present-bytes}
 
@@ -175,7 +175,7 @@ ids-short s t m (i ∷ ids) =
 present-short : (m : List ℕ) (o : Maybe Part) → Stored m o → length (present o) ≤ 3145728
 present-short m o s =
     let a = ap length (present-bytes o) in
-    let b = replaced-most (bytesOf o) in
+    let b = replaced-most (partBytes o) in
     let c = s .short in
     omega arith
 

@@ -22,7 +22,7 @@ use Rattle.types.specs.declared.TagRange.{TagRange}
 use Rattle.types.specs.Types.{maybePart}
 use Rattle.types.specs.declared.OptionalSpan.{OptionalSpan}
 use Rattle.types.specs.declared.OptionalSpan.the-variants.{Absent, At}
-use Rattle.fetched.specs.Fetched.{bytesOf, foundBytes, startedName, idTexts, present, buffered}
+use Rattle.fetched.specs.Fetched.{partBytes, foundBytes, startedName, idTexts, present, buffered}
 use Rattle.feature_texts.specs.FeatureTexts.{textsIn}
 use Rattle.feature_texts.specs.declared.TextParts.{TextParts}
 
@@ -35,10 +35,10 @@ module _ (s : List ℕ) (t : TagRange) (m : List ℕ) (i : ℕ) (g : SpanRead) (
   name-found p n b h e = e ∙ ap (λ x. foundBytes (spanRes m x)) (sym h) ∙ ap foundBytes q
 
 -- another text
-pub bytes-at : (m : List ℕ) (o : OptionalSpan) (s : Span) (b : List ℕ) → o ≡ At s → b ≡ spanBytes m s → b ≡ bytesOf (maybePart m o)
+pub bytes-at : (m : List ℕ) (o : OptionalSpan) (s : Span) (b : List ℕ) → o ≡ At s → b ≡ spanBytes m s → b ≡ partBytes (maybePart m o)
 bytes-at m o s b h e = rw h e
 
-pub bytes-absent : (m : List ℕ) (o : OptionalSpan) → o ≡ Absent → [] ≡ bytesOf (maybePart m o)
+pub bytes-absent : (m : List ℕ) (o : OptionalSpan) → o ≡ Absent → [] ≡ partBytes (maybePart m o)
 bytes-absent m o h = rw h
 
 -- lengths, summed
@@ -72,11 +72,11 @@ replaced-nil : replaced [] ≡ []
 unfolding bytesOfAll
 replaced-nil = ap (λ ps. bytesOfAll ps []) (sequences-end [] 0 (omega arith))
 
-pub present-bytes : (o : Maybe Part) → present o ≡ replaced (bytesOf o)
+pub present-bytes : (o : Maybe Part) → present o ≡ replaced (partBytes o)
 present-bytes none = sym replaced-nil
 present-bytes (some p) = refl
 
-pub texts-are : (f : ℕ → List ℕ) (ids : List ℕ) (n h r : Maybe Part) → buffered f ids n h r ≡ idTexts f ids ++ replaced (bytesOf n) ++ replaced (bytesOf h) ++ replaced (bytesOf r)
+pub texts-are : (f : ℕ → List ℕ) (ids : List ℕ) (n h r : Maybe Part) → buffered f ids n h r ≡ idTexts f ids ++ replaced (partBytes n) ++ replaced (partBytes h) ++ replaced (partBytes r)
 texts-are f ids n h r = rw (present-bytes n, present-bytes h, present-bytes r)
 
 -- the sum of four lengths, each cut
@@ -85,10 +85,10 @@ sum-of A B a b x p q r =
     r ∙ ap (λ y. cut (y + b)) p ∙ cut-add A b ∙ ap (λ y. cut (A + y)) q ∙ ap cut (add-comm A (cut B)) ∙ cut-add B A ∙ ap cut (add-comm B A)
 
 pub lengths-sum : (s : List ℕ) (p : TextParts) (m ids : List ℕ) (a b c d x y z : ℕ) → a ≡ cut (length (idTexts (startedName s (p .tags) m) ids))
-    → b ≡ cut (length (replaced (bytesOf (maybePart m (p .name))))) → c ≡ cut (length (replaced (bytesOf (maybePart m (p .«house_number»))))) → d ≡ cut (length (replaced (bytesOf (maybePart m (p .reference)))))
+    → b ≡ cut (length (replaced (partBytes (maybePart m (p .name))))) → c ≡ cut (length (replaced (partBytes (maybePart m (p .«house_number»))))) → d ≡ cut (length (replaced (partBytes (maybePart m (p .reference)))))
     → x ≡ cut (a + b) → y ≡ cut (x + c) → z ≡ cut (y + d) → z ≡ cut (length (textsIn s p m ids))
 lengths-sum s p m ids a b c d x y z ha hb hc hd hx hy hz =
-    four (idTexts (startedName s (p .tags) m) ids) (replaced (bytesOf (maybePart m (p .name)))) (replaced (bytesOf (maybePart m (p .«house_number»)))) (replaced (bytesOf (maybePart m (p .reference)))) ha hb hc hd
+    four (idTexts (startedName s (p .tags) m) ids) (replaced (partBytes (maybePart m (p .name)))) (replaced (partBytes (maybePart m (p .«house_number»)))) (replaced (partBytes (maybePart m (p .reference)))) ha hb hc hd
     ∙ ap (λ l. cut (length l)) (sym (texts-are (startedName s (p .tags) m) ids (maybePart m (p .name)) (maybePart m (p .«house_number»)) (maybePart m (p .reference))))
   where
     four : (A B C D : List ℕ) → a ≡ cut (length A) → b ≡ cut (length B) → c ≡ cut (length C) → d ≡ cut (length D) → z ≡ cut (length (A ++ B ++ C ++ D))

@@ -6,12 +6,12 @@ use lib.ListN.{length}
 use Rattle.parsing.specs.Parse.{Part, Maybe}
 use Rattle.format.specs.Tile.{Point}
 use Rattle.types.specs.Types.{optionalSpan, maybePart}
-use Rattle.fetched.specs.Fetched.{bytesOf}
+use Rattle.fetched.specs.Fetched.{partBytes}
 
 -- a text as the code holds it is the stored one
 pub record Stored (m : List ℕ) (o : Maybe Part) : Type 0 where
   pub same : maybePart m (optionalSpan o) ≡ o
-  pub short : length (bytesOf o) ≤ 2 ^ 20
+  pub short : length (partBytes o) ≤ 2 ^ 20
 
 pub record PointTexts (m : List ℕ) (p : Point) : Type 0 where
   pub few : length (p .tagged .ids) ≤ 15

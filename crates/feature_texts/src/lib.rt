@@ -11,7 +11,7 @@ ghost use lib.Seq.{sets};
 ghost use Rattle.arithmetic.specs.Cut.{cut};
 ghost use Rattle.text.specs.Utf8.{replaced};
 ghost use Rattle.types.specs.Types.{maybePart};
-ghost use Rattle.fetched.specs.Fetched.{bytesOf, startedName, idTexts};
+ghost use Rattle.fetched.specs.Fetched.{partBytes, startedName, idTexts};
 ghost use Rattle.feature_texts.specs.FeatureTexts.{textsIn, writeTexts};
 
 // What a feature's texts are made of.
@@ -35,7 +35,7 @@ pub fn tag_name<'a>(map: &'a [u8], starts: &[u64], tags: TagRange, id: u64) -> &
 
 // The stored bytes of a text; none where it is absent.
 pub fn optional_bytes(map: &[u8], text: OptionalSpan) -> &[u8]
-    ensures { λ r. ⌜ now r ≡ bytesOf (maybePart (now (map .entry)) text) ⌝ }
+    ensures { λ r. ⌜ now r ≡ partBytes (maybePart (now (map .entry)) text) ⌝ }
 {
     let OptionalSpan::At(span) = text else {
         return &map[..0];

@@ -10,7 +10,7 @@ use Rattle.error.specs.declared.LentRefusal.{LentRefusal}
 use Rattle.format.specs.Lent.{front, sets-front}
 use Rattle.types.specs.declared.OptionalPosition.{OptionalPosition}
 use Rattle.types.specs.declared.OptionalSpan.{OptionalSpan}
-use Rattle.blocks.specs.declared.ZoomRow.{ZoomRow}
+use Rattle.zoom_table.specs.declared.ZoomRow.{ZoomRow}
 use Rattle.poi.specs.declared.OptionalElevation.{OptionalElevation}
 use Rattle.tile.specs.Tile.{rowPoints, rowWays}
 use Rattle.tile.specs.declared.TileSummary.{TileSummary}

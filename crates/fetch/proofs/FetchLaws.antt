@@ -31,7 +31,7 @@ use Rattle.agreement.proofs.Chain.{Chain, stop, link}
 use Rattle.agreement.proofs.TileAgrees as tile
 use Rattle.tile_layout.specs.TileLayout.{kindsOf, formatOf}
 use Rattle.tile_layout.specs.declared.TileLayout.{TileLayout}
-use Rattle.feature_place.specs.FeaturePlace.{Place, pointAt, wayAt, placeRes, placeIn, featurePlace}
+use Rattle.feature_place.specs.FeaturePlace.{Place, pointAt, wayAt, featurePlaceRes, placeIn, featurePlace}
 use Rattle.feature_place.specs.declared.FeaturePlace.{FeaturePlace}
 use Rattle.feature_place.specs.declared.FeaturePlace.the-variants as place
 use Rattle.fetched.specs.Fetched.{startedName, buffered, FetchLists, Fetched, fetchedPoint, poiLists, fetchedWay, fitsAll, FetchReply, deliverAll, endRes, FetchIs}
@@ -270,9 +270,9 @@ module _ (l : TileLayout) (starts letters : List ℕ) (i : Maybe Interval) (grid
       subst (λ (x : Res (Fetched Feature)). FeatureIs x lists r left)
       (ap (λ x. answered (andThen x (λ p _. readAt l starts letters p m))) q ∙ fetched-is) f
 
-  module _ (g : FeaturePlace) (r : Fetch) (q : placeRes g ≡ featurePlace (kindsOf l letters) i grid number k m) (w : End) (f : w ≡ wayEnd g) (c : List ℕ) (la lo il io : List Float) (b : List ℕ) where
+  module _ (g : FeaturePlace) (r : Fetch) (q : featurePlaceRes g ≡ featurePlace (kindsOf l letters) i grid number k m) (w : End) (f : w ≡ wayEnd g) (c : List ℕ) (la lo il io : List Float) (b : List ℕ) where
     pub other-fetched : (x : Refusal) (left : List ℕ) → w ≡ end.Refused x → OtherAt l starts letters g m b r left → FeatureIs (fetchTile l starts letters i grid number k m) (lent c la lo il io b) r (lent c la lo il io left)
-    other-fetched x left d o = feature-is (placeRes g) (lent c la lo il io b) (lent c la lo il io left) r q (o .each x (sym f ∙ d) c la lo il io)
+    other-fetched x left d o = feature-is (featurePlaceRes g) (lent c la lo il io b) (lent c la lo il io left) r q (o .each x (sym f ∙ d) c la lo il io)
 
     pub way-fetched : (at : ℕ) (y : WayFetch) (left : FetchLists) → w ≡ end.At at → WayFetchIs (wayStored (l .debug) starts letters (l .«way_tags») m at) (lent c la lo il io b) y left → r ≡ ofWay y
         → FeatureIs (fetchTile l starts letters i grid number k m) (lent c la lo il io b) r left
@@ -287,7 +287,7 @@ module _ (l : TileLayout) (starts letters : List ℕ) (i : Maybe Interval) (grid
         placeAt (end.At n) = n
         placeAt (end.Refused x) = 0
 
-        there : (p : FeaturePlace) → wayEnd p ≡ end.At at → placeRes p ≡ answer (wayAt at)
+        there : (p : FeaturePlace) → wayEnd p ≡ end.At at → featurePlaceRes p ≡ answer (wayAt at)
         there (place.Point n) d = let z = ap isAt d in absurd (omega arith)
         there (place.Way n) d = ap (λ a. answer (wayAt a)) (ap placeAt d)
         there (place.Refused x) d = let z = ap isAt d in absurd (omega arith)

@@ -22,7 +22,7 @@ use Rattle.agreement.specs.Collected as collected
 use Rattle.agreement.specs.Collected.{storedCollection, storedTile, collect}
 use Rattle.tile_layout.specs.TileLayout.{kindsOf, formatOf}
 use Rattle.tile_layout.specs.declared.TileLayout.{TileLayout}
-use Rattle.feature_place.specs.FeaturePlace.{Place, pointAt, wayAt, placeRes}
+use Rattle.feature_place.specs.FeaturePlace.{Place, pointAt, wayAt, featurePlaceRes}
 use Rattle.feature_place.specs.declared.FeaturePlace.{FeaturePlace}
 use Rattle.feature_place.specs.declared.FeaturePlace.the-variants as place
 use Rattle.fetched.specs.Fetched.{startedName, FetchLists, Fetched, fetchedPoint, fetchedWay, FetchReply, deliverAll}
@@ -120,4 +120,4 @@ wayEnd (place.Refused r) = end.Refused Source
 
 -- a place that is no way's: the lists keep their values
 pub record OtherAt (l : TileLayout) (starts letters : List ℕ) (p : FeaturePlace) (m buffer : List ℕ) (r : Fetch) (left : List ℕ) : Type 0 where
-  pub each : (x : Refusal) → wayEnd p ≡ end.Refused x → (c : List ℕ) (la lo il io : List Float) → FetchedAt l starts letters (placeRes p) m (lent c la lo il io buffer) r (lent c la lo il io left)
+  pub each : (x : Refusal) → wayEnd p ≡ end.Refused x → (c : List ℕ) (la lo il io : List Float) → FetchedAt l starts letters (featurePlaceRes p) m (lent c la lo il io buffer) r (lent c la lo il io left)

@@ -37,12 +37,12 @@ use Rattle.fetched.specs.declared.FetchedPoi.{FetchedPoi}
 use Rattle.fetched.specs.declared.FetchedWay.{FetchedWay}
 
 -- the name of an id: of a list of names, or the text at its listed start
-abbrev pub bytesOf : Maybe Part → List ℕ
-bytesOf none = []
-bytesOf (some p) = p .bytes
+abbrev pub partBytes : Maybe Part → List ℕ
+partBytes none = []
+partBytes (some p) = p .bytes
 
 abbrev pub listedName : List Part → ℕ → List ℕ
-listedName names i = bytesOf (nth names i)
+listedName names i = partBytes (nth names i)
 
 -- where no text stands, the name is empty; where lists were filled from the map by opening, every name is there
 abbrev pub foundBytes : Res Part → List ℕ

@@ -6,7 +6,7 @@ use mathlib.Core.Bool.{Bool, true, false}
 use mathlib.Core.List.{List, [], _∷_}
 use lib.IntN.{ℤ, pos, negsuc}
 use Rattle.parsing.specs.Parse.{ok, no, part}
-use Rattle.byte_source.specs.BigEndian.{valueOf, bigEndian}
+use Rattle.byte_source.specs.BigEndian.{bigEndianOf, bigEndian}
 use Rattle.utils.specs.Vbe.{groups, unsigned, signed, coordinate, text}
 use Rattle.text.specs.Utf8.{follow, sequenceBy, sequencesFrom, allChars, valid, codesOf, codePoints, bytesOfAll, replaced}
 use Rattle.text.specs.Hash.{hashFrom, hash}
@@ -84,7 +84,7 @@ figures =
     ∷ []
 
 pub figures-hold : AllHold figures
-unfolding groups unsigned signed coordinate text part follow sequenceBy sequencesFrom allChars codesOf bytesOfAll hashFrom equalsAt letterAfter valueOf bigEndian entry
+unfolding groups unsigned signed coordinate text part follow sequenceBy sequencesFrom allChars codesOf bytesOfAll hashFrom equalsAt letterAfter bigEndianOf bigEndian entry
 figures-hold =
     refl and refl and refl and refl and refl and refl and refl and refl and refl and refl and refl and refl and refl and refl
     and refl and refl and refl and refl and refl and refl and refl and refl and refl and refl and refl and refl and done

@@ -5,7 +5,7 @@ use mathlib.Core.Bool.{Bool, true, false}
 use mathlib.Core.List.{List, [], _∷_}
 use lib.IntN.{pos}
 use Rattle.parsing.specs.Parse.{Res, ok, no, mapRes, none, some}
-use Rattle.byte_source.specs.BigEndian.{valueOf, bigEndian}
+use Rattle.byte_source.specs.BigEndian.{bigEndianOf, bigEndian}
 use Rattle.format.specs.Header.{Interval}
 use Rattle.format.specs.Index.{answer, Grid, gridTiles, entry, nextOffset, Located, locatedEntry, located, locateIn, locate, tileAt}
 use Rattle.format.specs.Rows.{markedHead}
@@ -39,26 +39,26 @@ marked m low high tile = mapRes mark (locate false (some (levels low high)) row 
 
 -- the next entry has the same offset, and water of its own
 tile-0 : marked index 8 9 0 ≡ answer (record { empty = true; water = false; start = 0 })
-unfolding locate locateIn located locatedEntry nextOffset entry gridTiles bigEndian valueOf
+unfolding locate locateIn located locatedEntry nextOffset entry gridTiles bigEndian bigEndianOf
 tile-0 = refl
 
 tile-1 : marked index 8 9 1 ≡ answer (record { empty = false; water = true; start = 20 })
-unfolding locate locateIn located locatedEntry nextOffset entry gridTiles bigEndian valueOf
+unfolding locate locateIn located locatedEntry nextOffset entry gridTiles bigEndian bigEndianOf
 tile-1 = refl
 
 -- the last tile: its offset is the sub file's size, and the map ends behind its entry
 tile-2 : marked index 8 9 2 ≡ answer (record { empty = true; water = false; start = 0 })
-unfolding locate locateIn located locatedEntry nextOffset entry gridTiles bigEndian valueOf
+unfolding locate locateIn located locatedEntry nextOffset entry gridTiles bigEndian bigEndianOf
 tile-2 = refl
 
 -- the next entry is cut off: 19, by its own place; so it is for a tile that is not empty, and before 13
 cut-off : marked short 9 8 0 ≡ no 19 (5 ∷ [])
-unfolding locate locateIn located locatedEntry nextOffset entry gridTiles bigEndian valueOf
+unfolding locate locateIn located locatedEntry nextOffset entry gridTiles bigEndian bigEndianOf
 cut-off = refl
 
 -- a reversed interval is refused though the tile is marked empty
 reversed : marked index 9 8 0 ≡ no 13 []
-unfolding locate locateIn located locatedEntry nextOffset entry gridTiles bigEndian valueOf
+unfolding locate locateIn located locatedEntry nextOffset entry gridTiles bigEndian bigEndianOf
 reversed = refl
 
 -- an empty tile has a zero row for each level, and no signature in a debug map

@@ -100,12 +100,12 @@ abbrev pub ofTile : {A : Type 0} → Grid → (tile : ℕ) → ((tiles : ℕ) �
 ofTile g tile p m i = andThen (gridTiles g) (λ n _. cond (ltb tile n) (p n m i) (no 8 []))
 
 -- grid (14), tile (8), entry (19), in the sub file with this start; d is the debug flag
-unfoldable pub entryIn : Bool → ℕ → Grid → ℕ → List ℕ → Res Entry
-entryIn d start g tile m = ofTile g tile (λ _. entry start) m (entryAt d start tile)
+unfoldable pub entryAsked : Bool → ℕ → Grid → ℕ → List ℕ → Res Entry
+entryAsked d start g tile m = ofTile g tile (λ _. entry start) m (entryAt d start tile)
 
 -- sub file (8) first
 unfoldable pub tileIndexEntry : Bool → Maybe Interval → Grid → ℕ → List ℕ → Res Entry
-tileIndexEntry d i g tile m = inSubFile i (no 8 []) (λ z. entryIn d (z .start) g tile m)
+tileIndexEntry d i g tile m = inSubFile i (no 8 []) (λ z. entryAsked d (z .start) g tile m)
 
 -- Where the next tile starts, from the sub file's start (request 5 of document 02): its entry stands right behind the tile's own. For
 -- the last tile it is the sub file's size, and no next entry is read.

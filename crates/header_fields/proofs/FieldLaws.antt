@@ -28,13 +28,13 @@ use Rattle.byte_source.proofs.ReadLaws.{Taken, Passes, Stops, stop, taken}
 use Rattle.format.specs.Header.{same}
 use Rattle.format.specs.WayData.{Node}
 use Rattle.types.proofs.TypeLaws as types
-use Rattle.header_fields.specs.Fields.{placeOf, placeRes, placeRefusal, boxOf, boxRes, boxRefusal, preambleOf, preambleRes, preambleRefusal}
+use Rattle.header_fields.specs.Fields.{placeOf, storedPlaceRes, storedPlaceRefusal, boxOf, boxRes, boxRefusal, preambleOf, preambleRes, preambleRefusal}
 use Rattle.header_fields.specs.declared.StoredPositionRead.the-variants as position
 use Rattle.header_fields.specs.declared.StoredBoxRead.the-variants as box
 use Rattle.header_fields.specs.declared.PreambleRead.the-variants as preamble
 
-pub place-refused : Taken placeRefusal position.Refused
-place-refused g e h = taken placeRefusal h refl
+pub place-refused : Taken storedPlaceRefusal position.Refused
+place-refused g e h = taken storedPlaceRefusal h refl
 
 pub box-refused : Taken boxRefusal box.Refused
 box-refused g e h = taken boxRefusal h refl
@@ -111,11 +111,11 @@ module _ {B : Type 0} (m : List ℕ) (n at : ℕ) where
   chunk-no g e′ e f q h p = ap refused (p ∙ ap spanRefusal h) ∙ view-stop (partAt at n) (chunk n m at) f (sym q ∙ ap (spanRes m) h)
 
 module _ {B : Type 0} where
-  pub place-ok : Passes B placeRes placeOf position.Value
-  place-ok g v n r f x e h p = step placeRes r f e h p
+  pub place-ok : Passes B storedPlaceRes placeOf position.Value
+  place-ok g v n r f x e h p = step storedPlaceRes r f e h p
 
-  pub place-no : Stops B placeRes placeRefusal position.Refused
-  place-no g e′ e r f q h p = stop placeRes placeRefusal r f q h p refl refl
+  pub place-no : Stops B storedPlaceRes storedPlaceRefusal position.Refused
+  place-no g e′ e r f q h p = stop storedPlaceRes storedPlaceRefusal r f q h p refl refl
 
   pub box-ok : Passes B boxRes boxOf box.Value
   box-ok g v n r f x e h p = step boxRes r f e h p

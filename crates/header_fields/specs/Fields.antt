@@ -19,13 +19,13 @@ use Rattle.header_fields.specs.declared.PreambleRead.the-variants as pre
 abbrev pub placeOf : StoredPosition → Node
 placeOf p = record { latitude = p .latitude .0; longitude = p .longitude .0 }
 
-abbrev pub placeRes : StoredPositionRead → Res Node
-placeRes (position.Value p n) = ok (placeOf p) n
-placeRes (position.Refused r) = refused r
+abbrev pub storedPlaceRes : StoredPositionRead → Res Node
+storedPlaceRes (position.Value p n) = ok (placeOf p) n
+storedPlaceRes (position.Refused r) = refused r
 
-abbrev pub placeRefusal : StoredPositionRead → Refusal
-placeRefusal (position.Value p n) = Source
-placeRefusal (position.Refused r) = r
+abbrev pub storedPlaceRefusal : StoredPositionRead → Refusal
+storedPlaceRefusal (position.Value p n) = Source
+storedPlaceRefusal (position.Refused r) = r
 
 abbrev pub boxOf : StoredBox → Box
 boxOf b = record { min = placeOf (b .min); max = placeOf (b .max) }

@@ -9,7 +9,7 @@ ghost use mathlib.Core.Path.{_≡_};
 ghost use mathlib.Core.Bool.{_&&_};
 ghost use lib.Signed.{leZ};
 ghost use Rattle.format.specs.Header.{same, versioned, preamble, place, box, between, onEarth, validBox};
-ghost use Rattle.header_fields.specs.Fields.{placeOf, placeRes, placeRefusal, boxRes, boxRefusal, preambleRes, preambleRefusal};
+ghost use Rattle.header_fields.specs.Fields.{placeOf, storedPlaceRes, storedPlaceRefusal, boxRes, boxRefusal, preambleRes, preambleRefusal};
 
 // A position as stored.
 pub struct StoredPosition {
@@ -45,7 +45,7 @@ pub enum PreambleRead {
 }
 
 pub fn position_refusal(got: StoredPositionRead) -> Refusal
-    ensures { λ r. ⌜ r ≡ placeRefusal got ⌝ }
+    ensures { λ r. ⌜ r ≡ storedPlaceRefusal got ⌝ }
 {
     match got {
         StoredPositionRead::Refused(r) => r,
@@ -146,7 +146,7 @@ fn microdegrees_of(v: i32) -> Microdegrees
 
 // Latitude, then longitude, 32 bits each.
 pub fn read_position(map: &[u8], at: usize) -> StoredPositionRead
-    ensures { λ r. ⌜ placeRes r ≡ place (now (map .entry)) at ⌝ }
+    ensures { λ r. ⌜ storedPlaceRes r ≡ place (now (map .entry)) at ⌝ }
 {
     let got = byte_source::read_i32_be(map, at);
     let IntRead::Value(y, at) = got else {

@@ -19,7 +19,7 @@ use Rattle.questions.specs.Answers.{answered, refusalWords}
 use Rattle.header_words.specs.Index.{none, some, subFileWords, countWords, indexWords, entryWords}
 
 module _ (r : Words) where
-  pub file-no : (g : SubFile) → g ≡ files.None → r ≡ none → r ≡ subFileWords g
+  pub file-no : (g : SubFile) → g ≡ files.Absent → r ≡ none → r ≡ subFileWords g
   unfolding subFileWords
   file-no g h e = e ∙ ap subFileWords (sym h)
 
@@ -27,7 +27,7 @@ module _ (r : Words) where
   unfolding subFileWords
   file-yes g k h e = e ∙ ap subFileWords (sym h)
 
-  pub count-no : (g : CountRead) → g ≡ counts.Missing → r ≡ none → r ≡ countWords g
+  pub count-no : (g : CountRead) → g ≡ counts.Absent → r ≡ none → r ≡ countWords g
   unfolding countWords
   count-no g h e = e ∙ ap countWords (sym h)
 
@@ -39,7 +39,7 @@ module _ (r : Words) where
   unfolding countWords
   count-refused g q h e = e ∙ ap countWords (sym h)
 
-  pub place-no : (g : IndexRead) → g ≡ places.Missing → r ≡ none → r ≡ indexWords g
+  pub place-no : (g : IndexRead) → g ≡ places.Absent → r ≡ none → r ≡ indexWords g
   unfolding indexWords
   place-no g h e = e ∙ ap indexWords (sym h)
 

@@ -21,16 +21,16 @@ abbrev pub some : ℕ → Words
 some k = answered (1 ∷ k ∷ [])
 
 unfoldable pub subFileWords : SubFile → Words
-subFileWords files.None = none
+subFileWords files.Absent = none
 subFileWords (files.At k) = some k
 
 unfoldable pub countWords : CountRead → Words
-countWords counts.Missing = none
+countWords counts.Absent = none
 countWords (counts.Count n) = some n
 countWords (counts.Refused r) = refusalWords r
 
 unfoldable pub indexWords : IndexRead → Words
-indexWords places.Missing = none
+indexWords places.Absent = none
 indexWords (places.At n) = some n
 indexWords (places.Refused r) = refusalWords r
 

@@ -87,7 +87,7 @@ pub fn sub_file_words(got: SubFile) -> Words
     ensures { λ r. ⌜ r ≡ subFileWords got ⌝ }
 {
     match got {
-        SubFile::None => questions::one(0),
+        SubFile::Absent => questions::one(0),
         SubFile::At(k) => questions::two(1, k as u64),
     }
 }
@@ -96,7 +96,7 @@ pub fn count_words(got: CountRead) -> Words
     ensures { λ r. ⌜ r ≡ countWords got ⌝ }
 {
     match got {
-        CountRead::Missing => questions::one(0),
+        CountRead::Absent => questions::one(0),
         CountRead::Count(n) => questions::two(1, n as u64),
         CountRead::Refused(r) => questions::refusal_words(r),
     }
@@ -106,7 +106,7 @@ pub fn index_words(got: IndexRead) -> Words
     ensures { λ r. ⌜ r ≡ indexWords got ⌝ }
 {
     match got {
-        IndexRead::Missing => questions::one(0),
+        IndexRead::Absent => questions::one(0),
         IndexRead::At(n) => questions::two(1, n as u64),
         IndexRead::Refused(r) => questions::refusal_words(r),
     }

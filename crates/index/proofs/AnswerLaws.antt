@@ -36,7 +36,7 @@ module _ {B : Type 0} where
   pub interval-at : (g : IntervalRead) (z : ZoomInterval) (q : Res B) (f : Interval → Res B) (x : Res B) → g ≡ interval.At z → x ≡ f (intervalOf z) → x ≡ inSubFile (intervalFound g) q f
   interval-at g z q f x h p = p ∙ ap (λ s. inSubFile (intervalFound s) q f) (sym h)
 
-  pub interval-missing : (g : IntervalRead) (q : Res B) (f : Interval → Res B) (x : Res B) → g ≡ interval.Missing → x ≡ q → x ≡ inSubFile (intervalFound g) q f
+  pub interval-missing : (g : IntervalRead) (q : Res B) (f : Interval → Res B) (x : Res B) → g ≡ interval.Absent → x ≡ q → x ≡ inSubFile (intervalFound g) q f
   interval-missing g q f x h p = p ∙ ap (λ s. inSubFile (intervalFound s) q f) (sym h)
 
   -- a definition over a sub file, put through another

@@ -22,7 +22,7 @@ use Rattle.byte_source.specs.BigEndian.{bigEndian}
 use Rattle.byte_source.specs.declared.NumberRead.{NumberRead}
 use Rattle.byte_source.specs.declared.NumberRead.the-variants as number
 use Rattle.byte_source.proofs.ByteLaws.{bigEndian-end}
-use Rattle.format.specs.Index.{Grid as TileGrid, gridTiles, Entry, entry, entryAt, entryIn, tileIndexEntry}
+use Rattle.format.specs.Index.{Grid as TileGrid, gridTiles, Entry, entry, entryAt, entryAsked, tileIndexEntry}
 use Rattle.types.specs.declared.ZoomInterval.{ZoomInterval}
 use Rattle.index.specs.Answers.{intervalFound, gridRes, gridRefusal, heldEntry, heldRes, entryRes, entryRefusal}
 use Rattle.index.specs.declared.TileIndexEntry.{TileIndexEntry}
@@ -80,28 +80,28 @@ entry-cut m start place at x l h e = e ∙ ap heldRes (ap (entry start m) h ∙ 
 
 -- the entry of a tile, by the answer of its grid
 module _ (d : Bool) (start : ℕ) (g : TileGrid) (tile : ℕ) (m : List ℕ) (r : GridRead) (q : gridRes r ≡ gridTiles g) where
-  tiles-by : (r′ : GridRead) → r ≡ r′ → heldRes (andThen (gridRes r′) (λ n _. cond (ltb tile n) (entry start m (entryAt d start tile)) (no 8 []))) ≡ heldRes (entryIn d start g tile m)
-  unfolding entryIn
+  tiles-by : (r′ : GridRead) → r ≡ r′ → heldRes (andThen (gridRes r′) (λ n _. cond (ltb tile n) (entry start m (entryAt d start tile)) (no 8 []))) ≡ heldRes (entryAsked d start g tile m)
+  unfolding entryAsked
   tiles-by r′ h = ap (λ x. heldRes (andThen x (λ n _. cond (ltb tile n) (entry start m (entryAt d start tile)) (no 8 [])))) (ap gridRes (sym h) ∙ q)
 
-  pub in-refused : (e′ e : Refusal) → r ≡ grid.Refused e → e′ ≡ gridRefusal r → refused e′ ≡ heldRes (entryIn d start g tile m)
+  pub in-refused : (e′ e : Refusal) → r ≡ grid.Refused e → e′ ≡ gridRefusal r → refused e′ ≡ heldRes (entryAsked d start g tile m)
   in-refused e′ e h p = ap refused (p ∙ ap gridRefusal h) ∙ tiles-by (grid.Refused e) h
 
-  pub in-past : (n : ℕ) → r ≡ grid.Tiles n → n ≤ tile → no 8 [] ≡ heldRes (entryIn d start g tile m)
+  pub in-past : (n : ℕ) → r ≡ grid.Tiles n → n ≤ tile → no 8 [] ≡ heldRes (entryAsked d start g tile m)
   in-past n h k = ap (λ c. heldRes (cond c (entry start m (entryAt d start tile)) (no 8 []))) (sym (le-ltb tile n k)) ∙ tiles-by (grid.Tiles n) h
 
-  pub in-read : (n : ℕ) (x : Res TileIndexEntry) → r ≡ grid.Tiles n → tile < n → x ≡ heldRes (entry start m (entryAt d start tile)) → x ≡ heldRes (entryIn d start g tile m)
+  pub in-read : (n : ℕ) (x : Res TileIndexEntry) → r ≡ grid.Tiles n → tile < n → x ≡ heldRes (entry start m (entryAt d start tile)) → x ≡ heldRes (entryAsked d start g tile m)
   in-read n x h k e =
       e
       ∙ ap (λ c. heldRes (cond c (entry start m (entryAt d start tile)) (no 8 []))) (sym (lt-ltb tile n k)) ∙ tiles-by (grid.Tiles n) h
 
 -- the same by its interval
 module _ (d : Bool) (g : TileGrid) (tile : ℕ) (m : List ℕ) (f : IntervalRead) where
-  pub entry-missing : f ≡ interval.Missing → no 8 [] ≡ heldRes (tileIndexEntry d (intervalFound f) g tile m)
+  pub entry-missing : f ≡ interval.Absent → no 8 [] ≡ heldRes (tileIndexEntry d (intervalFound f) g tile m)
   unfolding tileIndexEntry
   entry-missing h = ap (λ x. heldRes (tileIndexEntry d (intervalFound x) g tile m)) (sym h)
 
-  pub entry-found : (z : ZoomInterval) (x : Res TileIndexEntry) → f ≡ interval.At z → x ≡ heldRes (entryIn d (z .«sub_file_start») g tile m) → x ≡ heldRes (tileIndexEntry d (intervalFound f) g tile m)
+  pub entry-found : (z : ZoomInterval) (x : Res TileIndexEntry) → f ≡ interval.At z → x ≡ heldRes (entryAsked d (z .«sub_file_start») g tile m) → x ≡ heldRes (tileIndexEntry d (intervalFound f) g tile m)
   unfolding tileIndexEntry
   entry-found z x h p = p ∙ ap (λ y. heldRes (tileIndexEntry d (intervalFound y) g tile m)) (sym h)
 

@@ -24,11 +24,11 @@ use Rattle.index.specs.declared.EntryRead.{EntryRead}
 use Rattle.index.specs.declared.EntryRead.the-variants as entry
 
 abbrev pub subFileNumber : SubFile → Maybe ℕ
-subFileNumber sub.None = none
+subFileNumber sub.Absent = none
 subFileNumber (sub.At k) = some k
 
 abbrev pub intervalFound : IntervalRead → Maybe Interval
-intervalFound interval.Missing = none
+intervalFound interval.Absent = none
 intervalFound (interval.At z) = some (intervalOf z)
 
 abbrev pub gridRes : GridRead → Res ℕ
@@ -40,12 +40,12 @@ gridRefusal (grid.Tiles n) = Source
 gridRefusal (grid.Refused r) = r
 
 abbrev pub countRes : CountRead → Res (Maybe ℕ)
-countRes count.Missing = answer none
+countRes count.Absent = answer none
 countRes (count.Count n) = answer (some n)
 countRes (count.Refused r) = refused r
 
 abbrev pub indexRes : IndexRead → Res (Maybe ℕ)
-indexRes index.Missing = answer none
+indexRes index.Absent = answer none
 indexRes (index.At k) = answer (some k)
 indexRes (index.Refused r) = refused r
 

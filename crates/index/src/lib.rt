@@ -12,19 +12,19 @@ ghost use lib.Signed.{leZ};
 ghost use Rattle.arithmetic.specs.Cut.{cut};
 ghost use Rattle.parsing.specs.Parse.{nth};
 ghost use Rattle.format.specs.Header.{between};
-ghost use Rattle.format.specs.Index.{holdsZoom, subFileForZoom, width, gridTiles, tileCount, inGrid, rowMajor, gridIndex, tileIndexOf, entry, entryAt, entryIn, tileIndexEntry};
+ghost use Rattle.format.specs.Index.{holdsZoom, subFileForZoom, width, gridTiles, tileCount, inGrid, rowMajor, gridIndex, tileIndexOf, entry, entryAt, entryAsked, tileIndexEntry};
 ghost use Rattle.types.specs.Types.{intervalOf, intervalsOf, gridOf};
 ghost use Rattle.index.specs.Asked.{Ordered, Inside};
 ghost use Rattle.index.specs.Answers.{subFileNumber, intervalFound, gridRes, gridRefusal, countRes, indexRes, heldRes, entryRes, entryRefusal};
 
 // The number of a sub file, counted from 0.
 pub enum SubFile {
-    None,
+    Absent,
     At(usize),
 }
 
 pub enum IntervalRead {
-    Missing,
+    Absent,
     At(ZoomInterval),
 }
 
@@ -35,13 +35,13 @@ pub enum GridRead {
 }
 
 pub enum CountRead {
-    Missing,
+    Absent,
     Count(u32),
     Refused(Refusal),
 }
 
 pub enum IndexRead {
-    Missing,
+    Absent,
     At(usize),
     Refused(Refusal),
 }
@@ -82,7 +82,7 @@ pub fn interval_of(header: MapHeader, sub_file: usize) -> IntervalRead
     ensures { λ r. ⌜ intervalFound r ≡ nth (intervalsOf header) «sub_file» ⌝ }
 {
     if header.num_zoom_intervals as usize <= sub_file {
-        return IntervalRead::Missing;
+        return IntervalRead::Absent;
     }
     IntervalRead::At(header.zoom_interval_configuration[sub_file])
 }
@@ -109,7 +109,7 @@ pub fn sub_file_for_zoom(header: MapHeader, zoom: u8) -> SubFile
         }
         i += 1;
     }
-    SubFile::None
+    SubFile::Absent
 }
 
 fn at_most(a: i32, b: i32) -> bool
@@ -159,7 +159,7 @@ pub fn tile_count(found: IntervalRead, grid: Grid) -> CountRead
     ensures { λ r. ⌜ countRes r ≡ tileCount (intervalFound found) (gridOf grid) ⌝ }
 {
     let IntervalRead::At(_) = found else {
-        return CountRead::Missing;
+        return CountRead::Absent;
     };
     let got = grid_tiles(grid);
     let GridRead::Tiles(tiles) = got else {
@@ -205,7 +205,7 @@ fn grid_index(grid: Grid, x: i32, y: i32) -> IndexRead
         return IndexRead::Refused(grid_refusal(got));
     };
     if !in_grid(grid, x, y) {
-        return IndexRead::Missing;
+        return IndexRead::Absent;
     }
     IndexRead::At(row_major(grid, x, y))
 }
@@ -215,7 +215,7 @@ pub fn tile_index_of(found: IntervalRead, grid: Grid, x: i32, y: i32) -> IndexRe
     ensures { λ r. ⌜ indexRes r ≡ tileIndexOf (intervalFound found) (gridOf grid) x y ⌝ }
 {
     let IntervalRead::At(_) = found else {
-        return IndexRead::Missing;
+        return IndexRead::Absent;
     };
     grid_index(grid, x, y)
 }
@@ -265,7 +265,7 @@ pub fn entry_at(map: &[u8], debug: bool, start: u64, tile: u32) -> EntryRead
 
 // The entry of a tile of the sub file with this start.
 pub fn entry_in(map: &[u8], debug: bool, start: u64, grid: Grid, tile: usize) -> EntryRead
-    ensures { λ r. ⌜ entryRes r ≡ heldRes (entryIn debug start (gridOf grid) tile (now (map .entry))) ⌝ }
+    ensures { λ r. ⌜ entryRes r ≡ heldRes (entryAsked debug start (gridOf grid) tile (now (map .entry))) ⌝ }
 {
     let got = grid_tiles(grid);
     let GridRead::Tiles(tiles) = got else {

@@ -28,5 +28,5 @@ pub interval-there : (l : List ℕ) → 0 < getD l 0 0 → interval-read.At (rec
 }) ≡ intervalIn l
 interval-there l h = rw (lt-ltb 0 (getD l 0 0) h)
 
-pub interval-absent : (l : List ℕ) → getD l 0 0 ≤ 0 → interval-read.Missing ≡ intervalIn l
+pub interval-absent : (l : List ℕ) → getD l 0 0 ≤ 0 → interval-read.Absent ≡ intervalIn l
 interval-absent l h = rw (le-ltb 0 (getD l 0 0) h)

@@ -39,13 +39,13 @@ use Rattle.wire.specs.Codecs.{settle, settled, settleLent, settled-lent, truth-
 
 -- sub files, tiles, tags, texts and columns
 abbrev pub countIn : Wire → CountRead
-countIn w = settle count.Refused (there (word w 0 6) count.Missing (count.Count (word w 0 7))) w
+countIn w = settle count.Refused (there (word w 0 6) count.Absent (count.Count (word w 0 7))) w
 
 pub count-back : (w : Wire) → Lent (8 ∷ []) 0 0 w → (a : CountRead) → countIn (countWire w a) ≡ a
 count-back w h a = spread-out (8 ∷ []) 0 0 w h (λ v. countIn (countWire v a) ≡ a) (go a)
   where
     go : (a : CountRead) → countIn (countWire (spreadWire (8 ∷ []) 0 0 w) a) ≡ a
-    go count.Missing = refl
+    go count.Absent = refl
     go (count.Count n) = refl
     go (count.Refused r) = settled count.Refused _ _ _ r
 
@@ -53,13 +53,13 @@ abbrev pub countCodec : (w : Wire) → Lent (8 ∷ []) 0 0 w → Codec (countWir
 countCodec w h = record { decode = countIn; back = count-back w h }
 
 abbrev pub indexIn : Wire → IndexRead
-indexIn w = settle index.Refused (there (word w 0 6) index.Missing (index.At (word w 0 7))) w
+indexIn w = settle index.Refused (there (word w 0 6) index.Absent (index.At (word w 0 7))) w
 
 pub index-back : (w : Wire) → Lent (8 ∷ []) 0 0 w → (a : IndexRead) → indexIn (indexWire w a) ≡ a
 index-back w h a = spread-out (8 ∷ []) 0 0 w h (λ v. indexIn (indexWire v a) ≡ a) (go a)
   where
     go : (a : IndexRead) → indexIn (indexWire (spreadWire (8 ∷ []) 0 0 w) a) ≡ a
-    go index.Missing = refl
+    go index.Absent = refl
     go (index.At n) = refl
     go (index.Refused r) = settled index.Refused _ _ _ r
 
@@ -67,13 +67,13 @@ abbrev pub indexCodec : (w : Wire) → Lent (8 ∷ []) 0 0 w → Codec (indexWir
 indexCodec w h = record { decode = indexIn; back = index-back w h }
 
 abbrev pub subFileIn : Wire → SubFileAnswer
-subFileIn w = settle sub-file.Refused (there (word w 0 6) sub-file.None (sub-file.At (word w 0 7))) w
+subFileIn w = settle sub-file.Refused (there (word w 0 6) sub-file.Absent (sub-file.At (word w 0 7))) w
 
 pub subFile-back : (w : Wire) → Lent (8 ∷ []) 0 0 w → (a : SubFileAnswer) → subFileIn (subFileWire w a) ≡ a
 subFile-back w h a = spread-out (8 ∷ []) 0 0 w h (λ v. subFileIn (subFileWire v a) ≡ a) (go a)
   where
     go : (a : SubFileAnswer) → subFileIn (subFileWire (spreadWire (8 ∷ []) 0 0 w) a) ≡ a
-    go sub-file.None = refl
+    go sub-file.Absent = refl
     go (sub-file.At n) = refl
     go (sub-file.Refused r) = settled sub-file.Refused _ _ _ r
 
@@ -81,13 +81,13 @@ abbrev pub subFileCodec : (w : Wire) → Lent (8 ∷ []) 0 0 w → Codec (subFil
 subFileCodec w h = record { decode = subFileIn; back = subFile-back w h }
 
 abbrev pub intervalAnswerIn : Wire → IntervalAnswer
-intervalAnswerIn w = settle interval.Refused (there (word w 1 0) interval.Missing (interval.At (record { «base_zoom_level» = word w 1 1; «min_zoom_level» = word w 1 2; «max_zoom_level» = word w 1 3; «sub_file_start» = word w 1 4; «sub_file_size» = word w 1 5 }))) w
+intervalAnswerIn w = settle interval.Refused (there (word w 1 0) interval.Absent (interval.At (record { «base_zoom_level» = word w 1 1; «min_zoom_level» = word w 1 2; «max_zoom_level» = word w 1 3; «sub_file_start» = word w 1 4; «sub_file_size» = word w 1 5 }))) w
 
 pub interval-back : (w : Wire) → Lent (6 ∷ 6 ∷ []) 0 0 w → (a : IntervalAnswer) → intervalAnswerIn (intervalWire w a) ≡ a
 interval-back w h a = spread-out (6 ∷ 6 ∷ []) 0 0 w h (λ v. intervalAnswerIn (intervalWire v a) ≡ a) (go a)
   where
     go : (a : IntervalAnswer) → intervalAnswerIn (intervalWire (spreadWire (6 ∷ 6 ∷ []) 0 0 w) a) ≡ a
-    go interval.Missing = refl
+    go interval.Absent = refl
     go (interval.At z) = refl
     go (interval.Refused r) = settled interval.Refused _ _ _ r
 
@@ -105,8 +105,8 @@ interval-taken w h z a b c =
     let t : z .«max_zoom_level» % 256 ≡ z .«max_zoom_level» = omega arith in
     rw (interval-row w h z, x, y, t) refl
 
-pub missing-taken : (w : Wire) → Lent (6 ∷ 6 ∷ []) 0 0 w → intervalIn (listOf (intervalWire w interval.Missing) 1) ≡ interval-read.Missing
-missing-taken w h = spread-out (6 ∷ 6 ∷ []) 0 0 w h (λ v. intervalIn (listOf (intervalWire v interval.Missing) 1) ≡ interval-read.Missing) refl
+pub missing-taken : (w : Wire) → Lent (6 ∷ 6 ∷ []) 0 0 w → intervalIn (listOf (intervalWire w interval.Absent) 1) ≡ interval-read.Absent
+missing-taken w h = spread-out (6 ∷ 6 ∷ []) 0 0 w h (λ v. intervalIn (listOf (intervalWire v interval.Absent) 1) ≡ interval-read.Absent) refl
 
 abbrev pub entryIn : Wire → EntryRead
 entryIn w = settle entry.Refused (entry.Entry (record { «is_water» = truth (word w 0 6); offset = word w 0 7; «offset_abs» = word w 0 8 })) w

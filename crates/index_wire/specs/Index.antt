@@ -41,17 +41,17 @@ abbrev pub putAbsent : Wire → Wire
 putAbsent w = numbered 0 (put 0 6 (0 ∷ []) w)
 
 abbrev pub countWire : (before : Wire) → CountRead → Wire
-countWire w count.Missing = putAbsent w
+countWire w count.Absent = putAbsent w
 countWire w (count.Count n) = putFound n w
 countWire w (count.Refused r) = putRefusal r w
 
 abbrev pub indexWire : (before : Wire) → IndexRead → Wire
-indexWire w index.Missing = putAbsent w
+indexWire w index.Absent = putAbsent w
 indexWire w (index.At n) = putFound n w
 indexWire w (index.Refused r) = putRefusal r w
 
 abbrev pub subFileWire : (before : Wire) → SubFileAnswer → Wire
-subFileWire w sub-file.None = putAbsent w
+subFileWire w sub-file.Absent = putAbsent w
 subFileWire w (sub-file.At n) = putFound n w
 subFileWire w (sub-file.Refused r) = putRefusal r w
 
@@ -60,14 +60,14 @@ abbrev pub intervalRow : ZoomInterval → List ℕ
 intervalRow z = 1 ∷ z .«base_zoom_level» ∷ z .«min_zoom_level» ∷ z .«max_zoom_level» ∷ z .«sub_file_start» ∷ z .«sub_file_size» ∷ []
 
 abbrev pub intervalWire : (before : Wire) → IntervalAnswer → Wire
-intervalWire w interval.Missing = numbered 0 (put 1 0 (0 ∷ []) w)
+intervalWire w interval.Absent = numbered 0 (put 1 0 (0 ∷ []) w)
 intervalWire w (interval.At z) = numbered 0 (put 1 0 (intervalRow z) w)
 intervalWire w (interval.Refused r) = putRefusal r w
 
 -- as it is taken: a zoom is one byte
 abbrev pub intervalIn : List ℕ → IntervalRead
 intervalIn l =
-    there (getD l 0 0) interval-read.Missing
+    there (getD l 0 0) interval-read.Absent
     (interval-read.At (record {
       «base_zoom_level» = getD l 1 0 % 256;
       «min_zoom_level» = getD l 2 0 % 256;

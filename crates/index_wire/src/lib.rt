@@ -41,7 +41,7 @@ pub fn put_count(got: CountRead, words: &mut [u64; 8]) -> u64
     ensures { λ r. ⌜ wire r (now (words .exit) ∷ []) [] [] ≡ countWire (lending (now (words .entry) ∷ []) [] []) got ⌝ }
 {
     match got {
-        CountRead::Missing => put_absent(words),
+        CountRead::Absent => put_absent(words),
         CountRead::Count(n) => put_found(n as u64, words),
         CountRead::Refused(r) => wire::put_refusal(r, words),
     }
@@ -51,7 +51,7 @@ pub fn put_index(got: IndexRead, words: &mut [u64; 8]) -> u64
     ensures { λ r. ⌜ wire r (now (words .exit) ∷ []) [] [] ≡ indexWire (lending (now (words .entry) ∷ []) [] []) got ⌝ }
 {
     match got {
-        IndexRead::Missing => put_absent(words),
+        IndexRead::Absent => put_absent(words),
         IndexRead::At(n) => put_found(n as u64, words),
         IndexRead::Refused(r) => wire::put_refusal(r, words),
     }
@@ -61,7 +61,7 @@ pub fn put_sub_file(got: SubFileAnswer, words: &mut [u64; 8]) -> u64
     ensures { λ r. ⌜ wire r (now (words .exit) ∷ []) [] [] ≡ subFileWire (lending (now (words .entry) ∷ []) [] []) got ⌝ }
 {
     match got {
-        SubFileAnswer::None => put_absent(words),
+        SubFileAnswer::Absent => put_absent(words),
         SubFileAnswer::At(n) => put_found(n as u64, words),
         SubFileAnswer::Refused(r) => wire::put_refusal(r, words),
     }
@@ -72,7 +72,7 @@ pub fn put_interval(got: IntervalAnswer, words: &mut [u64; 6], interval: &mut [u
     ensures { λ r. ⌜ wire r (now (words .exit) ∷ now (interval .exit) ∷ []) [] [] ≡ intervalWire (lending (now (words .entry) ∷ now (interval .entry) ∷ []) [] []) got ⌝ }
 {
     match got {
-        IntervalAnswer::Missing => {
+        IntervalAnswer::Absent => {
             interval[0] = 0;
             0
         }
@@ -101,7 +101,7 @@ pub fn interval_in(words: [u64; 6]) -> IntervalRead
             sub_file_size: words[5],
         });
     }
-    IntervalRead::Missing
+    IntervalRead::Absent
 }
 
 // Whether a tile is water, and where it stands, from the sub file's start and from the map's.

@@ -18,7 +18,7 @@ use Rattle.agreement.specs.Collected as collected
 use Rattle.agreement.specs.Collected.{Way, StoredTile, storedCollection, storedTile, fetch}
 use Rattle.agreement.specs.View.{View, collectedTile}
 use Rattle.agreement.specs.TileFormat.{TileEnd, tileFormat}
-use Rattle.fetched.specs.Fetched.{bytesOf, foundBytes, listedName, startedName, idTexts, present, tagString, filledTexts, Fetched, fetchedPoint, poiRecord, poiLists, fetchedWay, wayRecord, wayLists}
+use Rattle.fetched.specs.Fetched.{partBytes, foundBytes, listedName, startedName, idTexts, present, tagString, filledTexts, Fetched, fetchedPoint, poiRecord, poiLists, fetchedWay, wayRecord, wayLists}
 use Rattle.fetched.specs.declared.TagText.{TagText}
 use Rattle.fetched.specs.declared.FetchedPoi.{FetchedPoi}
 use Rattle.fetched.specs.declared.FetchedWay.{FetchedWay}
@@ -29,7 +29,7 @@ use Rattle.map_agreement.specs.TileView.{tileView, fetchGives}
 pub name-is : (starts m : List ℕ) (r : TagRange) (t : Tags) → ((k : ℕ) → listedText starts (r .first) (r .count) k m ≡ named k (nth (t .texts) k)) → (i : ℕ) → startedName starts r m i ≡ listedName (t .texts) i
 name-is starts m r t q i = ap foundBytes (q i) ∙ go (nth (t .texts) i)
   where
-    go : (r : Maybe Part) → foundBytes (named i r) ≡ bytesOf r
+    go : (r : Maybe Part) → foundBytes (named i r) ≡ partBytes r
     go none = refl
     go (some p) = refl
 

@@ -11,7 +11,7 @@ use Rattle.format.specs.Index.{inSubFile, answered, Grid, entryAt, Located, loc
 use Rattle.format.specs.Rows.{markedHead-good}
 use Rattle.agreement.specs.MapLayout.{MapLaws}
 use Rattle.agreement.proofs.TileFormatLaws.{tile-laws}
-use Rattle.map_agreement.specs.MapsforgeMap.{valueOf, interval, mapsforge}
+use Rattle.map_agreement.specs.MapsforgeMap.{ofInterval, interval, mapsforge}
 use Rattle.map_agreement.proofs.ViewLaws.{tile-view}
 
 entry-good : (g : Grid) (number : ℕ) (r : Maybe Interval) → Good {A = Located} (λ m i. inSubFile r (no 8 []) (λ z. located g number z m i))
@@ -30,7 +30,7 @@ mapsforge-laws s g number = record {
 
 -- the entry as a parser at its place, and as opening and collecting read it
 pub located-at : (g : Grid) (number : ℕ) (d : Bool) (m : List ℕ) (r : Maybe Interval)
-    → inSubFile r (no 8 []) (λ z. locateIn d z g number m) ≡ answered (inSubFile r (no 8 []) (λ z. located g number z m (valueOf 0 (λ z. entryAt d (z .start) number) r)))
+    → inSubFile r (no 8 []) (λ z. locateIn d z g number m) ≡ answered (inSubFile r (no 8 []) (λ z. located g number z m (ofInterval 0 (λ z. entryAt d (z .start) number) r)))
 unfolding locateIn
 located-at g number d m none = refl
 located-at g number d m (some z) = refl

@@ -47,7 +47,7 @@ use Rattle.agreement.specs.Collected as collected
 use Rattle.fetched.specs.Fetched.{startedName, Fetched}
 use Rattle.fetch.specs.Fetch as fetch
 use Rattle.map_agreement.specs.TileView.{tileView}
-use Rattle.map_agreement.specs.MapsforgeMap.{valueOf, interval, lowest, highest, mapsforge}
+use Rattle.map_agreement.specs.MapsforgeMap.{ofInterval, interval, lowest, highest, mapsforge}
 use Rattle.map_agreement.specs.BookSays.{Opens, opens, bookAt, SeesBook}
 use Rattle.map_agreement.proofs.Chain.{shownReplies, called-run}
 use Rattle.map_agreement.proofs.MapLaws.{located-at}
@@ -71,7 +71,7 @@ shown-same debug p w a b (r ∷ rs) = ap (λ l. record { answer = shown (r .answ
 
 -- `tile_index_entry` answers the entry by which the tile is located
 entry-held : (d : Bool) (i : Maybe Interval) (g : Grid) (number : ℕ) (m : List ℕ) (l : Located) → locate d i g number m ≡ answer l → heldRes (index.tileIndexEntry d i g number m) ≡ answer (heldEntry (l .entry))
-unfolding locate locateIn index.tileIndexEntry index.entryIn
+unfolding locate locateIn index.tileIndexEntry index.entryAsked
 entry-held d none g number m l q = no-ok q
 entry-held d (some z) g number m l q =
     let a = split (located g number z m (index.entryAt d (z .start) number)) (λ x _. answer x) l 0 q in
@@ -158,10 +158,10 @@ module _ (s : ℕ) (grid : Grid) (number : ℕ) (h : Header) (lent : TagLists) w
 
     module _ (l : Located) (x : ℕ) (en : C .entry h m (C .entryAt h) ≡ ok l x) where
       low-is : l .interval .min ≡ lowest s grid number h
-      low-is = ap (valueOf 0 (λ z. z .min)) (sym (entry-interval grid number (nth (h .intervals) s) m (C .entryAt h) l x en))
+      low-is = ap (ofInterval 0 (λ z. z .min)) (sym (entry-interval grid number (nth (h .intervals) s) m (C .entryAt h) l x en))
 
       high-is : l .interval .max ≡ highest s grid number h
-      high-is = ap (valueOf 0 (λ z. z .max)) (sym (entry-interval grid number (nth (h .intervals) s) m (C .entryAt h) l x en))
+      high-is = ap (ofInterval 0 (λ z. z .max)) (sym (entry-interval grid number (nth (h .intervals) s) m (C .entryAt h) l x en))
 
       abbrev pub collects : (p w : List Kind) → Res Tile
       collects p w = answered (mapRes shownTile (collect (C .tileHead h l) (tileFormat (debug h) p w) m (C .tileAt h l)))

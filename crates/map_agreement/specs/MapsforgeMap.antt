@@ -14,9 +14,9 @@ use Rattle.agreement.specs.MapLayout.{MapLayout}
 use Rattle.agreement.specs.TileFormat.{tileFormat}
 use Rattle.map_agreement.specs.TileView.{tileView}
 
-abbrev pub valueOf : {A : Type 0} → A → (Interval → A) → Maybe Interval → A
-valueOf d f none = d
-valueOf d f (some z) = f z
+abbrev pub ofInterval : {A : Type 0} → A → (Interval → A) → Maybe Interval → A
+ofInterval d f none = d
+ofInterval d f (some z) = f z
 
 -- where an index signature stands
 abbrev pub signaturePlaces : Header → List ℕ
@@ -27,10 +27,10 @@ module _ (subFile : ℕ) (grid : Grid) (number : ℕ) where
   interval h = nth (h .intervals) subFile
 
   abbrev pub lowest : Header → ℕ
-  lowest h = valueOf 0 (λ z. z .min) (interval h)
+  lowest h = ofInterval 0 (λ z. z .min) (interval h)
 
   abbrev pub highest : Header → ℕ
-  highest h = valueOf 0 (λ z. z .max) (interval h)
+  highest h = ofInterval 0 (λ z. z .max) (interval h)
 
   abbrev pub formatIn : Header → Format
   formatIn h = tileFormat (debug h) (map kindOfText (h .poiTags .texts)) (map kindOfText (h .wayTags .texts))
@@ -43,7 +43,7 @@ module _ (subFile : ℕ) (grid : Grid) (number : ℕ) where
     signature = signature;
     signaturesAt = signaturePlaces;
     entry = λ h m i. inSubFile (interval h) (no 8 []) (λ z. located grid number z m i);
-    entryAt = λ h. valueOf 0 (λ z. entryAt (debug h) (z .start) number) (interval h);
+    entryAt = λ h. ofInterval 0 (λ z. entryAt (debug h) (z .start) number) (interval h);
     tileAt = λ h l. tileAt l;
     tileHead = λ h l. locatedHead (debug h) l;
     format = formatIn;

@@ -12,7 +12,7 @@ use Rattle.error.specs.declared.LentRefusal.{LentRefusal}
 use Rattle.text.specs.declared.Written.{Written}
 use Rattle.text.specs.declared.Written.the-variants.{Upto, Refused}
 use Rattle.text.specs.Utf8.{replaced}
-use Rattle.text.specs.Writing.{Writing, behind, outcome, writing}
+use Rattle.text.specs.Writing.{Writing, placeBehind, outcome, writing}
 use Rattle.text.proofs.WrittenLaws.{written-fits, written-short}
 use Rattle.text.proofs.ReplacedLaws.{replaced-most}
 use Rattle.report.specs.Words.{mixedAll}
@@ -44,7 +44,7 @@ module _ (h : ℕ) (s b b′ : List ℕ) (g : Written) (e : outcome g b′ ≡ w
   kept : b′ ≡ writing s b 0 .buffer
   kept = ap (λ (o : Writing). o .buffer) e
 
-  front-is : (n : ℕ) → n ≡ behind s 0 → n ≤ length b → b′ ≡ sets b 0 (replaced s) → take n b′ ≡ replaced s
+  front-is : (n : ℕ) → n ≡ placeBehind s 0 → n ≤ length b → b′ ≡ sets b 0 (replaced s) → take n b′ ≡ replaced s
   front-is n p l q =
       let k : n ≡ length (replaced s) = omega (arith, zero-add (length (replaced s))) in
       let m : 0 + length (replaced s) ≤ length b = omega (arith, zero-add (length (replaced s))) in

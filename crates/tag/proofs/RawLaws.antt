@@ -12,7 +12,7 @@ use native.Mathlib.Numerals.{add-one}
 use borrow.Author.Tests.{ne-eqb, eqb-true, eqb-false}
 use Rattle.text.specs.declared.Sequence.{Sequence}
 use Rattle.text.specs.declared.Sequence.the-variants.{Char, Ill}
-use Rattle.text.specs.Utf8.{sequence, sizeOf, bytesOf, sequencesFrom, bytesOfAll, replaced}
+use Rattle.text.specs.Utf8.{sequence, sizeOf, sequenceBytes, sequencesFrom, bytesOfAll, replaced}
 use Rattle.text.proofs.ReplacedLaws.{High, sequence-high, sequence-low, size-some, rest, by-sequences, replaced-first, HighBytes, bytes-high, replaced-split}
 use Rattle.tag.specs.declared.Kind.the-variants.{Nothing}
 use Rattle.tag.specs.Tag.{equalsAt, keyOf, valueOf, first, letterAfter, kindOf, kind}
@@ -79,11 +79,11 @@ first-alike b s a = go (decLt b 128)
     go (yes h) =
         let e : sequence b s ≡ Char b 1 = sequence-low b s h in
         let d : rest b s ≡ s = ap (λ r. drop (sizeOf r - 1) s) e in
-        let f : replaced (b ∷ s) ≡ b ∷ replaced s = replaced-first b s ∙ ap (λ r. bytesOf r (b ∷ s) ++ replaced (drop (sizeOf r - 1) s)) e in
+        let f : replaced (b ∷ s) ≡ b ∷ replaced s = replaced-first b s ∙ ap (λ r. sequenceBytes r (b ∷ s) ++ replaced (drop (sizeOf r - 1) s)) e in
         rw f (low-alike b (replaced s) s (rw d at a))
     go (no h) =
         let k : 128 ≤ b = omega arith in
-        let w : HighBytes (bytesOf (sequence b s) (b ∷ s)) = bytes-high (sequence b s) b s (size-some b s) k (sequence-high b s) in
+        let w : HighBytes (sequenceBytes (sequence b s) (b ∷ s)) = bytes-high (sequence b s) b s (size-some b s) k (sequence-high b s) in
         subst₂ Alike (sym (replaced-first b s ∙ ap (λ l. l ++ replaced (rest b s)) (w .is)))
         (ap (λ t. b ∷ t) (take-append-drop (sizeOf (sequence b s) - 1) s))
         (high-alike (w .head) b (w .tail) (take (sizeOf (sequence b s) - 1) s) (replaced (rest b s)) (rest b s) (w .head-high) k (w .tail-high) (sequence-high b s) a)
@@ -114,14 +114,14 @@ no-drop zero s h = h
 no-drop (suc n) [] h = tt
 no-drop (suc n) (x ∷ s) h = no-drop n s (h .1)
 
-no-bytes : (p : Sequence) (s : List ℕ) → No s → No (bytesOf p s)
+no-bytes : (p : Sequence) (s : List ℕ) → No s → No (sequenceBytes p s)
 no-bytes (Char c n) s h = no-take n s h
 no-bytes (Ill n) s h = ((λ e. omega arith), ((λ e. omega arith), ((λ e. omega arith), tt)))
 
 no-first : (b : ℕ) (s : List ℕ) → (No (rest b s) → No (replaced (rest b s))) → No (b ∷ s) → No (replaced (b ∷ s))
 no-first b s f h =
     subst No (sym (replaced-first b s))
-    (no-append (bytesOf (sequence b s) (b ∷ s)) (replaced (rest b s)) (no-bytes (sequence b s) (b ∷ s) h) (f (no-drop (sizeOf (sequence b s) - 1) s (h .1))))
+    (no-append (sequenceBytes (sequence b s) (b ∷ s)) (replaced (rest b s)) (no-bytes (sequence b s) (b ∷ s) h) (f (no-drop (sizeOf (sequence b s) - 1) s (h .1))))
 
 no-replaced : (s : List ℕ) → No s → No (replaced s)
 unfolding sequencesFrom bytesOfAll

@@ -11,7 +11,7 @@ use lib.Seq.{length-take-le, drop-at, take-append-le, drop-append-le}
 use borrow.Author.Tests.{leb-true, lt-leb}
 use Rattle.text.specs.declared.Sequence.{Sequence}
 use Rattle.text.specs.declared.Sequence.the-variants.{Char, Ill}
-use Rattle.text.specs.Utf8.{Row, table, within, follow, sequenceBy, sequence, sizeOf, bytesOf, sequencesFrom, sequences, allChars, valid, codesOf, codePoints, bytesOfAll, replaced}
+use Rattle.text.specs.Utf8.{Row, table, within, follow, sequenceBy, sequence, sizeOf, sequenceBytes, sequencesFrom, sequences, allChars, valid, codesOf, codePoints, bytesOfAll, replaced}
 use Rattle.text.proofs.Utf8Laws.{follow-sized, Lows, by-row, sequence-sized, sequences-skip, sequences-cons, row-here}
 
 -- every byte is 80 or above
@@ -66,11 +66,11 @@ drop-first p b s h = let z : sizeOf p ≡ suc (sizeOf p - 1) = omega arith in ap
 sequences-first : (b : ℕ) (s : List ℕ) → sequences (b ∷ s) ≡ sequence b s ∷ sequences (rest b s)
 sequences-first b s = sequences-cons b s ∙ ap (λ ps. sequence b s ∷ ps) (sequences-skip (sizeOf (sequence b s) - 1) s)
 
-pub replaced-first : (b : ℕ) (s : List ℕ) → replaced (b ∷ s) ≡ bytesOf (sequence b s) (b ∷ s) ++ replaced (rest b s)
+pub replaced-first : (b : ℕ) (s : List ℕ) → replaced (b ∷ s) ≡ sequenceBytes (sequence b s) (b ∷ s) ++ replaced (rest b s)
 unfolding bytesOfAll
 replaced-first b s =
     ap (λ ps. bytesOfAll ps (b ∷ s)) (sequences-first b s)
-    ∙ ap (λ t. bytesOf (sequence b s) (b ∷ s) ++ bytesOfAll (sequences (rest b s)) t) (drop-first (sequence b s) b s (size-some b s))
+    ∙ ap (λ t. sequenceBytes (sequence b s) (b ∷ s) ++ bytesOfAll (sequences (rest b s)) t) (drop-first (sequence b s) b s (size-some b s))
 
 -- what holds of no bytes, and of a text wherever it holds behind its first sequence, holds of every text
 module _ (P : List ℕ → Type 0) (none : P []) (more : (b : ℕ) (s : List ℕ) → P (rest b s) → P (b ∷ s)) where
@@ -84,7 +84,7 @@ module _ (P : List ℕ → Type 0) (none : P []) (more : (b : ℕ) (s : List ℕ
   by-sequences s = by-length (length s) s (omega arith)
 
 -- the replaced text is three times as long at the most
-most : (p : Sequence) (n : ℕ) (t r : List ℕ) → 1 ≤ sizeOf p → sizeOf p ≤ n → length r ≤ 3 * (n - sizeOf p) → length (bytesOf p t ++ r) ≤ 3 * n
+most : (p : Sequence) (n : ℕ) (t r : List ℕ) → 1 ≤ sizeOf p → sizeOf p ≤ n → length r ≤ 3 * (n - sizeOf p) → length (sequenceBytes p t ++ r) ≤ 3 * n
 most (Char c m) n t r h l f = omega (arith, length-append (take m t) r, length-take m t)
 most (Ill m) n t r h l f = omega arith
 
@@ -110,8 +110,8 @@ valid-first b s f e = go (sequence b s) refl
     go : (p : Sequence) → sequence b s ≡ p → replaced (b ∷ s) ≡ b ∷ s
     go (Char c n) q =
         replaced-first b s
-        ∙ ap (λ r. bytesOf (sequence b s) (b ∷ s) ++ r) (f (by-first (Char c n) q) ∙ sym (drop-first (sequence b s) b s (size-some b s)))
-        ∙ ap (λ p. bytesOf p (b ∷ s) ++ drop (sizeOf p) (b ∷ s)) q ∙ take-append-drop n (b ∷ s)
+        ∙ ap (λ r. sequenceBytes (sequence b s) (b ∷ s) ++ r) (f (by-first (Char c n) q) ∙ sym (drop-first (sequence b s) b s (size-some b s)))
+        ∙ ap (λ p. sequenceBytes p (b ∷ s) ++ drop (sizeOf p) (b ∷ s)) q ∙ take-append-drop n (b ∷ s)
     go (Ill n) q =
         let z : false ≡ true = by-first (Ill n) q in
         let y : _≡_ {A = ℕ} 0 1 = cc in
@@ -129,7 +129,7 @@ pub record HighBytes (l : List ℕ) : Type 0 where
   pub head-high : 128 ≤ head
   pub tail-high : High tail
 
-pub bytes-high : (p : Sequence) (b : ℕ) (s : List ℕ) → 1 ≤ sizeOf p → 128 ≤ b → High (take (sizeOf p - 1) s) → HighBytes (bytesOf p (b ∷ s))
+pub bytes-high : (p : Sequence) (b : ℕ) (s : List ℕ) → 1 ≤ sizeOf p → 128 ≤ b → High (take (sizeOf p - 1) s) → HighBytes (sequenceBytes p (b ∷ s))
 bytes-high (Char c n) b s h k f =
     let z : n ≡ suc (n - 1) = omega arith in
     record { head = b; tail = take (n - 1) s; is = ap (λ m. take m (b ∷ s)) z; head-high = k; tail-high = f }
@@ -205,13 +205,13 @@ first-fixed b s f = go (sequence b s) refl
         let h : 1 ≤ n = rw q at (size-some b s) in
         let l : n ≤ 1 + length s = rw q at (sequence-sized b s .1) in
         let z : take n (b ∷ s) ≡ b ∷ take (n - 1) s = ap (λ m. take m (b ∷ s)) (pre n h) in
-        ap sequences (replaced-first b s ∙ ap (λ p. bytesOf p (b ∷ s) ++ R) q ∙ ap (λ t. t ++ R) z)
+        ap sequences (replaced-first b s ∙ ap (λ p. sequenceBytes p (b ∷ s) ++ R) q ∙ ap (λ t. t ++ R) z)
         ∙ again b c n s R q (omega arith) h ∙ ap (λ p. fixed p ∷ sequences R) (sym q) ∙ back
       where
         pre : (m : ℕ) → 1 ≤ m → m ≡ suc (m - 1)
         pre m k = omega arith
     go (Ill n) q =
-        ap sequences (replaced-first b s ∙ ap (λ p. bytesOf p (b ∷ s) ++ R) q)
+        ap sequences (replaced-first b s ∙ ap (λ p. sequenceBytes p (b ∷ s) ++ R) q)
         ∙ fffd R ∙ ap (λ p. fixed p ∷ sequences R) (sym q) ∙ back
 
 sequences-fixed : (s : List ℕ) → sequences (replaced s) ≡ allFixed (sequences s)
@@ -259,21 +259,21 @@ module _ (d : ℕ) (l : d < 128) (v : List ℕ) where
   sequence-stop : (b : ℕ) (s : List ℕ) → sequence b (s ++ (d ∷ v)) ≡ sequence b s
   sequence-stop b s = sequenceBy-stop table b s (omega arith)
 
-  bytes-stop : (p : Sequence) (b : ℕ) (s : List ℕ) → sizeOf p ≤ 1 + length s → bytesOf p (b ∷ (s ++ (d ∷ v))) ≡ bytesOf p (b ∷ s)
+  bytes-stop : (p : Sequence) (b : ℕ) (s : List ℕ) → sizeOf p ≤ 1 + length s → sequenceBytes p (b ∷ (s ++ (d ∷ v))) ≡ sequenceBytes p (b ∷ s)
   bytes-stop (Char c n) b s h = take-append-le n (b ∷ s) (d ∷ v) (omega arith)
   bytes-stop (Ill n) b s h = refl
 
   replaced-low : replaced (d ∷ v) ≡ d ∷ replaced v
-  replaced-low = replaced-first d v ∙ ap (λ p. bytesOf p (d ∷ v) ++ replaced (drop (sizeOf p - 1) v)) (sequence-low d v l)
+  replaced-low = replaced-first d v ∙ ap (λ p. sequenceBytes p (d ∷ v) ++ replaced (drop (sizeOf p - 1) v)) (sequence-low d v l)
 
   first-stop : (b : ℕ) (s : List ℕ) → replaced (rest b s ++ (d ∷ v)) ≡ replaced (rest b s) ++ (d ∷ replaced v) → replaced (b ∷ (s ++ (d ∷ v))) ≡ replaced (b ∷ s) ++ (d ∷ replaced v)
   first-stop b s f =
       let p = sequence b s in
       let h : sizeOf p ≤ 1 + length s = sequence-sized b s .1 in
       replaced-first b (s ++ (d ∷ v))
-      ∙ ap (λ q. bytesOf q (b ∷ (s ++ (d ∷ v))) ++ replaced (drop (sizeOf q - 1) (s ++ (d ∷ v)))) (sequence-stop b s)
+      ∙ ap (λ q. sequenceBytes q (b ∷ (s ++ (d ∷ v))) ++ replaced (drop (sizeOf q - 1) (s ++ (d ∷ v)))) (sequence-stop b s)
       ∙ ap₂ (λ x y. x ++ y) (bytes-stop p b s h) (ap replaced (drop-append-le (sizeOf p - 1) s (d ∷ v) (omega arith)) ∙ f)
-      ∙ sym (append-assoc (bytesOf p (b ∷ s)) (replaced (rest b s)) (d ∷ replaced v))
+      ∙ sym (append-assoc (sequenceBytes p (b ∷ s)) (replaced (rest b s)) (d ∷ replaced v))
       ∙ ap (λ x. x ++ (d ∷ replaced v)) (sym (replaced-first b s))
 
   pub replaced-split : (s : List ℕ) → replaced (s ++ (d ∷ v)) ≡ replaced s ++ (d ∷ replaced v)

@@ -16,8 +16,8 @@ use Rattle.error.specs.Refusals.{lentRefused, shortBuffer}
 use Rattle.arithmetic.specs.Cut.{cut}
 use Rattle.text.specs.declared.Sequence.{Sequence}
 use Rattle.text.specs.declared.Sequence.the-variants.{Char, Ill}
-use Rattle.text.specs.Utf8.{sequenceAt, sizeOf, codeOf, writtenOf, bytesOf, valid, sequences, codesOf, codePoints, bytesOfAll, replaced}
-use Rattle.text.specs.Writing.{Writing, behind, writing}
+use Rattle.text.specs.Utf8.{sequenceAt, sizeOf, codeOf, writtenOf, sequenceBytes, valid, sequences, codesOf, codePoints, bytesOfAll, replaced}
+use Rattle.text.specs.Writing.{Writing, placeBehind, writing}
 use Rattle.arithmetic.proofs.CutLaws.{cut-fits, cut-add, cut-small}
 use Rattle.text.proofs.Utf8Laws.{sequences-here, sequences-end, sequence-some, sequence-fits, drop-here, texts}
 use Rattle.text.proofs.ReplacedLaws.{valid-kept, replaced-most}
@@ -31,17 +31,17 @@ pub codes-end : (s : List ℕ) (at : ℕ) → length s ≤ at → codePoints (dr
 unfolding codesOf
 codes-end s at h = rw (sequences-end s at h)
 
-replaced-here : (s : List ℕ) (at : ℕ) → at < length s → replaced (drop at s) ≡ bytesOf (sequenceAt s at) (drop at s) ++ replaced (drop (at + sizeOf (sequenceAt s at)) s)
+replaced-here : (s : List ℕ) (at : ℕ) → at < length s → replaced (drop at s) ≡ sequenceBytes (sequenceAt s at) (drop at s) ++ replaced (drop (at + sizeOf (sequenceAt s at)) s)
 unfolding bytesOfAll
 replaced-here s at h =
     ap (λ ps. bytesOfAll ps (drop at s)) (sequences-here s at h)
-    ∙ ap (λ t. bytesOf (sequenceAt s at) (drop at s) ++ bytesOfAll (sequences (drop (at + sizeOf (sequenceAt s at)) s)) t) (drop-drop (sizeOf (sequenceAt s at)) at s)
+    ∙ ap (λ t. sequenceBytes (sequenceAt s at) (drop at s) ++ bytesOfAll (sequences (drop (at + sizeOf (sequenceAt s at)) s)) t) (drop-drop (sizeOf (sequenceAt s at)) at s)
 
 replaced-end : (s : List ℕ) (at : ℕ) → length s ≤ at → replaced (drop at s) ≡ []
 unfolding bytesOfAll
 replaced-end s at h = ap (λ ps. bytesOfAll ps (drop at s)) (sequences-end s at h)
 
-written-bytes : (p : Sequence) (s : List ℕ) (at : ℕ) → at + sizeOf p ≤ length s → length (bytesOf p (drop at s)) ≡ writtenOf p
+written-bytes : (p : Sequence) (s : List ℕ) (at : ℕ) → at + sizeOf p ≤ length s → length (sequenceBytes p (drop at s)) ≡ writtenOf p
 written-bytes (Char c n) s at h = omega (arith, length-take n (drop at s), length-drop at s)
 written-bytes (Ill n) s at h = refl
 
@@ -58,15 +58,15 @@ module _ (s : List ℕ) (at n : ℕ) (p : Sequence) (e : p ≡ sequenceAt s at) 
   pub codes-next : codePoints (drop at s) ≡ codeOf p ∷ codePoints (drop (at + n) s)
   codes-next = rw (q, e) (codes-here s at h)
 
-  replaced-next : replaced (drop at s) ≡ bytesOf p (drop at s) ++ replaced (drop (at + n) s)
+  replaced-next : replaced (drop at s) ≡ sequenceBytes p (drop at s) ++ replaced (drop (at + n) s)
   replaced-next = rw (q, e) (replaced-here s at h)
 
-  written : length (bytesOf p (drop at s)) ≡ writtenOf p
+  written : length (sequenceBytes p (drop at s)) ≡ writtenOf p
   written = written-bytes p s at (rw e (sequence-fits s at h))
 
   -- the length left
   length-next : length (replaced (drop at s)) ≡ writtenOf p + length (replaced (drop (at + n) s))
-  length-next = omega (arith, ap length replaced-next, length-append (bytesOf p (drop at s)) (replaced (drop (at + n) s)), written)
+  length-next = omega (arith, ap length replaced-next, length-append (sequenceBytes p (drop at s)) (replaced (drop (at + n) s)), written)
 
   -- the characters counted so far
   pub count-more : (k t : ℕ) → k + length (codePoints (drop at s)) ≡ t → k + 1 + length (codePoints (drop (at + n) s)) ≡ t
@@ -105,13 +105,13 @@ room-end s at room t h f = sym (le-leb (length (replaced (drop at s))) room (ome
 
 -- a place in a buffer
 module _ (s : List ℕ) (start len : ℕ) where
-  pub start-past : len < start → false ≡ leb (behind s start) len
-  start-past h = sym (lt-leb (behind s start) len (omega arith))
+  pub start-past : len < start → false ≡ leb (placeBehind s start) len
+  start-past h = sym (lt-leb (placeBehind s start) len (omega arith))
 
-  pub room-ample : start ≤ len → length s ≤ (len - start) / 3 → true ≡ leb (behind s start) len
-  room-ample h k = sym (le-leb (behind s start) len (omega (arith, replaced-most s)))
+  pub room-ample : start ≤ len → length s ≤ (len - start) / 3 → true ≡ leb (placeBehind s start) len
+  room-ample h k = sym (le-leb (placeBehind s start) len (omega (arith, replaced-most s)))
 
-  pub room-start : start ≤ len → leb (length (replaced s)) (len - start) ≡ leb (behind s start) len
+  pub room-start : start ≤ len → leb (length (replaced s)) (len - start) ≡ leb (placeBehind s start) len
   room-start h = leb-sub start (length (replaced s)) len h
 
 -- bytes copied one by one
@@ -126,9 +126,9 @@ copy-end l t xs b left z f = let e : left ≡ 0 = omega arith in rw e at f
 
 -- a sequence written
 module _ (s : List ℕ) (at n to to′ : ℕ) (p : Sequence) (e : p ≡ sequenceAt s at) (q : n ≡ sizeOf p) (h : at < length s) (g : to′ ≡ to + writtenOf p) where
-  pub write-more : (l l′ t : List ℕ) → l′ ≡ sets l to (bytesOf p (drop at s)) → sets l to (replaced (drop at s)) ≡ t → sets l′ to′ (replaced (drop (at + n) s)) ≡ t
+  pub write-more : (l l′ t : List ℕ) → l′ ≡ sets l to (sequenceBytes p (drop at s)) → sets l to (replaced (drop at s)) ≡ t → sets l′ to′ (replaced (drop (at + n) s)) ≡ t
   write-more l l′ t k f =
-      rw (k, g, ← written s at n p e q h, ← sets-append (bytesOf p (drop at s)) (replaced (drop (at + n) s)) l to, ← replaced-next s at n p e q h) f
+      rw (k, g, ← written s at n p e q h, ← sets-append (sequenceBytes p (drop at s)) (replaced (drop (at + n) s)) l to, ← replaced-next s at n p e q h) f
 
   pub write-on : (t : ℕ) → to + length (replaced (drop at s)) ≡ t → to′ + length (replaced (drop (at + n) s)) ≡ t
   write-on t f = omega (arith, length-next s at n p e q h)
@@ -166,14 +166,14 @@ module _ (p : Sequence) (c n to m : ℕ) (e : p ≡ Char c n) where
   pub char-next : to + n ≡ to + writtenOf p
   char-next = rw e
 
-  pub char-put : (l l′ s : List ℕ) → l′ ≡ sets l to (take n s) → l′ ≡ sets l to (bytesOf p s)
+  pub char-put : (l l′ s : List ℕ) → l′ ≡ sets l to (take n s) → l′ ≡ sets l to (sequenceBytes p s)
   char-put l l′ s f = rw e f
 
 module _ (p : Sequence) (n to : ℕ) (l : List ℕ) (e : p ≡ Ill n) where
   pub ill-next : to + 3 ≡ to + writtenOf p
   ill-next = rw e
 
-  pub ill-put : (s : List ℕ) → set (set (set l to 0xEF) (to + 1) 0xBF) (to + 2) 0xBD ≡ sets l to (bytesOf p s)
+  pub ill-put : (s : List ℕ) → set (set (set l to 0xEF) (to + 1) 0xBF) (to + 2) 0xBD ≡ sets l to (sequenceBytes p s)
   ill-put s = rw (e, add-one to, add-two to)
 
   module _ (h : to + writtenOf p ≤ length l) where
@@ -212,26 +212,26 @@ module _ (s : List ℕ) (v : Bool) (e : v ≡ valid s) (f : v ≡ true) where
 
 -- what the buffer then holds
 module _ (s b : List ℕ) (start : ℕ) where
-  pub writing-fits : behind s start ≤ length b → writing s b start ≡ record { answer = ok tt (behind s start); buffer = sets b start (replaced s) }
+  pub writing-fits : placeBehind s start ≤ length b → writing s b start ≡ record { answer = ok tt (placeBehind s start); buffer = sets b start (replaced s) }
   unfolding writing
-  writing-fits h = rw (le-leb (behind s start) (length b) h)
+  writing-fits h = rw (le-leb (placeBehind s start) (length b) h)
 
-  pub writing-short : length b < behind s start → writing s b start ≡ record { answer = lentRefused (shortBuffer (cut (behind s start))); buffer = b }
+  pub writing-short : length b < placeBehind s start → writing s b start ≡ record { answer = lentRefused (shortBuffer (cut (placeBehind s start))); buffer = b }
   unfolding writing
-  writing-short h = rw (lt-leb (behind s start) (length b) h)
+  writing-short h = rw (lt-leb (placeBehind s start) (length b) h)
 
-  module _ (v : Bool) (e : v ≡ leb (behind s start) (length b)) where
-    pub fits-room : v ≡ true → behind s start ≤ length b
-    fits-room f = leb-true (behind s start) (length b) (sym e ∙ f)
+  module _ (v : Bool) (e : v ≡ leb (placeBehind s start) (length b)) where
+    pub fits-room : v ≡ true → placeBehind s start ≤ length b
+    fits-room f = leb-true (placeBehind s start) (length b) (sym e ∙ f)
 
-    pub fits-done : (n : ℕ) (b′ : List ℕ) → v ≡ true → n ≡ behind s start → b′ ≡ sets b start (replaced s) → _≡_ {A = Writing} (record { answer = ok tt n; buffer = b′ }) (writing s b start)
+    pub fits-done : (n : ℕ) (b′ : List ℕ) → v ≡ true → n ≡ placeBehind s start → b′ ≡ sets b start (replaced s) → _≡_ {A = Writing} (record { answer = ok tt n; buffer = b′ }) (writing s b start)
     fits-done n b′ f g h = rw (g, h) (sym (writing-fits (fits-room f)))
 
     pub short-done : (n m : ℕ) (r : LentRefusal) → v ≡ false → n ≡ cut (length (replaced s)) → m ≡ cut (n + start) → r ≡ shortBuffer m → _≡_ {A = Writing} (record { answer = lentRefused r; buffer = b }) (writing s b start)
     short-done n m r f g h i =
-        let w : length (replaced s) + start ≡ behind s start = omega arith in
-        let z : m ≡ cut (behind s start) = h ∙ ap (λ x. cut (x + start)) g ∙ cut-add (length (replaced s)) start ∙ ap cut w in
-        rw (i, z) (sym (writing-short (leb-false (behind s start) (length b) (sym e ∙ f))))
+        let w : length (replaced s) + start ≡ placeBehind s start = omega arith in
+        let z : m ≡ cut (placeBehind s start) = h ∙ ap (λ x. cut (x + start)) g ∙ cut-add (length (replaced s)) start ∙ ap cut w in
+        rw (i, z) (sym (writing-short (leb-false (placeBehind s start) (length b) (sym e ∙ f))))
 
 pub ruleset writes = (
   texts,

@@ -96,9 +96,9 @@ abbrev pub codePoints : List ℕ → List ℕ
 codePoints s = codesOf (sequences s)
 
 -- the bytes of a sequence at the start of the text s, or those of U+FFFD
-abbrev pub bytesOf : Sequence → List ℕ → List ℕ
-bytesOf (Char c n) s = take n s
-bytesOf (Ill n) s = 0xEF ∷ 0xBF ∷ 0xBD ∷ []
+abbrev pub sequenceBytes : Sequence → List ℕ → List ℕ
+sequenceBytes (Char c n) s = take n s
+sequenceBytes (Ill n) s = 0xEF ∷ 0xBF ∷ 0xBD ∷ []
 
 -- their number
 abbrev pub writtenOf : Sequence → ℕ
@@ -107,7 +107,7 @@ writtenOf (Ill n) = 3
 
 unfoldable pub bytesOfAll : List Sequence → List ℕ → List ℕ
 bytesOfAll [] s = []
-bytesOfAll (p ∷ ps) s = bytesOf p s ++ bytesOfAll ps (drop (sizeOf p) s)
+bytesOfAll (p ∷ ps) s = sequenceBytes p s ++ bytesOfAll ps (drop (sizeOf p) s)
 
 -- a collected text: the stored one with U+FFFD for each ill-formed sequence
 abbrev pub replaced : List ℕ → List ℕ

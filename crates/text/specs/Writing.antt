@@ -26,12 +26,12 @@ abbrev pub outcome : Written → List ℕ → Writing
 outcome r buffer = record { answer = writtenRes r; buffer = buffer }
 
 -- the place behind the collected text
-abbrev pub behind : List ℕ → ℕ → ℕ
-behind text start = start + length (replaced text)
+abbrev pub placeBehind : List ℕ → ℕ → ℕ
+placeBehind text start = start + length (replaced text)
 
 -- the collected text in the buffer from start on; a buffer that is too short is refused with the length needed, and kept
 unfoldable pub writing : List ℕ → List ℕ → ℕ → Writing
 writing text buffer start =
-    cond (leb (behind text start) (length buffer))
-    (record { answer = ok tt (behind text start); buffer = sets buffer start (replaced text) })
-    (record { answer = no 15 (lengths 0 0 0 0 0 (cut (behind text start))); buffer = buffer })
+    cond (leb (placeBehind text start) (length buffer))
+    (record { answer = ok tt (placeBehind text start); buffer = sets buffer start (replaced text) })
+    (record { answer = no 15 (lengths 0 0 0 0 0 (cut (placeBehind text start))); buffer = buffer })

@@ -6,9 +6,9 @@ ghost use lib.Dec.{leb};
 ghost use lib.ListN.{length, take, drop};
 ghost use lib.Seq.{sets};
 ghost use Rattle.arithmetic.specs.Cut.{cut};
-ghost use Rattle.text.specs.Utf8.{follow, sequenceAt, sizeOf, codeOf, writtenOf, bytesOf, valid, codePoints, replaced};
+ghost use Rattle.text.specs.Utf8.{follow, sequenceAt, sizeOf, codeOf, writtenOf, sequenceBytes, valid, codePoints, replaced};
 ghost use Rattle.text.specs.Hash.{hash};
-ghost use Rattle.text.specs.Writing.{behind, outcome, writing};
+ghost use Rattle.text.specs.Writing.{placeBehind, outcome, writing};
 
 // A code unit sequence: a character with its code point and its number of bytes, or an ill-formed one with its number of bytes.
 pub enum Sequence {
@@ -155,7 +155,7 @@ pub fn replaced_len(text: &[u8]) -> usize
 
 // Whether `len` bytes have room for the replaced text from `start` on. It counts the room down: `replaced_len` may be cut.
 fn replaced_fits(text: &[u8], start: usize, len: usize) -> bool
-    ensures { λ r. ⌜ r ≡ leb (behind (now (text .entry)) start) len ⌝ }
+    ensures { λ r. ⌜ r ≡ leb (placeBehind (now (text .entry)) start) len ⌝ }
 {
     if len < start {
         return false;
@@ -197,7 +197,7 @@ fn copy(text: &[u8], from: usize, n: usize, buffer: &mut [u8], to: usize)
 // A sequence of the text, from `at` on, written to the buffer from `to` on; the place behind it.
 fn put_sequence(text: &[u8], at: usize, next: Sequence, buffer: &mut [u8], to: usize) -> usize
     requires { ⌜ (at + sizeOf next ≤ length (now text)) × (to + writtenOf next ≤ length (now buffer)) ⌝ }
-    ensures { λ r. ⌜ (r ≡ to + writtenOf next) × (now (buffer .exit) ≡ sets (now (buffer .entry)) to (bytesOf next (drop at (now (text .entry))))) ⌝ }
+    ensures { λ r. ⌜ (r ≡ to + writtenOf next) × (now (buffer .exit) ≡ sets (now (buffer .entry)) to (sequenceBytes next (drop at (now (text .entry))))) ⌝ }
 {
     match next {
         Sequence::Char(_, n) => {
@@ -215,8 +215,8 @@ fn put_sequence(text: &[u8], at: usize, next: Sequence, buffer: &mut [u8], to: u
 
 // The replaced text written to the buffer from `start` on; the place behind it.
 fn put_replaced(text: &[u8], buffer: &mut [u8], start: usize) -> usize
-    requires { ⌜ behind (now text) start ≤ length (now buffer) ⌝ }
-    ensures { λ r. ⌜ (r ≡ behind (now (text .entry)) start) × (now (buffer .exit) ≡ sets (now (buffer .entry)) start (replaced (now (text .entry)))) ⌝ }
+    requires { ⌜ placeBehind (now text) start ≤ length (now buffer) ⌝ }
+    ensures { λ r. ⌜ (r ≡ placeBehind (now (text .entry)) start) × (now (buffer .exit) ≡ sets (now (buffer .entry)) start (replaced (now (text .entry)))) ⌝ }
 {
     if utf8_valid(text) {
         let n = text.len();

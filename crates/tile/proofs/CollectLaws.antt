@@ -14,9 +14,9 @@ use Rattle.format.specs.Index.{answer, answered}
 use Rattle.format.specs.Rows.{rowsOfInterval, markedHead}
 use Rattle.format.specs.Tile.{Row}
 use Rattle.types.specs.Beside.{viewOr}
-use Rattle.blocks.specs.Blocks.{zoomRow, emptyRow, filledRows, rowsOf, noRows, ShownRows, TableIs}
-use Rattle.blocks.specs.declared.ZoomRow.{ZoomRow}
-use Rattle.blocks.specs.declared.ZoomTableRead.{ZoomTableRead}
+use Rattle.zoom_table.specs.Blocks.{zoomRow, emptyRow, filledRows, rowsOf, noRows, ShownRows, TableIs}
+use Rattle.zoom_table.specs.declared.ZoomRow.{ZoomRow}
+use Rattle.zoom_table.specs.declared.ZoomTableRead.{ZoomTableRead}
 use Rattle.agreement.specs.Collected.{StoredTile, collect}
 use Rattle.agreement.proofs.TileAgrees.{collected}
 use Rattle.tile_layout.specs.TileLayout.{TileKinds, formatOf}

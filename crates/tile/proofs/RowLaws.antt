@@ -31,12 +31,12 @@ use Rattle.fields.specs.Fields.{optionalSpanRes, optionalSpanRefusal}
 use Rattle.fields.specs.declared.OptionalSpanRead.{OptionalSpanRead}
 use Rattle.fields.specs.declared.OptionalSpanRead.the-variants as span-read
 use Rattle.fields.proofs.FieldLaws.{optional-span-no, optional-span-then}
-use Rattle.blocks.specs.Blocks.{zoomRow, emptyRow, filledRows, rowsOf, noRows, shownRows, TableIs, rowRes, rowRefusal}
-use Rattle.blocks.specs.declared.ZoomRow.{ZoomRow}
-use Rattle.blocks.specs.declared.ZoomTableRead.{ZoomTableRead}
-use Rattle.blocks.specs.declared.RowRead.{RowRead}
-use Rattle.blocks.specs.declared.RowRead.the-variants as row-read
-use Rattle.blocks.proofs.BlockLaws.{row-no}
+use Rattle.zoom_table.specs.Blocks.{zoomRow, emptyRow, filledRows, rowsOf, noRows, shownRows, TableIs, rowRes, rowRefusal}
+use Rattle.zoom_table.specs.declared.ZoomRow.{ZoomRow}
+use Rattle.zoom_table.specs.declared.ZoomTableRead.{ZoomTableRead}
+use Rattle.zoom_table.specs.declared.RowRead.{RowRead}
+use Rattle.zoom_table.specs.declared.RowRead.the-variants as row-read
+use Rattle.zoom_table.proofs.BlockLaws.{row-no}
 use Rattle.tile.specs.Tile.{rowsRead, RowsPut}
 
 -- the zoom table: zeros, or what stands behind the signature

@@ -9,6 +9,7 @@ use borrow.Author.Needs.{needs}
 use borrow.Author.Tests.{le-leb}
 use Rattle.parsing.specs.Parse.{Res, ok, no, andThen, mapRes, many, Maybe}
 use Rattle.parsing.specs.Good.{ok-val, ok-at, no-ok}
+use Rattle.parsing.proofs.Views.{view-stop}
 use Rattle.parsing.proofs.Loops.{many-count}
 use Rattle.error.specs.Refusals.{refused, numberOf, valuesOf}
 use Rattle.error.specs.declared.Refusal.{Refusal}
@@ -21,13 +22,13 @@ use Rattle.format.specs.Tile.{Point, point}
 use Rattle.types.specs.Types.{optionalSpan, endRes, endRefusal}
 use Rattle.types.specs.declared.End.{End}
 use Rattle.types.specs.declared.End.the-variants as end
-use Rattle.blocks.specs.Blocks.{rowsOf}
+use Rattle.zoom_table.specs.Blocks.{rowsOf}
 use Rattle.tile_head.specs.TileHead.{headAt, headRes, headRefusal}
 use Rattle.tile_head.specs.declared.TileHead.{TileHead}
 use Rattle.tile_head.specs.declared.TileHeadRead.{TileHeadRead}
 use Rattle.tile_head.specs.declared.TileHeadRead.the-variants as head-read
 use Rattle.tile_place.specs.Places.{placeOf, placeRes, placeRefusal}
-use Rattle.tile_place.specs.declared.TilePlace.{TilePlace}
+use Rattle.tile_place.specs.declared.FoundTile.{FoundTile}
 use Rattle.tile_place.specs.declared.PlaceRead.{PlaceRead}
 use Rattle.tile_place.specs.declared.PlaceRead.the-variants as place
 use Rattle.tile_place.proofs.PlaceLaws.{located-ordered}
@@ -46,11 +47,9 @@ use Rattle.tile.proofs.RowLaws.{head-table}
 -- the points, then the ways
 module _ (l : TileKinds) (m : List ℕ) (at points ways offset : ℕ) (g : End) (q : endRes points g ≡ mapRes length (many (point (l .debug) (l .points)) points m at)) where
   pub walk-stops : (x y : Refusal) → g ≡ end.Refused x → y ≡ endRefusal g → refused y ≡ walked l m at points ways offset
-  walk-stops x y h w = ap refused (w ∙ ap endRefusal h) ∙ go (many (point (l .debug) (l .points)) points m at) (ap (endRes points) (sym h) ∙ q)
-    where
-      go : (r : Res (List Point)) → refused x ≡ mapRes length r → refused x ≡ andThen r (λ _ _. exactWays l m ways (cut (at + offset)))
-      go (ok ps e) d = no-ok d
-      go (no k v) d = cc
+  walk-stops x y h w =
+      ap refused (w ∙ ap endRefusal h)
+      ∙ view-stop length (many (point (l .debug) (l .points)) points m at) (λ _ _. exactWays l m ways (cut (at + offset))) (sym q ∙ ap (endRes points) h)
 
   pub walk-on : (n first : ℕ) (r : Res Bool) → g ≡ end.At n → first ≡ cut (at + offset) → r ≡ exactWays l m ways first → r ≡ walked l m at points ways offset
   walk-on n first r h w f = f ∙ ap (exactWays l m ways) w ∙ go (many (point (l .debug) (l .points)) points m at) (ap (endRes points) (sym h) ∙ q)
@@ -195,13 +194,9 @@ module _ (l : TileKinds) (i : Maybe Interval) (grid : Grid) (number : ℕ) (m : 
 
   pub no-place : (x y : Refusal) → g ≡ place.Refused x → y ≡ placeRefusal g → refused y ≡ collectTile l i grid number m
   unfolding collectTile
-  no-place x y e w = ap refused (w ∙ ap placeRefusal e) ∙ go located (ap placeRes (sym e) ∙ q)
-    where
-      go : (k : Res Located) → refused x ≡ mapRes placeOf k → refused x ≡ andThen k (λ a _. there a)
-      go (ok a e) d = no-ok d
-      go (no k v) d = cc
+  no-place x y e w = ap refused (w ∙ ap placeRefusal e) ∙ view-stop placeOf located (λ a _. there a) (sym q ∙ ap placeRes e)
 
-  module _ (p : TilePlace) (e : g ≡ place.At p) where
+  module _ (p : FoundTile) (e : g ≡ place.At p) where
     pub place-ordered : p .«min_zoom» ≤ p .«max_zoom»
     place-ordered = go located refl (ap placeRes (sym e) ∙ q)
       where
@@ -215,7 +210,7 @@ module _ (l : TileKinds) (i : Maybe Interval) (grid : Grid) (number : ℕ) (m : 
       where
         go : (k : Res Located) → ok p 0 ≡ mapRes placeOf k → collectAt l (p .empty) (p .«min_zoom») (p .«max_zoom») (p .at) m ≡ andThen k (λ a _. there a)
         go (ok a n) d =
-            ap (λ (x : TilePlace). collectAt l (x .empty) (x .«min_zoom») (x .«max_zoom») (x .at) m) (ok-val d)
+            ap (λ (x : FoundTile). collectAt l (x .empty) (x .«min_zoom») (x .«max_zoom») (x .at) m) (ok-val d)
             ∙ ap (λ x. answered (mapRes shownTile x))
             (collect-at (locatedHead (l .debug) a) (formatOf l) m (placeOf a .at) (tileAt a) (head-cut (a .empty) (l .debug) (rowsOfInterval (a .interval .min) (a .interval .max)) m (a .entry .absolute) small))
         go (no k v) d = no-ok (sym d)

@@ -19,8 +19,8 @@ use Rattle.format.specs.Rows.{rowsOfInterval, intervalTable, emptyHead, markedH
 use Rattle.format.specs.Tile.{Row, debugSignature, point}
 use Rattle.types.specs.Types.{optionalSpan}
 use Rattle.types.specs.Beside.{viewOr}
-use Rattle.blocks.specs.Blocks.{emptyRow, filledRows}
-use Rattle.blocks.specs.declared.ZoomRow.{ZoomRow}
+use Rattle.zoom_table.specs.Blocks.{emptyRow, filledRows}
+use Rattle.zoom_table.specs.declared.ZoomRow.{ZoomRow}
 use Rattle.agreement.specs.Format.{Format}
 use Rattle.agreement.specs.Collected.{allExact, StoredTile, collect}
 use Rattle.tile_layout.specs.TileLayout.{TileKinds, formatOf}

@@ -1,19 +1,19 @@
 // tile.rs: collecting a tile, which decodes every feature of every row.
-use blocks::RowRead;
-use blocks::Sums;
-use blocks::ZoomRow;
-use blocks::ZoomTableRead;
 use error::Refusal;
 use fields::OptionalSpanRead;
 use index::IntervalRead;
 use tile_head::TileHeadRead;
 use tile_layout::TileLayout;
+use tile_place::FoundTile;
 use tile_place::PlaceRead;
-use tile_place::TilePlace;
 use tile_walk::WaysRead;
 use types::End;
 use types::Grid;
 use types::OptionalSpan;
+use zoom_table::RowRead;
+use zoom_table::Sums;
+use zoom_table::ZoomRow;
+use zoom_table::ZoomTableRead;
 ghost use mathlib.Core.Path.{_≡_};
 ghost use Prim.Native.Nat.{_≤_};
 ghost use Rattle.parsing.specs.Parse.{mapRes, many};
@@ -22,7 +22,7 @@ ghost use Rattle.format.specs.Rows.{emptyHead};
 ghost use Rattle.format.specs.Tile.{row};
 ghost use Rattle.types.specs.Types.{gridOf};
 ghost use Rattle.index.specs.Answers.{intervalFound};
-ghost use Rattle.blocks.specs.Blocks.{TableIs};
+ghost use Rattle.zoom_table.specs.Blocks.{TableIs};
 ghost use Rattle.tile_layout.specs.TileLayout.{kindsOf};
 ghost use Rattle.tile_walk.specs.TileWalk.{waysRes};
 ghost use Rattle.tile.specs.Tile.{emptyTile, rowsRead, walked, collectAt, collectTile, TileIs, summaryOf, summaryRes, summaryRefusal, RowsPut, CollectIs};
@@ -93,7 +93,7 @@ fn refused_tile(refusal: Refusal) -> TileRead
 }
 
 // The zoom table of a tile. One that its index marks empty has a zero row for each level.
-fn read_rows(map: &[u8], place: TilePlace, debug: bool) -> ZoomTableRead
+fn read_rows(map: &[u8], place: FoundTile, debug: bool) -> ZoomTableRead
     requires { ⌜ place .«min_zoom» ≤ place .«max_zoom» ⌝ }
     ensures { λ r. ⌜ TableIs (rowsRead (place .empty) debug (place .«min_zoom») (place .«max_zoom») (now (map .entry)) (place .at)) r ⌝ }
 {
@@ -110,9 +110,9 @@ fn read_rows(map: &[u8], place: TilePlace, debug: bool) -> ZoomTableRead
     }
     let got = fields::read_signature(map, at, debug);
     let OptionalSpanRead::Value(_, at) = got else {
-        return blocks::refused_table(fields::optional_span_refusal(got));
+        return zoom_table::refused_table(fields::optional_span_refusal(got));
     };
-    blocks::read_zoom_table(map, at, min, max)
+    zoom_table::read_zoom_table(map, at, min, max)
 }
 
 // All points behind a head that ends at `at`, then all ways from where the first-way offset leads.
@@ -136,7 +136,7 @@ fn walk(
 }
 
 // What is said of the tile at a place that was found.
-fn summarize(map: &[u8], place: TilePlace, layout: TileLayout, letters: &[u8]) -> SummaryRead
+fn summarize(map: &[u8], place: FoundTile, layout: TileLayout, letters: &[u8]) -> SummaryRead
     requires { ⌜ place .«min_zoom» ≤ place .«max_zoom» ⌝ }
     ensures { λ r. ⌜ summaryRes r ≡ mapRes summaryOf (collectAt (kindsOf layout (now (letters .entry))) (place .empty) (place .«min_zoom») (place .«max_zoom») (place .at) (now (map .entry))) ⌝ }
 {
@@ -209,7 +209,7 @@ fn put_rows(map: &[u8], at: usize, count: usize, points: &mut [u64; 256], ways: 
     let mut next = at;
     let mut i = 0;
     while i < count {
-        let got = blocks::read_row(map, next);
+        let got = zoom_table::read_row(map, next);
         let RowRead::Value(one, after) = got else {
             return;
         };
@@ -236,7 +236,7 @@ fn put_zeros(count: usize, points: &mut [u64; 256], ways: &mut [u64; 256])
 // The zoom table of a tile. Its rows were read before, for their sums.
 fn put_table(
     map: &[u8],
-    place: TilePlace,
+    place: FoundTile,
     debug: bool,
     points: &mut [u64; 256],
     ways: &mut [u64; 256],

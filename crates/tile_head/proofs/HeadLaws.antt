@@ -10,7 +10,7 @@ use Rattle.parsing.proofs.Steps.{then-then}
 use Rattle.parsing.proofs.Views.{viewed, view-stop}
 use Rattle.error.specs.Refusals.{refused}
 use Rattle.error.specs.declared.Refusal.{Refusal}
-use Rattle.byte_source.proofs.ReadLaws.{taken, number-ok, number-no}
+use Rattle.byte_source.proofs.ReadLaws.{taken, ViewPasses, view-passes, ViewStops, view-stops, number-ok, number-no}
 use Rattle.format.specs.Tile as format
 use Rattle.format.specs.Tile.{Row, zoomTable, tileHead}
 use Rattle.format.specs.Rows.{intervalTable, rowsUpto, markedHead, intervalHead}
@@ -18,10 +18,10 @@ use Rattle.format.proofs.EmptyLaws.{no-points, no-ways, no-points-of, no-ways-o
 use Rattle.types.specs.Types.{optionalSpan}
 use Rattle.types.specs.declared.OptionalSpan.{OptionalSpan}
 use Rattle.fields.proofs.FieldLaws.{optional-span-ok, optional-span-no}
-use Rattle.blocks.specs.Blocks.{zoomSums, sumsRes, sumsRefusal}
-use Rattle.blocks.specs.declared.Sums.{Sums}
-use Rattle.blocks.specs.declared.SumsRead.{SumsRead}
-use Rattle.blocks.specs.declared.SumsRead.the-variants as sums
+use Rattle.zoom_table.specs.Blocks.{zoomSums, sumsRes, sumsRefusal}
+use Rattle.zoom_table.specs.declared.Sums.{Sums}
+use Rattle.zoom_table.specs.declared.SumsRead.{SumsRead}
+use Rattle.zoom_table.specs.declared.SumsRead.the-variants as sums
 use Rattle.tile_head.specs.TileHead.{headAt, headRes, headRefusal, noFeatures}
 use Rattle.tile_head.specs.declared.TileHead.{TileHead}
 use Rattle.tile_head.specs.declared.TileHeadRead.{TileHeadRead}
@@ -68,8 +68,8 @@ pub ruleset heads = (needs, then-then, head-reversed, head-empty, head-ordered, 
 
 -- a head that was read, in a definition that goes on from it
 module _ {B : Type 0} (low high zoom : ℕ) where
-  pub head-ok : (g : TileHeadRead) (v : TileHead) (n : ℕ) (r : Res format.TileHead) (f : format.TileHead → ℕ → Res B) (x : Res B) → headRes g ≡ mapRes (headAt low high zoom) r → g ≡ head.Value v n → ((a : format.TileHead) → v ≡ headAt low high zoom a → x ≡ f a n) → x ≡ andThen r f
-  head-ok g v n r f x q h p = viewed (headAt low high zoom) r f (sym q ∙ ap headRes h) p
+  pub head-ok : ViewPasses B headRes (headAt low high zoom) head.Value
+  head-ok = view-passes B headRes (headAt low high zoom) head.Value (λ v n. refl)
 
-  pub head-no : (g : TileHeadRead) (e′ e : Refusal) (r : Res format.TileHead) (f : format.TileHead → ℕ → Res B) → headRes g ≡ mapRes (headAt low high zoom) r → g ≡ head.Refused e → e′ ≡ headRefusal g → refused e′ ≡ andThen r f
-  head-no g e′ e r f q h p = ap refused (p ∙ ap headRefusal h) ∙ view-stop (headAt low high zoom) r f (sym q ∙ ap headRes h)
+  pub head-no : ViewStops B headRes (headAt low high zoom) headRefusal head.Refused
+  head-no = view-stops B headRes (headAt low high zoom) headRefusal head.Refused (λ e. refl) (λ e. refl)

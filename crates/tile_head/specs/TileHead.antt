@@ -6,7 +6,7 @@ use Rattle.error.specs.declared.Refusal.{Refusal}
 use Rattle.error.specs.declared.Refusal.the-variants.{Source}
 use Rattle.format.specs.Tile as format
 use Rattle.types.specs.Types.{optionalSpan}
-use Rattle.blocks.specs.Blocks.{zoomSums}
+use Rattle.zoom_table.specs.Blocks.{zoomSums}
 use Rattle.tile_head.specs.declared.TileHead.{TileHead}
 use Rattle.tile_head.specs.declared.TileHeadRead.{TileHeadRead}
 use Rattle.tile_head.specs.declared.TileHeadRead.the-variants as head

@@ -1,10 +1,10 @@
 // tile.rs and visit.rs: a tile's head, which is its signature, the sums of its zoom table, and its first-way offset.
-use blocks::Sums;
-use blocks::SumsRead;
 use byte_source::NumberRead;
 use error::Refusal;
 use fields::OptionalSpanRead;
 use types::OptionalSpan;
+use zoom_table::Sums;
+use zoom_table::SumsRead;
 ghost use mathlib.Core.Path.{_≡_};
 ghost use Rattle.parsing.specs.Parse.{mapRes};
 ghost use Rattle.byte_source.specs.Answers.{numberRes};
@@ -58,7 +58,7 @@ fn head_number(map: &[u8], at: usize) -> NumberRead
     let NumberRead::Value(_, _) = got else {
         return NumberRead::Refused(error::in_tile_head(
             byte_source::number_refusal(got),
-            blocks::missing_byte(map, at),
+            zoom_table::missing_byte(map, at),
         ));
     };
     got
@@ -102,9 +102,9 @@ pub fn read_tile_head(
     let OptionalSpanRead::Value(signature, at) = got else {
         return TileHeadRead::Refused(fields::optional_span_refusal(got));
     };
-    let got = blocks::sum_zoom_table(map, at, min, max, zoom);
+    let got = zoom_table::sum_zoom_table(map, at, min, max, zoom);
     let SumsRead::Value(sums, at) = got else {
-        return TileHeadRead::Refused(blocks::sums_refusal(got));
+        return TileHeadRead::Refused(zoom_table::sums_refusal(got));
     };
     let got = head_number(map, at);
     let NumberRead::Value(offset, at) = got else {

@@ -11,11 +11,12 @@ use borrow.Author.Needs.{needs}
 use borrow.Author.Tests.{le-leb, lt-leb, leb-true, le-ltb, lt-ltb, eq-eqb, ne-eqb}
 use Rattle.parsing.specs.Parse.{Res, ok, no, andThen, mapRes, renumbered, Maybe, none, some}
 use Rattle.parsing.specs.Good.{split, ok-val, ok-at, no-ok}
+use Rattle.parsing.proofs.Views.{view-stop}
 use Rattle.error.specs.Refusals.{refused}
 use Rattle.error.specs.declared.Refusal.{Refusal}
 use Rattle.arithmetic.specs.Cut.{cut}
 use Rattle.byte_source.specs.Answers.{numberRes, numberRefusal}
-use Rattle.byte_source.specs.BigEndian.{valueOf, bigEndian}
+use Rattle.byte_source.specs.BigEndian.{bigEndianOf, bigEndian}
 use Rattle.byte_source.specs.declared.NumberRead.{NumberRead}
 use Rattle.byte_source.specs.declared.NumberRead.the-variants as number
 use Rattle.byte_source.proofs.ReadLaws.{taken}
@@ -29,7 +30,7 @@ use Rattle.index.specs.declared.GridRead.{GridRead}
 use Rattle.index.specs.declared.GridRead.the-variants as grid-read
 use Rattle.index.proofs.AnswerLaws as index
 use Rattle.tile_place.specs.Places.{placeOf, placeRes, placeRefusal, nextAfter, placeThere}
-use Rattle.tile_place.specs.declared.TilePlace.{TilePlace}
+use Rattle.tile_place.specs.declared.FoundTile.{FoundTile}
 use Rattle.tile_place.specs.declared.PlaceRead.{PlaceRead}
 use Rattle.tile_place.specs.declared.PlaceRead.the-variants as place
 
@@ -44,7 +45,7 @@ unfolding entry bigEndian
 entry-end start m i e x h = go (leb (i + 5) (length m)) h
   where
     go : (c : Bool)
-        → andThen {B = Entry} (renumbered 19 (cut i) (andThen (cond c (ok (take 5 (drop i m)) (i + 5)) (no 1 [])) (λ b y. ok (valueOf 0 b) y))) (λ n y. ok (record { water = leb (2 ^ 39) n; offset = n % 2 ^ 39; absolute = start + n % 2 ^ 39 }) y) ≡ ok e x
+        → andThen {B = Entry} (renumbered 19 (cut i) (andThen (cond c (ok (take 5 (drop i m)) (i + 5)) (no 1 [])) (λ b y. ok (bigEndianOf 0 b) y))) (λ n y. ok (record { water = leb (2 ^ 39) n; offset = n % 2 ^ 39; absolute = start + n % 2 ^ 39 }) y) ≡ ok e x
         → x ≡ i + 5
     go true q = sym (ok-at q)
     go false q = no-ok q
@@ -72,7 +73,7 @@ module _ (d : Bool) (z : Interval) (tile tiles : ℕ) (m : List ℕ) where
 
 -- a place that the code made
 made : (z : Interval) (a : Entry) (v : TileIndexEntry) (n at : ℕ) (empty : Bool) → v ≡ heldEntry a → empty ≡ eqb (v .offset) n → at ≡ cond empty 0 (v .«offset_abs»)
-    → _≡_ {A = Res TilePlace} (ok (record { «min_zoom» = z .min; «max_zoom» = z .max; at = at; «is_water» = v .«is_water»; empty = empty }) 0) (answer (placeOf (record { interval = z; entry = a; empty = eqb (a .offset) n })))
+    → _≡_ {A = Res FoundTile} (ok (record { «min_zoom» = z .min; «max_zoom» = z .max; at = at; «is_water» = v .«is_water»; empty = empty }) 0) (answer (placeOf (record { interval = z; entry = a; empty = eqb (a .offset) n })))
 made z a v n at empty h f p = rw (p, f, h)
 
 -- the place, by what was learnt of the entry, of the next one, and of the order of the zoom levels
@@ -121,7 +122,7 @@ module _ (d : Bool) (z : Interval) (tile tiles : ℕ) (m : List ℕ) (g : EntryR
 
     module _ (n x : ℕ) (e : k ≡ number.Value n x) where
       -- the rest, by the order of the zoom levels
-      abbrev rest : Bool → Res TilePlace
+      abbrev rest : Bool → Res FoundTile
       rest c = cond c (answer (placeOf (record { interval = z; entry = own .value; empty = eqb (own .value .offset) n }))) (no 13 [])
 
       known : placeThere d z tile tiles m ≡ rest (leb (z .min) (z .max))
@@ -140,12 +141,12 @@ module _ (d : Bool) (z : Interval) (tile tiles : ℕ) (m : List ℕ) (g : EntryR
       reversed l = sym (known ∙ rw (lt-leb (z .min) (z .max) l))
 
       pub found : (empty : Bool) (at : ℕ) → z .min ≤ z .max → empty ≡ eqb (v .offset) n → at ≡ cond empty 0 (v .«offset_abs»)
-          → _≡_ {A = Res TilePlace} (ok (record { «min_zoom» = z .min; «max_zoom» = z .max; at = at; «is_water» = v .«is_water»; empty = empty }) 0) (placeThere d z tile tiles m)
+          → _≡_ {A = Res FoundTile} (ok (record { «min_zoom» = z .min; «max_zoom» = z .max; at = at; «is_water» = v .«is_water»; empty = empty }) 0) (placeThere d z tile tiles m)
       found empty at l f p = made z (own .value) v n at empty (own .held) f p ∙ sym (known ∙ ap rest (le-leb (z .min) (z .max) l))
 
 -- grid and tile first
 module _ (d : Bool) (z : Interval) (grid : Grid) (tile : ℕ) (m : List ℕ) (g : GridRead) (q : gridRes g ≡ gridTiles grid) where
-  abbrev inGrid : Res ℕ → Res TilePlace
+  abbrev inGrid : Res ℕ → Res FoundTile
   inGrid r = mapRes placeOf (answered (andThen r (λ n _. cond (ltb tile n) (locatedEntry z (eqb (tile + 1) n) m (entryAt d (z .start) tile)) (no 8 []))))
 
   by-grid : (g′ : GridRead) → g ≡ g′ → mapRes placeOf (locateIn d z grid tile m) ≡ inGrid (gridRes g′)
@@ -159,20 +160,19 @@ module _ (d : Bool) (z : Interval) (grid : Grid) (tile : ℕ) (m : List ℕ) (g 
     pub no-tile : n ≤ tile → no 8 [] ≡ mapRes placeOf (locateIn d z grid tile m)
     no-tile l = sym (by-grid (grid-read.Tiles n) h ∙ rw (le-ltb tile n l))
 
-    pub in-tile : (x : Res TilePlace) → tile < n → x ≡ placeThere d z tile n m → x ≡ mapRes placeOf (locateIn d z grid tile m)
+    pub in-tile : (x : Res FoundTile) → tile < n → x ≡ placeThere d z tile n m → x ≡ mapRes placeOf (locateIn d z grid tile m)
     in-tile x l e = e ∙ sym (by-grid (grid-read.Tiles n) h ∙ rw (lt-ltb tile n l))
 
 pub ruleset places = index.reads
 
 -- a place that was found, in a definition that goes on from it
 module _ {B : Type 0} where
-  pub place-ok : (g : PlaceRead) (v : TilePlace) (r : Res Located) (f : Located → Res B) (x : Res B) → placeRes g ≡ mapRes placeOf r → g ≡ place.At v → ((a : Located) → v ≡ placeOf a → x ≡ f a) → x ≡ andThen r (λ a _. f a)
+  pub place-ok : (g : PlaceRead) (v : FoundTile) (r : Res Located) (f : Located → Res B) (x : Res B) → placeRes g ≡ mapRes placeOf r → g ≡ place.At v → ((a : Located) → v ≡ placeOf a → x ≡ f a) → x ≡ andThen r (λ a _. f a)
   place-ok g v (ok a n) f x q h p = p a (ok-val (ap placeRes (sym h) ∙ q))
   place-ok g v (no n w) f x q h p = no-ok (sym (ap placeRes (sym h) ∙ q))
 
   pub place-no : (g : PlaceRead) (e′ e : Refusal) (r : Res Located) (f : Located → ℕ → Res B) → placeRes g ≡ mapRes placeOf r → g ≡ place.Refused e → e′ ≡ placeRefusal g → refused e′ ≡ andThen r f
-  place-no g e′ e (ok a n) f q h p = no-ok (ap placeRes (sym h) ∙ q)
-  place-no g e′ e (no n w) f q h p = ap refused (p ∙ ap placeRefusal h) ∙ (let c = ap placeRes (sym h) ∙ q in cc)
+  place-no g e′ e r f q h p = ap refused (p ∙ ap placeRefusal h) ∙ view-stop placeOf r f (sym q ∙ ap placeRes h)
 
 -- a tile that was located: it is in its grid, its entry was read, and its interval is not reversed
 pub record Found (grid : Grid) (tile : ℕ) (z : Interval) (m : List ℕ) (i : ℕ) (l : Located) : Type 0 where

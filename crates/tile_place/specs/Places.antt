@@ -10,11 +10,11 @@ use Rattle.error.specs.declared.Refusal.the-variants.{Source}
 use Rattle.arithmetic.specs.Cut.{cut}
 use Rattle.format.specs.Header.{Interval}
 use Rattle.format.specs.Index.{answer, answered, entryAt, nextOffset, Located, locatedEntry}
-use Rattle.tile_place.specs.declared.TilePlace.{TilePlace}
+use Rattle.tile_place.specs.declared.FoundTile.{FoundTile}
 use Rattle.tile_place.specs.declared.PlaceRead.{PlaceRead}
 use Rattle.tile_place.specs.declared.PlaceRead.the-variants as place
 
-abbrev pub placeOf : Located → TilePlace
+abbrev pub placeOf : Located → FoundTile
 placeOf l = record {
   «min_zoom» = l .interval .min;
   «max_zoom» = l .interval .max;
@@ -23,7 +23,7 @@ placeOf l = record {
   empty = l .empty;
 }
 
-abbrev pub placeRes : PlaceRead → Res TilePlace
+abbrev pub placeRes : PlaceRead → Res FoundTile
 placeRes (place.At p) = answer p
 placeRes (place.Refused r) = refused r
 
@@ -35,5 +35,5 @@ placeRefusal (place.Refused r) = r
 abbrev pub nextAfter : (debug : Bool) → Interval → (tile tiles : ℕ) → List ℕ → Res ℕ
 nextAfter d z tile tiles m = answered (nextOffset z (eqb (tile + 1) tiles) m (entryAt d (z .start) (tile + 1)))
 
-abbrev pub placeThere : (debug : Bool) → Interval → (tile tiles : ℕ) → List ℕ → Res TilePlace
+abbrev pub placeThere : (debug : Bool) → Interval → (tile tiles : ℕ) → List ℕ → Res FoundTile
 placeThere d z tile tiles m = mapRes placeOf (answered (locatedEntry z (eqb (tile + 1) tiles) m (entryAt d (z .start) tile)))

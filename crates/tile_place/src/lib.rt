@@ -18,7 +18,7 @@ ghost use Rattle.tile_place.specs.Places.{placeOf, placeRes, placeRefusa
 
 // `at` is the tile's first byte; 2^64 - 1 stands for any place behind it, and is behind every map's end too. A tile that its index
 // marks empty has no bytes, and 0 stands there.
-pub struct TilePlace {
+pub struct FoundTile {
     pub at: u64,
     pub min_zoom: u8,
     pub max_zoom: u8,
@@ -27,7 +27,7 @@ pub struct TilePlace {
 }
 
 pub enum PlaceRead {
-    At(TilePlace),
+    At(FoundTile),
     Refused(Refusal),
 }
 
@@ -85,7 +85,7 @@ fn place_of(map: &[u8], debug: bool, interval: ZoomInterval, tile: u32, tiles: u
         return PlaceRead::Refused(Refusal::ReversedInterval);
     }
     let empty = entry.offset == offset;
-    PlaceRead::At(TilePlace {
+    PlaceRead::At(FoundTile {
         min_zoom,
         max_zoom,
         at: first_byte(empty, entry.offset_abs),

@@ -46,7 +46,7 @@ pub fn pass_points(map: &[u8], at: usize, n: u64, layout: TileLayout, letters: &
 }
 
 // One way: its decoded length is counted from its data start, as its stored size is.
-fn measure_way(map: &[u8], at: usize, layout: TileLayout, letters: &[u8]) -> WaysRead
+fn exact_way(map: &[u8], at: usize, layout: TileLayout, letters: &[u8]) -> WaysRead
     ensures { λ r. ⌜ waysRes r ≡ exactWay (kindsOf layout (now (letters .entry))) (now (map .entry)) at ⌝ }
 {
     let tags = layout.way_tags;
@@ -80,7 +80,7 @@ pub fn measure_ways(map: &[u8], at: usize, n: u64, layout: TileLayout, letters: 
     let mut next = at;
     let mut i = 0;
     while i < n {
-        let got = measure_way(map, next, layout, letters);
+        let got = exact_way(map, next, layout, letters);
         let WaysRead::Value(one, after) = got else {
             return WaysRead::Refused(ways_refusal(got));
         };

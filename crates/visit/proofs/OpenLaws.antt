@@ -7,6 +7,7 @@ use borrow.Author.Needs.{needs}
 use borrow.Author.Tests.{le-leb}
 use Rattle.parsing.specs.Parse.{Res, ok, no, andThen, mapRes, Maybe}
 use Rattle.parsing.specs.Good.{ok-val, no-ok}
+use Rattle.parsing.proofs.Views.{view-stop}
 use Rattle.parsing.proofs.Steps.{then-then}
 use Rattle.error.specs.Refusals.{refused}
 use Rattle.error.specs.declared.Refusal.{Refusal}
@@ -19,7 +20,7 @@ use Rattle.tile_head.specs.TileHead.{headAt}
 use Rattle.tile_head.specs.declared.TileHead.{TileHead}
 use Rattle.tile_head.proofs.HeadLaws.{head-ok, head-no}
 use Rattle.tile_place.specs.Places.{placeOf, placeRes, placeRefusal}
-use Rattle.tile_place.specs.declared.TilePlace.{TilePlace}
+use Rattle.tile_place.specs.declared.FoundTile.{FoundTile}
 use Rattle.tile_place.specs.declared.PlaceRead.{PlaceRead}
 use Rattle.tile_place.specs.declared.PlaceRead.the-variants as place
 use Rattle.tile_place.proofs.PlaceLaws.{located-ordered}
@@ -31,7 +32,7 @@ use Rattle.visit.specs.Visit.{stateOf, openTile, openRes, openedAt}
 use Rattle.visit.specs.declared.OpenRead.{OpenRead}
 use Rattle.visit.specs.declared.Turn.the-variants as turn
 
-pub fresh-made : (s zoom : ℕ) (p : TilePlace) (h : TileHead) (n way : ℕ) (a : format.TileHead) → way ≡ cut (n + h .offset) → h ≡ headAt (p .«min_zoom») (p .«max_zoom») zoom a
+pub fresh-made : (s zoom : ℕ) (p : FoundTile) (h : TileHead) (n way : ℕ) (a : format.TileHead) → way ≡ cut (n + h .offset) → h ≡ headAt (p .«min_zoom») (p .«max_zoom») zoom a
     → _≡_ {A = Res (State tile.TileEnd)} (ok (stateOf (record { turn = turn.Idle (record { points = h .sums .points; ways = h .sums .ways; at = n; way = way }); end = record { «sub_file» = s; «is_water» = p .«is_water» } })) 0)
     (answered (ok (freshStream (rowsUpto (p .«min_zoom») (p .«max_zoom») zoom) (record { subFile = s; water = p .«is_water» }) a n) n))
 fresh-made s zoom p h n way a w q = rw (w, q)
@@ -52,13 +53,9 @@ module _ (t : TileLayout) (i : Maybe Interval) (s : ℕ) (zoom : ℕ) (m : List 
   module _ (g : PlaceRead) (grid : Grid) (number : ℕ) (q : placeRes g ≡ mapRes placeOf (locate (t .debug) i grid number m)) where
     pub open-no : (x y : Refusal) → g ≡ place.Refused x → y ≡ placeRefusal g → refused y ≡ openTile t i s grid number zoom m
     unfolding openTile
-    open-no x y e w = ap refused (w ∙ ap placeRefusal e) ∙ go (locate (t .debug) i grid number m) (ap placeRes (sym e) ∙ q)
-      where
-        go : (r : Res Located) → refused x ≡ mapRes placeOf r → refused x ≡ andThen r (λ l _. opened l)
-        go (ok l e) d = no-ok d
-        go (no k v) d = cc
+    open-no x y e w = ap refused (w ∙ ap placeRefusal e) ∙ view-stop placeOf (locate (t .debug) i grid number m) (λ l _. opened l) (sym q ∙ ap placeRes e)
 
-    pub open-at : (p : TilePlace) (r : OpenRead) → g ≡ place.At p → openRes r ≡ openedAt (t .debug) s zoom p m → openRes r ≡ openTile t i s grid number zoom m
+    pub open-at : (p : FoundTile) (r : OpenRead) → g ≡ place.At p → openRes r ≡ openedAt (t .debug) s zoom p m → openRes r ≡ openTile t i s grid number zoom m
     unfolding openTile
     open-at p r e w = go (locate (t .debug) i grid number m) refl (ap placeRes (sym e) ∙ q)
       where

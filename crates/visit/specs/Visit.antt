@@ -20,7 +20,7 @@ use Rattle.tagged.specs.TagIds.{tagIds, noTags}
 use Rattle.fields.specs.Fields.{streamedSpan}
 use Rattle.poi.specs.Poi.{poiOf, emptyPoi}
 use Rattle.poi.specs.declared.Poi.{Poi}
-use Rattle.tile_place.specs.declared.TilePlace.{TilePlace}
+use Rattle.tile_place.specs.declared.FoundTile.{FoundTile}
 use Rattle.way.specs.declared.WayBody.{WayBody}
 use Rattle.way_data.specs.Reply.{lent}
 use Rattle.way_head.specs.declared.WayHead.{WayHead}
@@ -157,7 +157,7 @@ abbrev pub streamedHead : WayHead → StreamedHead
 streamedHead h = record { bitmap = h .bitmap; layer = h .layer; «tag_ids» = h .«tag_ids» }
 
 -- opening, from a tile's place on
-abbrev pub openedAt : Bool → (subFile zoom : ℕ) → TilePlace → List ℕ → Res (State tile.TileEnd)
+abbrev pub openedAt : Bool → (subFile zoom : ℕ) → FoundTile → List ℕ → Res (State tile.TileEnd)
 openedAt debug s zoom p m =
     answered (openStream (intervalHead (p .empty) debug (p .«min_zoom») (p .«max_zoom»)) (rowsUpto (p .«min_zoom») (p .«max_zoom») zoom)
     (record { subFile = s; water = p .«is_water» }) m (p .at))

@@ -7,8 +7,8 @@ use poi::Poi;
 use tagged::TagIds;
 use tile_head::TileHeadRead;
 use tile_layout::TileLayout;
+use tile_place::FoundTile;
 use tile_place::PlaceRead;
-use tile_place::TilePlace;
 use types::End;
 use types::Grid;
 use types::OptionalPosition;
@@ -339,7 +339,7 @@ pub fn decline(stream: Stream) -> Declined
 }
 
 // The stream of a tile whose place is known.
-fn open_at(map: &[u8], place: TilePlace, debug: bool, sub_file: usize, zoom: u8) -> OpenRead
+fn open_at(map: &[u8], place: FoundTile, debug: bool, sub_file: usize, zoom: u8) -> OpenRead
     ensures { λ r. ⌜ openRes r ≡ openedAt debug «sub_file» zoom place (now (map .entry)) ⌝ }
 {
     let got = tile_head::read_tile_head(

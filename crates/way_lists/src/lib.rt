@@ -10,7 +10,7 @@ pub struct ListPlan {
     pub present: bool,
 }
 
-fn shorter(a: usize, b: usize) -> usize
+fn smaller(a: usize, b: usize) -> usize
     ensures { λ r. ⌜ r ≡ min a b ⌝ }
 {
     if a < b {
@@ -34,7 +34,7 @@ pub fn write_lists(
 {
     if plan.present {
         way::read_way_body(map, plan.start, node_counts, latitudes, longitudes);
-        let n = shorter(plan.blocks, node_counts.len());
+        let n = smaller(plan.blocks, node_counts.len());
         let counts = &node_counts[..n];
         initial_positions::write_initials(counts, latitudes, initial_latitudes);
         initial_positions::write_initials(counts, longitudes, initial_longitudes);

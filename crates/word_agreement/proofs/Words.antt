@@ -132,7 +132,7 @@ refusal-number r q = absurd (told (ap (λ n. there n false true) q ∙ settled (
 
 -- an interval as words say it, by what is answered
 abbrev readOf : Maybe Interval → IntervalRead
-readOf none = interval-read.Missing
+readOf none = interval-read.Absent
 readOf (some z) = interval-read.At (record {
   «base_zoom_level» = z .base % 256;
   «min_zoom_level» = z .min % 256;
@@ -153,7 +153,7 @@ read-taken (some z) k =
 -- an answer about a row that is there, or of which there is none
 module _ (w : Wire) (h : IntervalLent w) (i : Maybe Interval) where
   row-number : (a : IntervalAnswer) → rowRes a ≡ answer i → intervalWire w a .number ≡ 0
-  row-number interval.Missing q = refl
+  row-number interval.Absent q = refl
   row-number (interval.At z) q = refl
   row-number (interval.Refused r) q = no-ok q
 
@@ -161,7 +161,7 @@ module _ (w : Wire) (h : IntervalLent w) (i : Maybe Interval) where
   row-read a q = spread-out (6 ∷ 6 ∷ []) 0 0 w h (λ v. intervalIn (listOf (intervalWire v a) 1) ≡ readOf i) (go a q)
     where
       go : (a : IntervalAnswer) → rowRes a ≡ answer i → intervalIn (listOf (intervalWire (spreadWire (6 ∷ 6 ∷ []) 0 0 w) a) 1) ≡ readOf i
-      go interval.Missing q = ap readOf (ok-val q)
+      go interval.Absent q = ap readOf (ok-val q)
       go (interval.At z) q = ap readOf (ok-val q)
       go (interval.Refused r) q = no-ok q
 

@@ -16,11 +16,11 @@ abbrev pub tableBefore : (end count : ℕ) → IntervalTable
 tableBefore end count = record { start = startBefore end count; count = count }
 
 abbrev pub rowRes : IntervalAnswer → Res (Maybe Interval)
-rowRes interval.Missing = answer none
+rowRes interval.Absent = answer none
 rowRes (interval.At z) = answer (some (intervalOf z))
 rowRes (interval.Refused r) = refused r
 
 abbrev pub subFileRes : SubFileAnswer → Res (Maybe ℕ)
-subFileRes sub-file.None = answer none
+subFileRes sub-file.Absent = answer none
 subFileRes (sub-file.At k) = answer (some k)
 subFileRes (sub-file.Refused r) = refused r

@@ -38,14 +38,14 @@ pub struct IntervalsRead {
 
 // Interval k of a table.
 pub enum IntervalAnswer {
-    Missing,
+    Absent,
     At(ZoomInterval),
     Refused(Refusal),
 }
 
 // The number of a sub file, counted from 0.
 pub enum SubFileAnswer {
-    None,
+    Absent,
     At(usize),
     Refused(Refusal),
 }
@@ -189,7 +189,7 @@ pub fn interval_at(map: &[u8], table: IntervalTable, k: usize) -> IntervalAnswer
     ensures { λ r. ⌜ rowRes r ≡ rowAt (table .start) (table .count) k (now (map .entry)) ⌝ }
 {
     if table.count as usize <= k {
-        return IntervalAnswer::Missing;
+        return IntervalAnswer::Absent;
     }
     let at = arithmetic::saturating_add_usize(table.start, 19 * k);
     let got = read_interval(map, at);
@@ -217,5 +217,5 @@ pub fn sub_file_for_zoom(map: &[u8], table: IntervalTable, zoom: u8) -> SubFileA
         at = next;
         i += 1;
     }
-    SubFileAnswer::None
+    SubFileAnswer::Absent
 }

@@ -9,6 +9,9 @@ returns c = no-start (let a = c .before .before .before .before .before .before 
 returns-3 : tie.Need-returns-3
 returns-3 c = found _ _ _ _ _ _ _ _ _ _ (c .before .before .before .before .before .before .before .before .tile-start .ensures) (c .before .before .before .before .before .before .end .given .1) (c .before .before .before .before .before .before .before .before .before .before .before .good .0 .0) (c .before .before .before .before .read-tile .ensures) (c .before .before .enum-told2 .given .1) (c .behind-head .ensures)
 
+returns-2 : tie.Need-returns-2
+returns-2 c = no-tile _ _ _ _ _ _ _ _ _ (c .before .before .before .read-tile .ensures) (c .before .enum-told3 .given .1) (c .tile-refusal .ensures)
+
 pub find-feature-spec : {M : Type 1} → statement M
 find-feature-spec =
     tie.close
@@ -22,6 +25,6 @@ find-feature-spec =
     (λ c. c .match2 .keys1)
     (λ c. c .match2 .keys2)
     (λ c κs. tt)
-    (λ c. no-tile _ _ _ _ _ _ _ _ _ (c .before .before .before .read-tile .ensures) (c .before .enum-told3 .given .1) (c .tile-refusal .ensures))
+    returns-2
     (λ c κs. tt)
     returns-3)

@@ -15,19 +15,40 @@ Inv-loop map starts tags ids len₀ i₀ len i =
 abbrev μ-loop : tie.MeasureT-loop
 μ-loop map starts tags ids len₀ i₀ len i = length ids - i
 
+loop-holds : tie.Need-loop-holds Inv-loop μ-loop
+loop-holds c = (omega arith, omega arith, len-start (let a = c .before .before .before .args in startedName (a .starts .now) (a .tags) (a .map .now)) (c .before .before .before .args .ids .now) 0 0)
+
+mul-tag-name : tie.Need-mul-tag-name Inv-loop μ-loop
+mul-tag-name c = omega arith
+
+shared-slice-read-tag-name : tie.Need-shared-slice-read-tag-name Inv-loop μ-loop
+shared-slice-read-tag-name c = c .before .loop-test .taken
+
+add-i : tie.Need-add-i Inv-loop μ-loop
+add-i c = omega arith
+
+loop-less : tie.Need-loop-less Inv-loop μ-loop
+loop-less c = omega arith
+
+loop-again : tie.Need-loop-again Inv-loop μ-loop
+loop-again c = (omega arith, omega arith, len-more _ _ _ _ (c .before .before .before .before .before .loop .inv .2) _ _ _ _ (c .before .before .before .before .loop-test .taken) (c .before .before .tag-name .ensures) (c .before .replaced-len .ensures) (c .saturating-add-usize .ensures))
+
+returns : tie.Need-returns Inv-loop μ-loop
+returns c = len-done _ _ _ _ (c .before .loop .inv .2) (c .loop-test .left) (c .before .loop .inv .1)
+
 pub ids-len-spec : {M : Type 1} → statement M
 ids-len-spec =
     tie.close
     (tie.spec
     Inv-loop
     μ-loop
-    (λ c. (omega arith, omega arith, len-start (let a = c .before .before .before .args in startedName (a .starts .now) (a .tags) (a .map .now)) (c .before .before .before .args .ids .now) 0 0))
-    (λ c. omega arith)
-    (λ c. c .before .loop-test .taken)
+    loop-holds
+    mul-tag-name
+    shared-slice-read-tag-name
     (λ c κs. tt)
     (λ c κs. tt)
     (λ c κs. tt)
-    (λ c. omega arith)
-    (λ c. omega arith)
-    (λ c. (omega arith, omega arith, len-more _ _ _ _ (c .before .before .before .before .before .loop .inv .2) _ _ _ _ (c .before .before .before .before .loop-test .taken) (c .before .before .tag-name .ensures) (c .before .replaced-len .ensures) (c .saturating-add-usize .ensures)))
-    (λ c. len-done _ _ _ _ (c .before .loop .inv .2) (c .loop-test .left) (c .before .loop .inv .1)))
+    add-i
+    loop-less
+    loop-again
+    returns)

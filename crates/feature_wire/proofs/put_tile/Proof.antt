@@ -4,13 +4,31 @@ use Rattle.wire.specs.Wire.{Wire, listOf}
 use Rattle.feature_wire.proofs.put_tile.Statement.{statement}
 use Rattle.feature_wire.proofs.put_tile.Tie as tie
 
+enum-known-read : tie.Need-enum-known-read
+enum-known-read = search needs
+
+put-summary-requires : tie.Need-put-summary-requires
+put-summary-requires = search needs
+
+enum-known-read-2 : tie.Need-enum-known-read-2
+enum-known-read-2 = search needs
+
+put-refusal-requires : tie.Need-put-refusal-requires
+put-refusal-requires = search needs
+
+returns : tie.Need-returns
+returns c = rw (c .before .before .before .read .given .1, ap (λ (v : Wire). listOf v 0) (c .put-summary .ensures)) refl
+
+returns-2 : tie.Need-returns-2
+returns-2 c = rw (c .before .before .before .read2 .given .1, c .put-refusal .ensures .0, c .put-refusal .ensures .1) refl
+
 pub put-tile-spec : {M : Type 1} → statement M
 put-tile-spec =
     tie.close
     (tie.spec
-    (search needs)
-    (search needs)
-    (search needs)
-    (search needs)
-    (λ c. rw (c .before .before .before .read .given .1, ap (λ (v : Wire). listOf v 0) (c .put-summary .ensures)) refl)
-    (λ c. rw (c .before .before .before .read2 .given .1, c .put-refusal .ensures .0, c .put-refusal .ensures .1) refl))
+    enum-known-read
+    put-summary-requires
+    enum-known-read-2
+    put-refusal-requires
+    returns
+    returns-2)

@@ -2,6 +2,15 @@ use Rattle.fields.proofs.FieldLaws.{no-latitude, no-longitude, whole-po
 use Rattle.fields.proofs.read_position.Statement.{statement}
 use Rattle.fields.proofs.read_position.Tie as tie
 
+returns : tie.Need-returns
+returns c = let a = c .before .before .before .before .before .args in let e = c .before .enum-told in no-latitude (a .map .now) (a .at) _ (c .before .before .before .read-microdegrees .ensures) (e .given .0 .0) _ (e .given .1) (c .micro-refusal .ensures)
+
+returns-2 : tie.Need-returns-2
+returns-2 c = let a = c .before .before .before .before .before .before .before .before .before .args in let g = c .before .before .before .before .before .got in let e = c .before .enum-told2 in no-longitude (a .map .now) (a .at) _ (c .before .before .before .before .before .before .before .read-microdegrees .ensures) (g .given .0 .0) (g .given .0 .1 .0) (g .given .1) _ (c .before .before .before .read-microdegrees2 .ensures) (e .given .0 .0) _ (e .given .1) (c .micro-refusal2 .ensures)
+
+returns-3 : tie.Need-returns-3
+returns-3 c = let a = c .before .before .before .before .before .before .before .before .before .before .args in let g = c .before .before .before .before .before .before .got in let g' = c .before .before .got2 in whole-position (a .map .now) (a .at) _ (c .before .before .before .before .before .before .before .before .read-microdegrees .ensures) (g .given .0 .0) (g .given .0 .1 .0) (g .given .1) _ (c .before .before .before .before .read-microdegrees2 .ensures) (g' .given .0 .0) (g' .given .0 .1 .0) _ (g' .given .1) (c .position-of .ensures)
+
 pub read-position-spec : {M : Type 1} → statement M
 read-position-spec =
     tie.close
@@ -10,11 +19,11 @@ read-position-spec =
     (λ c. c .match .keys1)
     (λ c. c .match .keys2)
     (λ c κs. tt)
-    (λ c. let a = c .before .before .before .before .before .args in let e = c .before .enum-told in no-latitude (a .map .now) (a .at) _ (c .before .before .before .read-microdegrees .ensures) (e .given .0 .0) _ (e .given .1) (c .micro-refusal .ensures))
+    returns
     (λ c κs. tt)
     (λ c. c .match2 .keys1)
     (λ c. c .match2 .keys2)
     (λ c κs. tt)
-    (λ c. let a = c .before .before .before .before .before .before .before .before .before .args in let g = c .before .before .before .before .before .got in let e = c .before .enum-told2 in no-longitude (a .map .now) (a .at) _ (c .before .before .before .before .before .before .before .read-microdegrees .ensures) (g .given .0 .0) (g .given .0 .1 .0) (g .given .1) _ (c .before .before .before .read-microdegrees2 .ensures) (e .given .0 .0) _ (e .given .1) (c .micro-refusal2 .ensures))
+    returns-2
     (λ c κs. tt)
-    (λ c. let a = c .before .before .before .before .before .before .before .before .before .before .args in let g = c .before .before .before .before .before .before .got in let g' = c .before .before .got2 in whole-position (a .map .now) (a .at) _ (c .before .before .before .before .before .before .before .before .read-microdegrees .ensures) (g .given .0 .0) (g .given .0 .1 .0) (g .given .1) _ (c .before .before .before .before .read-microdegrees2 .ensures) (g' .given .0 .0) (g' .given .0 .1 .0) _ (g' .given .1) (c .position-of .ensures)))
+    returns-3)

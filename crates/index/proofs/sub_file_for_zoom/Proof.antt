@@ -21,19 +21,43 @@ loop-holds c =
     let long = c .good .0 .1 .1 .1 .1 .1 .1 .1 .1 .1 .1 .1 .1 .1 .1 .1 .1 .1 .1 .1 .0 .1 .0 .1 in
     search files
 
+cast-n : tie.Need-cast-n Inv-loop μ-loop
+cast-n c = omega arith
+
+mul-holds-zoom : tie.Need-mul-holds-zoom Inv-loop μ-loop
+mul-holds-zoom c = omega arith
+
+element-copy-out-holds-zoom : tie.Need-element-copy-out-holds-zoom Inv-loop μ-loop
+element-copy-out-holds-zoom c = omega arith
+
+returns : tie.Need-returns Inv-loop μ-loop
+returns c = zoom-here _ _ _ _ _ (c .before .before .before .before .loop .inv .2) _ _ (c .before .before .before .before .loop .inv .1) (c .before .before .before .loop-test .taken) (c .before .holds-zoom .ensures) (c .if1 .taken)
+
+add-i : tie.Need-add-i Inv-loop μ-loop
+add-i c = omega arith
+
+loop-less : tie.Need-loop-less Inv-loop μ-loop
+loop-less c = omega arith
+
+loop-again : tie.Need-loop-again Inv-loop μ-loop
+loop-again c = (c .before .before .before .before .loop .inv .0, c .before .before .before .before .loop .inv .1, zoom-next _ _ _ _ _ (c .before .before .before .before .loop .inv .2) _ _ (c .before .before .before .before .loop .inv .1) (c .before .before .before .loop-test .taken) (c .before .holds-zoom .ensures) (c .if1 .left))
+
+returns-2 : tie.Need-returns-2 Inv-loop μ-loop
+returns-2 c = zoom-none _ _ _ _ _ (c .before .loop .inv .2) (c .loop-test .left)
+
 pub sub-file-for-zoom-spec : {M : Type 1} → statement M
 sub-file-for-zoom-spec =
     tie.close
     (tie.spec
     Inv-loop
     μ-loop
-    (λ c. omega arith)
+    cast-n
     loop-holds
-    (λ c. omega arith)
-    (λ c. omega arith)
+    mul-holds-zoom
+    element-copy-out-holds-zoom
     (λ c κs. tt)
-    (λ c. zoom-here _ _ _ _ _ (c .before .before .before .before .loop .inv .2) _ _ (c .before .before .before .before .loop .inv .1) (c .before .before .before .loop-test .taken) (c .before .holds-zoom .ensures) (c .if1 .taken))
-    (λ c. omega arith)
-    (λ c. omega arith)
-    (λ c. (c .before .before .before .before .loop .inv .0, c .before .before .before .before .loop .inv .1, zoom-next _ _ _ _ _ (c .before .before .before .before .loop .inv .2) _ _ (c .before .before .before .before .loop .inv .1) (c .before .before .before .loop-test .taken) (c .before .holds-zoom .ensures) (c .if1 .left)))
-    (λ c. zoom-none _ _ _ _ _ (c .before .loop .inv .2) (c .loop-test .left)))
+    returns
+    add-i
+    loop-less
+    loop-again
+    returns-2)

@@ -3,6 +3,10 @@ use Rattle.report.specs.Texts.{zeros}
 use Rattle.report.proofs.large.Statement.{statement}
 use Rattle.report.proofs.large.Tie as tie
 
-pub large-spec : {M : Type 1} → statement M
+returns : tie.Need-returns
 unfolding zeros
-large-spec = tie.close (tie.spec (λ c. refl))
+returns c = refl
+
+pub large-spec : {M : Type 1} → statement M
+large-spec = tie.close (tie.spec
+    returns)

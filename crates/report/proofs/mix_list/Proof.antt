@@ -13,19 +13,49 @@ Inv-loop digest list count out₀ i₀ out i = (i ≤ length list) × (i ≤ cou
 abbrev μ-loop : tie.MeasureT-loop
 μ-loop digest list count out₀ i₀ out i = length list - i
 
+mix-requires : tie.Need-mix-requires Inv-loop μ-loop
+mix-requires c κs = search words
+
+loop-holds : tie.Need-loop-holds Inv-loop μ-loop
+loop-holds c = search words
+
+returns : tie.Need-returns Inv-loop μ-loop
+returns c = search words
+
+mul-mix : tie.Need-mul-mix Inv-loop μ-loop
+mul-mix c = search words
+
+shared-slice-read-mix : tie.Need-shared-slice-read-mix Inv-loop μ-loop
+shared-slice-read-mix c = search words
+
+mix-requires-2 : tie.Need-mix-requires-2 Inv-loop μ-loop
+mix-requires-2 c κs = search words
+
+add-i : tie.Need-add-i Inv-loop μ-loop
+add-i c = search words
+
+loop-less : tie.Need-loop-less Inv-loop μ-loop
+loop-less c = search words
+
+loop-again : tie.Need-loop-again Inv-loop μ-loop
+loop-again c = (omega arith, omega arith, mix-more _ _ _ _ (c .before .before .before .before .loop .inv .2) _ (c .mix2 .ensures))
+
+returns-2 : tie.Need-returns-2 Inv-loop μ-loop
+returns-2 c = search words
+
 pub mix-list-spec : {M : Type 1} → statement M
 mix-list-spec =
     tie.close
     (tie.spec
     Inv-loop
     μ-loop
-    (λ c κs. search words)
-    (λ c. search words)
-    (λ c. search words)
-    (λ c. search words)
-    (λ c. search words)
-    (λ c κs. search words)
-    (λ c. search words)
-    (λ c. search words)
-    (λ c. (omega arith, omega arith, mix-more _ _ _ _ (c .before .before .before .before .loop .inv .2) _ (c .mix2 .ensures)))
-    (λ c. search words))
+    mix-requires
+    loop-holds
+    returns
+    mul-mix
+    shared-slice-read-mix
+    mix-requires-2
+    add-i
+    loop-less
+    loop-again
+    returns-2)

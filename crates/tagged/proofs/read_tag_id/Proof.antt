@@ -15,15 +15,34 @@ returns-3 : tie.Need-returns-3
 unfolding tagId
 returns-3 c = number-ok _ _ _ _ _ _ (c .before .before .before .before .read-vbe-u-int .ensures) (c .before .before .got .given .1) (ltb-yes _ _ _ _ _ (c .if1 .left) refl)
 
-pub read-tag-id-spec : {M : Type 1} → statement M
+read-vbe-u-int-requires : tie.Need-read-vbe-u-int-requires
 unfolding tagId
+read-vbe-u-int-requires c κs = tt
+
+enum-known-got : tie.Need-enum-known-got
+unfolding tagId
+enum-known-got c = c .match .keys1
+
+enum-told : tie.Need-enum-told
+unfolding tagId
+enum-told c = c .match .keys2
+
+number-refusal-requires : tie.Need-number-refusal-requires
+unfolding tagId
+number-refusal-requires c κs = tt
+
+returns : tie.Need-returns
+unfolding tagId
+returns c = number-no _ _ _ _ _ (c .before .before .before .read-vbe-u-int .ensures) (c .before .enum-told .given .1) (c .number-refusal .ensures)
+
+pub read-tag-id-spec : {M : Type 1} → statement M
 read-tag-id-spec =
     tie.close
     (tie.spec
-    (λ c κs. tt)
-    (λ c. c .match .keys1)
-    (λ c. c .match .keys2)
-    (λ c κs. tt)
-    (λ c. number-no _ _ _ _ _ (c .before .before .before .read-vbe-u-int .ensures) (c .before .enum-told .given .1) (c .number-refusal .ensures))
+    read-vbe-u-int-requires
+    enum-known-got
+    enum-told
+    number-refusal-requires
+    returns
     returns-2
     returns-3)

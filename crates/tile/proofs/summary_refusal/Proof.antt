@@ -3,11 +3,17 @@ use mathlib.Core.Path.{refl}
 use Rattle.tile.proofs.summary_refusal.Statement.{statement}
 use Rattle.tile.proofs.summary_refusal.Tie as tie
 
+returns : tie.Need-returns
+returns c = rw (c .before .got .given .1) refl
+
+returns-2 : tie.Need-returns-2
+returns-2 c = search needs
+
 pub summary-refusal-spec : {M : Type 1} → statement M
 summary-refusal-spec =
     tie.close
     (tie.spec
     (λ c. c .match .keys1)
     (λ c. c .match .keys2)
-    (λ c. rw (c .before .got .given .1) refl)
-    (λ c. search needs))
+    returns
+    returns-2)

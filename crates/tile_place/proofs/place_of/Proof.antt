@@ -24,6 +24,9 @@ returns-4 c =
     let a = c .before .before .before .before .before .before .before .before .before .before .before .before .args in
     found (a .debug) (intervalOf (a .interval)) (a .tile) (a .tiles) (a .map .now) _ (c .before .before .before .before .before .before .before .before .before .before .entry-at .ensures) _ (c .before .before .before .before .before .before .before .before .got .given .1) _ (c .before .before .before .before .before .before .next-offset .ensures) _ _ (c .before .before .before .before .next .given .1) _ _ (c .before .before .if1 .left) refl (c .first-byte .ensures)
 
+next-offset-requires : tie.Need-next-offset-requires
+next-offset-requires c κs = c .before .before .before .before .before .pre
+
 pub place-of-spec : {M : Type 1} → statement M
 place-of-spec =
     tie.close
@@ -33,7 +36,7 @@ place-of-spec =
     (λ c. c .match .keys2)
     (λ c κs. tt)
     returns
-    (λ c κs. c .before .before .before .before .before .pre)
+    next-offset-requires
     (λ c. c .match2 .keys1)
     (λ c. c .match2 .keys2)
     (λ c κs. tt)

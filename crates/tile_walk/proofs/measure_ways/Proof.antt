@@ -17,11 +17,23 @@ abbrev μ-loop : tie.MeasureT-loop
 
 returns : tie.Need-returns Inv-loop μ-loop
 returns c =
-    ways-no _ _ _ _ _ _ _ _ (c .before .before .before .before .before .loop .inv .1) _ (c .before .before .before .measure-way .ensures) _ _ _
+    ways-no _ _ _ _ _ _ _ _ (c .before .before .before .before .before .loop .inv .1) _ (c .before .before .before .exact-way .ensures) _ _ _
     (c .before .enum-told .given .1) (c .ways-refusal .ensures) (c .before .before .before .before .loop-test .taken)
 
 loop-again : tie.Need-loop-again Inv-loop μ-loop
-loop-again c = (omega arith, ways-more _ _ _ _ (c .before .before .before .before .before .before .loop .i) (c .before .before .before .before .before .before .before .before .before .args .at) _ _ (c .before .before .before .before .before .before .loop .inv .1) _ (c .before .before .before .before .measure-way .ensures) _ _ _ (c .before .before .got .given .1) (c .both .ensures))
+loop-again c = (omega arith, ways-more _ _ _ _ (c .before .before .before .before .before .before .loop .i) (c .before .before .before .before .before .before .before .before .before .args .at) _ _ (c .before .before .before .before .before .before .loop .inv .1) _ (c .before .before .before .before .exact-way .ensures) _ _ _ (c .before .before .got .given .1) (c .both .ensures))
+
+loop-holds : tie.Need-loop-holds Inv-loop μ-loop
+loop-holds c = search way-loops
+
+add-i : tie.Need-add-i Inv-loop μ-loop
+add-i c = search way-loops
+
+loop-less : tie.Need-loop-less Inv-loop μ-loop
+loop-less c = search way-loops
+
+returns-2 : tie.Need-returns-2 Inv-loop μ-loop
+returns-2 c = ways-done _ _ _ _ _ _ _ _ (c .before .loop .inv .1) _ (c .before .loop .inv .0) (c .loop-test .left)
 
 pub measure-ways-spec : {M : Type 1} → statement M
 measure-ways-spec =
@@ -29,14 +41,14 @@ measure-ways-spec =
     (tie.spec
     Inv-loop
     μ-loop
-    (λ c. search way-loops)
+    loop-holds
     (λ c κs. tt)
     (λ c. c .match .keys1)
     (λ c. c .match .keys2)
     (λ c κs. tt)
     returns
     (λ c κs. tt)
-    (λ c. search way-loops)
-    (λ c. search way-loops)
+    add-i
+    loop-less
     loop-again
-    (λ c. ways-done _ _ _ _ _ _ _ _ (c .before .loop .inv .1) _ (c .before .loop .inv .0) (c .loop-test .left)))
+    returns-2)

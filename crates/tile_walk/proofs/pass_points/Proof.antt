@@ -24,19 +24,31 @@ returns c =
 loop-again : tie.Need-loop-again Inv-loop μ-loop
 loop-again c = (omega arith, points-more _ _ _ _ _ _ (c .before .before .before .before .before .loop .inv .1) _ (c .before .before .before .read-poi .ensures) _ (c .before .end .given .1))
 
+loop-holds : tie.Need-loop-holds Inv-loop μ-loop
+loop-holds c = search points
+
+add-i : tie.Need-add-i Inv-loop μ-loop
+add-i c = search points
+
+loop-less : tie.Need-loop-less Inv-loop μ-loop
+loop-less c = search points
+
+returns-2 : tie.Need-returns-2 Inv-loop μ-loop
+returns-2 c = points-done _ _ _ _ _ _ (c .before .loop .inv .1) _ (c .before .loop .inv .0) (c .loop-test .left)
+
 pub pass-points-spec : {M : Type 1} → statement M
 pass-points-spec =
     tie.close
     (tie.spec
     Inv-loop
     μ-loop
-    (λ c. search points)
+    loop-holds
     (λ c κs. tt)
     (λ c. c .match .keys1)
     (λ c. c .match .keys2)
     (λ c κs. tt)
     returns
-    (λ c. search points)
-    (λ c. search points)
+    add-i
+    loop-less
     loop-again
-    (λ c. points-done _ _ _ _ _ _ (c .before .loop .inv .1) _ (c .before .loop .inv .0) (c .loop-test .left)))
+    returns-2)

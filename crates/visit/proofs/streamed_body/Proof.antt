@@ -2,6 +2,9 @@ use Rattle.visit.proofs.AcceptLaws.{body-made}
 use Rattle.visit.proofs.streamed_body.Statement.{statement}
 use Rattle.visit.proofs.streamed_body.Tie as tie
 
+returns : tie.Need-returns
+returns c = let a = c .before .before .before .before .args in body-made (a .map .now) (a .body) _ _ _ (c .before .before .streamed-span .ensures) (c .before .streamed-span2 .ensures) (c .streamed-span3 .ensures)
+
 pub streamed-body-spec : {M : Type 1} → statement M
 streamed-body-spec =
     tie.close
@@ -9,4 +12,4 @@ streamed-body-spec =
     (λ c κs. tt)
     (λ c κs. tt)
     (λ c κs. tt)
-    (λ c. let a = c .before .before .before .before .args in body-made (a .map .now) (a .body) _ _ _ (c .before .before .streamed-span .ensures) (c .before .streamed-span2 .ensures) (c .streamed-span3 .ensures)))
+    returns)

@@ -16,20 +16,41 @@ Inv-loop map at n next₀ nodes₀ i₀ next nodes i =
 abbrev μ-loop : tie.MeasureT-loop
 μ-loop map at n next₀ nodes₀ i₀ next nodes i = n - i
 
+loop-holds : tie.Need-loop-holds Inv-loop μ-loop
+loop-holds c = search over-blocks
+
+returns : tie.Need-returns Inv-loop μ-loop
+returns c = let a = c .before .before .before .before .before .before .before .args in let l = c .before .before .before .before .before .loop in let e = c .before .enum-told in blocks-stop (a .map .now) (l .i) (a .at) (l .next) _ _ _ (e .given .0 .0) _ (l .inv .1) (c .before .before .before .measure-block .ensures) (e .given .1) (c .number-refusal .ensures) (c .before .before .before .before .loop-test .taken)
+
+add-nodes : tie.Need-add-nodes Inv-loop μ-loop
+add-nodes c = search over-blocks
+
+add-i : tie.Need-add-i Inv-loop μ-loop
+add-i c = search over-blocks
+
+loop-less : tie.Need-loop-less Inv-loop μ-loop
+loop-less c = search over-blocks
+
+loop-again : tie.Need-loop-again Inv-loop μ-loop
+loop-again c = let a = c .before .before .before .before .before .before .before .args in let l = c .before .before .before .before .before .loop in (omega arith, blocks-more (a .map .now) (l .i) (a .at) (l .next) _ _ _ _ _ (l .inv .1) (c .before .before .before .measure-block .ensures) (c .before .got .given .1))
+
+returns-2 : tie.Need-returns-2 Inv-loop μ-loop
+returns-2 c = let a = c .before .before .before .args in let l = c .before .loop in counted sizesOf block (a .map .now) (l .i) _ (a .at) _ _ (l .inv .1) (l .inv .0) (c .loop-test .left)
+
 pub measure-blocks-spec : {M : Type 1} → statement M
 measure-blocks-spec =
     tie.close
     (tie.spec
     Inv-loop
     μ-loop
-    (λ c. search over-blocks)
+    loop-holds
     (λ c κs. tt)
     (λ c. c .match .keys1)
     (λ c. c .match .keys2)
     (λ c κs. tt)
-    (λ c. let a = c .before .before .before .before .before .before .before .args in let l = c .before .before .before .before .before .loop in let e = c .before .enum-told in blocks-stop (a .map .now) (l .i) (a .at) (l .next) _ _ _ (e .given .0 .0) _ (l .inv .1) (c .before .before .before .measure-block .ensures) (e .given .1) (c .number-refusal .ensures) (c .before .before .before .before .loop-test .taken))
-    (λ c. search over-blocks)
-    (λ c. search over-blocks)
-    (λ c. search over-blocks)
-    (λ c. let a = c .before .before .before .before .before .before .before .args in let l = c .before .before .before .before .before .loop in (omega arith, blocks-more (a .map .now) (l .i) (a .at) (l .next) _ _ _ _ _ (l .inv .1) (c .before .before .before .measure-block .ensures) (c .before .got .given .1)))
-    (λ c. let a = c .before .before .before .args in let l = c .before .loop in counted sizesOf block (a .map .now) (l .i) _ (a .at) _ _ (l .inv .1) (l .inv .0) (c .loop-test .left)))
+    returns
+    add-nodes
+    add-i
+    loop-less
+    loop-again
+    returns-2)

@@ -15,19 +15,37 @@ Inv-loop map at n next₀ i₀ next i = (i ≤ n) × (mapRes length (many node i
 abbrev μ-loop : tie.MeasureT-loop
 μ-loop map at n next₀ i₀ next i = n - i
 
+loop-holds : tie.Need-loop-holds Inv-loop μ-loop
+loop-holds c = search over-nodes
+
+returns : tie.Need-returns Inv-loop μ-loop
+returns c = let a = c .before .before .before .before .before .before .before .args in let l = c .before .before .before .before .before .loop in let e = c .before .enum-told in nodes-stop (a .map .now) (l .i) (a .at) (l .next) _ (l .inv .1) (c .before .before .before .read-node .ensures) _ (e .given .0 .0) _ (e .given .1) (c .node-refusal .ensures) (c .before .before .before .before .loop-test .taken)
+
+add-i : tie.Need-add-i Inv-loop μ-loop
+add-i c = search over-nodes
+
+loop-less : tie.Need-loop-less Inv-loop μ-loop
+loop-less c = search over-nodes
+
+loop-again : tie.Need-loop-again Inv-loop μ-loop
+loop-again c = let a = c .before .before .before .before .before .before .before .args in let l = c .before .before .before .before .before .loop in (omega arith, nodes-more (a .map .now) (l .i) (a .at) (l .next) _ (l .inv .1) (c .before .before .before .read-node .ensures) (c .before .got .given .0 .1 .0) (c .before .got .given .0 .0) (c .before .got .given .1))
+
+returns-2 : tie.Need-returns-2 Inv-loop μ-loop
+returns-2 c = let a = c .before .before .before .args in let l = c .before .loop in counted length node (a .map .now) (l .i) _ (a .at) _ _ (l .inv .1) (l .inv .0) (c .loop-test .left)
+
 pub measure-nodes-spec : {M : Type 1} → statement M
 measure-nodes-spec =
     tie.close
     (tie.spec
     Inv-loop
     μ-loop
-    (λ c. search over-nodes)
+    loop-holds
     (λ c κs. tt)
     (λ c. c .match .keys1)
     (λ c. c .match .keys2)
     (λ c κs. tt)
-    (λ c. let a = c .before .before .before .before .before .before .before .args in let l = c .before .before .before .before .before .loop in let e = c .before .enum-told in nodes-stop (a .map .now) (l .i) (a .at) (l .next) _ (l .inv .1) (c .before .before .before .read-node .ensures) _ (e .given .0 .0) _ (e .given .1) (c .node-refusal .ensures) (c .before .before .before .before .loop-test .taken))
-    (λ c. search over-nodes)
-    (λ c. search over-nodes)
-    (λ c. let a = c .before .before .before .before .before .before .before .args in let l = c .before .before .before .before .before .loop in (omega arith, nodes-more (a .map .now) (l .i) (a .at) (l .next) _ (l .inv .1) (c .before .before .before .read-node .ensures) (c .before .got .given .0 .1 .0) (c .before .got .given .0 .0) (c .before .got .given .1)))
-    (λ c. let a = c .before .before .before .args in let l = c .before .loop in counted length node (a .map .now) (l .i) _ (a .at) _ _ (l .inv .1) (l .inv .0) (c .loop-test .left)))
+    returns
+    add-i
+    loop-less
+    loop-again
+    returns-2)

@@ -24,6 +24,24 @@ returns c =
 loop-again : tie.Need-loop-again Inv-loop μ-loop
 loop-again c = (omega arith, intervals-more _ _ _ _ _ _ _ _ _ (c .before .before .before .before .before .loop .inv .1) (c .before .before .before .read-interval .ensures) (c .before .got .given .1) (c .before .before .before .before .loop-test .taken) (omega arith))
 
+loop-holds : tie.Need-loop-holds Inv-loop μ-loop
+loop-holds c = search fills
+
+mul-intervals : tie.Need-mul-intervals Inv-loop μ-loop
+mul-intervals c = search fills
+
+array-set-from-intervals : tie.Need-array-set-from-intervals Inv-loop μ-loop
+array-set-from-intervals c = search fills
+
+add-i : tie.Need-add-i Inv-loop μ-loop
+add-i c = search fills
+
+loop-less : tie.Need-loop-less Inv-loop μ-loop
+loop-less c = search fills
+
+returns-2 : tie.Need-returns-2 Inv-loop μ-loop
+returns-2 c = beside-done _ _ _ _ _ (intervals-done _ _ _ _ _ _ (c .before .loop .inv .1) (c .before .loop .inv .0) (c .loop-test .left))
+
 pub fill-intervals-spec : {M : Type 1} → statement M
 fill-intervals-spec =
     tie.close
@@ -31,16 +49,16 @@ fill-intervals-spec =
     Inv-loop
     μ-loop
     (λ c κs. tt)
-    (λ c. search fills)
+    loop-holds
     (λ c κs. tt)
     (λ c. c .match .keys1)
     (λ c. c .match .keys2)
     (λ c κs. tt)
     (λ c κs. tt)
     returns
-    (λ c. search fills)
-    (λ c. search fills)
-    (λ c. search fills)
-    (λ c. search fills)
+    mul-intervals
+    array-set-from-intervals
+    add-i
+    loop-less
     loop-again
-    (λ c. beside-done _ _ _ _ _ (intervals-done _ _ _ _ _ _ (c .before .loop .inv .1) (c .before .loop .inv .0) (c .loop-test .left))))
+    returns-2)

@@ -12,13 +12,13 @@ use Rattle.format.specs.Lent.{front}
 use Rattle.format.specs.Tile.{Row}
 use Rattle.format.specs.Rows.{rowsUpto, pointsOf, waysOf}
 use Rattle.types.specs.Beside.{Beside}
-use Rattle.blocks.specs.declared.ZoomRow.{ZoomRow}
-use Rattle.blocks.specs.declared.ZoomTableRead.{ZoomTableRead}
-use Rattle.blocks.specs.declared.Sums.{Sums}
-use Rattle.blocks.specs.declared.SumsRead.{SumsRead}
-use Rattle.blocks.specs.declared.SumsRead.the-variants as sums
-use Rattle.blocks.specs.declared.RowRead.{RowRead}
-use Rattle.blocks.specs.declared.RowRead.the-variants as row
+use Rattle.zoom_table.specs.declared.ZoomRow.{ZoomRow}
+use Rattle.zoom_table.specs.declared.ZoomTableRead.{ZoomTableRead}
+use Rattle.zoom_table.specs.declared.Sums.{Sums}
+use Rattle.zoom_table.specs.declared.SumsRead.{SumsRead}
+use Rattle.zoom_table.specs.declared.SumsRead.the-variants as sums
+use Rattle.zoom_table.specs.declared.RowRead.{RowRead}
+use Rattle.zoom_table.specs.declared.RowRead.the-variants as row
 
 abbrev pub zoomRow : Row → ZoomRow
 zoomRow r = record { points = r .points; ways = r .ways }

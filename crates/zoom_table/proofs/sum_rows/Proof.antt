@@ -2,11 +2,11 @@ use Prim.Native.Nat.{_≤_, _-_}
 use mathlib.Core.Path.{_≡_}
 use Rattle.parsing.specs.Parse.{ok, many, mapRes}
 use Rattle.format.specs.Tile.{row}
-use Rattle.blocks.specs.Blocks.{sumOf}
+use Rattle.zoom_table.specs.Blocks.{sumOf}
 use native.Mathlib.Omega.{arith}
-use Rattle.blocks.proofs.SumLaws.{sums-more, sums-no, sums}
-use Rattle.blocks.proofs.sum_rows.Statement.{statement}
-use Rattle.blocks.proofs.sum_rows.Tie as tie
+use Rattle.zoom_table.proofs.SumLaws.{sums-more, sums-no, sums}
+use Rattle.zoom_table.proofs.sum_rows.Statement.{statement}
+use Rattle.zoom_table.proofs.sum_rows.Tie as tie
 
 abbrev Inv-loop : tie.InvT-loop
 Inv-loop map at count points₀ ways₀ next₀ i₀ points ways next i = (i ≤ count) × (mapRes sumOf (many row i map at) ≡ ok (record { points = points; ways = ways }) next)

@@ -1,6 +1,6 @@
-use Rattle.blocks.proofs.BlockLaws.{refusals}
-use Rattle.blocks.proofs.row_refusal.Statement.{statement}
-use Rattle.blocks.proofs.row_refusal.Tie as tie
+use Rattle.zoom_table.proofs.BlockLaws.{refusals}
+use Rattle.zoom_table.proofs.row_refusal.Statement.{statement}
+use Rattle.zoom_table.proofs.row_refusal.Tie as tie
 
 pub row-refusal-spec : {M : Type 1} → statement M
 row-refusal-spec =

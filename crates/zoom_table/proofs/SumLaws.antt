@@ -20,13 +20,13 @@ use Rattle.arithmetic.specs.Cut.{cut}
 use Rattle.arithmetic.proofs.CutLaws.{cut-add}
 use Rattle.format.specs.Tile.{Row, row}
 use Rattle.format.specs.Rows.{rowsUpto, pointsOf, waysOf, numbersOfTable}
-use Rattle.blocks.specs.Blocks.{zoomRow, sumOf, zoomSums, sumsRes, sumsRefusal, rowRes, rowRefusal}
-use Rattle.blocks.specs.declared.SumsRead.the-variants as sums-read
-use Rattle.blocks.specs.declared.ZoomRow.{ZoomRow}
-use Rattle.blocks.specs.declared.Sums.{Sums}
-use Rattle.blocks.specs.declared.RowRead.{RowRead}
-use Rattle.blocks.specs.declared.RowRead.the-variants as row-read
-use Rattle.blocks.proofs.BlockLaws.{row-no, table-reversed, table-is}
+use Rattle.zoom_table.specs.Blocks.{zoomRow, sumOf, zoomSums, sumsRes, sumsRefusal, rowRes, rowRefusal}
+use Rattle.zoom_table.specs.declared.SumsRead.the-variants as sums-read
+use Rattle.zoom_table.specs.declared.ZoomRow.{ZoomRow}
+use Rattle.zoom_table.specs.declared.Sums.{Sums}
+use Rattle.zoom_table.specs.declared.RowRead.{RowRead}
+use Rattle.zoom_table.specs.declared.RowRead.the-variants as row-read
+use Rattle.zoom_table.proofs.BlockLaws.{row-no, table-reversed, table-is}
 
 total-append : {A : Type 0} (f : A → ℕ) (xs ys : List A) → total f (xs ++ ys) ≡ total f xs + total f ys
 total-append f [] ys = sym (zero-add (total f ys))

@@ -21,11 +21,11 @@ use Rattle.format.specs.Rows.{rowsOfInterval, numbersOfTable, intervalTable}
 use Rattle.types.specs.Types.{endRes, endRefusal}
 use Rattle.types.specs.declared.End.the-variants as end
 use Rattle.types.proofs.BesideLaws.{beside-no}
-use Rattle.blocks.specs.Blocks.{rowsOf, noRows, shownRows, TableIs, zoomSums, sumsRes, sumsRefusal}
-use Rattle.blocks.specs.declared.ZoomTableRead.{ZoomTableRead}
-use Rattle.blocks.specs.declared.SumsRead.{SumsRead}
-use Rattle.blocks.specs.declared.SumsRead.the-variants as sums
-use Rattle.blocks.specs.declared.Sums.{Sums}
+use Rattle.zoom_table.specs.Blocks.{rowsOf, noRows, shownRows, TableIs, zoomSums, sumsRes, sumsRefusal}
+use Rattle.zoom_table.specs.declared.ZoomTableRead.{ZoomTableRead}
+use Rattle.zoom_table.specs.declared.SumsRead.{SumsRead}
+use Rattle.zoom_table.specs.declared.SumsRead.the-variants as sums
+use Rattle.zoom_table.specs.declared.Sums.{Sums}
 
 -- the missing byte's place
 module _ (m : List ℕ) (at : ℕ) (f : at < 2 ^ 64) (g : length m < 2 ^ 64) where

@@ -2,12 +2,12 @@ use Prim.Native.Nat.{_≤_, _-_}
 use mathlib.Core.Path.{_≡_}
 use Rattle.parsing.specs.Parse.{ok, many, mapRes}
 use Rattle.format.specs.Tile.{row}
-use Rattle.blocks.specs.Blocks.{filledRows}
+use Rattle.zoom_table.specs.Blocks.{filledRows}
 use native.Mathlib.Omega.{arith}
 use Rattle.types.proofs.BesideLaws.{beside-done, beside-no}
-use Rattle.blocks.proofs.BlockLaws.{rows-more, row-no, rows-done, fills}
-use Rattle.blocks.proofs.fill_rows.Statement.{statement}
-use Rattle.blocks.proofs.fill_rows.Tie as tie
+use Rattle.zoom_table.proofs.BlockLaws.{rows-more, row-no, rows-done, fills}
+use Rattle.zoom_table.proofs.fill_rows.Statement.{statement}
+use Rattle.zoom_table.proofs.fill_rows.Tie as tie
 
 abbrev Inv-loop : tie.InvT-loop
 Inv-loop map at count rows₀ next₀ i₀ rows next i = (i ≤ count) × (mapRes filledRows (many row i map at) ≡ ok rows next)
@@ -23,22 +23,40 @@ returns c =
 loop-again : tie.Need-loop-again Inv-loop μ-loop
 loop-again c = (omega arith, rows-more _ _ _ _ _ _ _ _ _ (c .before .before .before .before .before .loop .inv .1) (c .before .before .before .read-row .ensures) (c .before .got .given .1) (c .before .before .before .before .loop-test .taken) (c .before .before .before .before .before .before .before .pre))
 
+loop-holds : tie.Need-loop-holds Inv-loop μ-loop
+loop-holds c = search fills
+
+mul-rows : tie.Need-mul-rows Inv-loop μ-loop
+mul-rows c = search fills
+
+array-set-from-rows : tie.Need-array-set-from-rows Inv-loop μ-loop
+array-set-from-rows c = search fills
+
+add-i : tie.Need-add-i Inv-loop μ-loop
+add-i c = search fills
+
+loop-less : tie.Need-loop-less Inv-loop μ-loop
+loop-less c = search fills
+
+returns-2 : tie.Need-returns-2 Inv-loop μ-loop
+returns-2 c = beside-done _ _ _ _ _ (rows-done _ _ _ _ _ _ (c .before .loop .inv .1) (c .before .loop .inv .0) (c .loop-test .left))
+
 pub fill-rows-spec : {M : Type 1} → statement M
 fill-rows-spec =
     tie.close
     (tie.spec
     Inv-loop
     μ-loop
-    (λ c. search fills)
+    loop-holds
     (λ c κs. tt)
     (λ c. c .match .keys1)
     (λ c. c .match .keys2)
     (λ c κs. tt)
     (λ c κs. tt)
     returns
-    (λ c. search fills)
-    (λ c. search fills)
-    (λ c. search fills)
-    (λ c. search fills)
+    mul-rows
+    array-set-from-rows
+    add-i
+    loop-less
     loop-again
-    (λ c. beside-done _ _ _ _ _ (rows-done _ _ _ _ _ _ (c .before .loop .inv .1) (c .before .loop .inv .0) (c .loop-test .left))))
+    returns-2)

@@ -20,12 +20,12 @@ use Rattle.types.specs.Types.{endRefusal}
 use Rattle.types.specs.declared.End.the-variants as end
 use Rattle.types.proofs.BesideLaws.{besides, beside-same, beside-ok, beside-stop}
 use Rattle.types.proofs.FillLaws.{front-map-more, fill-more, fill-done}
-use Rattle.blocks.specs.Blocks.{zoomRow, emptyRow, filledRows, ShownRows, rowsOf, noRows, shownRows, TableIs, rowRes, rowRefusal, sumsRefusal}
-use Rattle.blocks.specs.declared.ZoomRow.{ZoomRow}
-use Rattle.blocks.specs.declared.ZoomTableRead.{ZoomTableRead}
-use Rattle.blocks.specs.declared.SumsRead.the-variants as sums-read
-use Rattle.blocks.specs.declared.RowRead.{RowRead}
-use Rattle.blocks.specs.declared.RowRead.the-variants as row-read
+use Rattle.zoom_table.specs.Blocks.{zoomRow, emptyRow, filledRows, ShownRows, rowsOf, noRows, shownRows, TableIs, rowRes, rowRefusal, sumsRefusal}
+use Rattle.zoom_table.specs.declared.ZoomRow.{ZoomRow}
+use Rattle.zoom_table.specs.declared.ZoomTableRead.{ZoomTableRead}
+use Rattle.zoom_table.specs.declared.SumsRead.the-variants as sums-read
+use Rattle.zoom_table.specs.declared.RowRead.{RowRead}
+use Rattle.zoom_table.specs.declared.RowRead.the-variants as row-read
 
 pub row-refused : Taken rowRefusal row-read.Refused
 row-refused g e h = taken rowRefusal h refl

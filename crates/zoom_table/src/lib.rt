@@ -8,7 +8,7 @@ ghost use Rattle.parsing.specs.Parse.{mapRes, many};
 ghost use Rattle.format.specs.Tile.{row};
 ghost use Rattle.format.specs.Rows.{rowsUpto, numbersOfTable, intervalTable};
 ghost use Rattle.format.specs.CutOff.{whereByte};
-ghost use Rattle.blocks.specs.Blocks.{zoomRow, rowRes, rowRefusal, sumOf, noRows, shownRows, TableIs, zoomSums, sumsRes, sumsRefusal};
+ghost use Rattle.zoom_table.specs.Blocks.{zoomRow, rowRes, rowRefusal, sumOf, noRows, shownRows, TableIs, zoomSums, sumsRes, sumsRefusal};
 
 // The points and ways of a zoom level.
 pub struct ZoomRow {

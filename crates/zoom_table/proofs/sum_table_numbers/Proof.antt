@@ -1,6 +1,6 @@
-use Rattle.blocks.proofs.SumLaws.{sum-reversed, front-no, back-no, both-ok, parted}
-use Rattle.blocks.proofs.sum_table_numbers.Statement.{statement}
-use Rattle.blocks.proofs.sum_table_numbers.Tie as tie
+use Rattle.zoom_table.proofs.SumLaws.{sum-reversed, front-no, back-no, both-ok, parted}
+use Rattle.zoom_table.proofs.sum_table_numbers.Statement.{statement}
+use Rattle.zoom_table.proofs.sum_table_numbers.Tie as tie
 
 returns-2 : tie.Need-returns-2
 returns-2 c =
@@ -18,20 +18,35 @@ returns-4 c =
     (c .before .before .before .before .before .before .before .before .before .sum-rows .ensures) (c .before .before .before .before .before .before .before .got .given .1) (c .before .before .before .before .before .sum-rows2 .ensures) (c .before .before .before .got2 .given .1) (c .before .before .before .before .before .before .before .before .before .before .before .if1 .left) (c .before .before .before .before .before .before .before .before .before .before .rows-upto .ensures .0) (c .before .before .before .before .before .before .before .before .before .before .rows-upto .ensures .1)
     (c .before .saturating-add-usize .ensures) (c .saturating-add-usize2 .ensures)
 
+returns : tie.Need-returns
+returns c = sum-reversed _ _ _ _ 0 _ (c .if1 .taken)
+
+rows-upto-requires : tie.Need-rows-upto-requires
+rows-upto-requires = search parted
+
+cast-sum-rows : tie.Need-cast-sum-rows
+cast-sum-rows = search parted
+
+add-sum-rows : tie.Need-add-sum-rows
+add-sum-rows = search parted
+
+sub-sum-rows : tie.Need-sub-sum-rows
+sub-sum-rows = search parted
+
 pub sum-table-numbers-spec : {M : Type 1} → statement M
 sum-table-numbers-spec =
     tie.close
     (tie.spec
-    (λ c. sum-reversed _ _ _ _ 0 _ (c .if1 .taken))
-    (search parted)
+    returns
+    rows-upto-requires
     (λ c κs. tt)
     (λ c. c .match .keys1)
     (λ c. c .match .keys2)
     (λ c κs. tt)
     returns-2
-    (search parted)
-    (search parted)
-    (search parted)
+    cast-sum-rows
+    add-sum-rows
+    sub-sum-rows
     (λ c κs. tt)
     (λ c. c .match2 .keys1)
     (λ c. c .match2 .keys2)

@@ -1,6 +1,6 @@
-use Rattle.blocks.proofs.BlockLaws.{refusals}
-use Rattle.blocks.proofs.sums_refusal.Statement.{statement}
-use Rattle.blocks.proofs.sums_refusal.Tie as tie
+use Rattle.zoom_table.proofs.BlockLaws.{refusals}
+use Rattle.zoom_table.proofs.sums_refusal.Statement.{statement}
+use Rattle.zoom_table.proofs.sums_refusal.Tie as tie
 
 pub sums-refusal-spec : {M : Type 1} → statement M
 sums-refusal-spec =
