@@ -7,3 +7,4 @@ pub mod HeaderFacts
 pub mod Opened
 pub mod Theorem
 pub mod ZoomingLaws
+pub mod ListedLaws

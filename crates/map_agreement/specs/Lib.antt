@@ -4,3 +4,4 @@ pub mod Called
 pub mod Texts
 pub mod BookSays
 pub mod ZoomingIn
+pub mod ListedTags
