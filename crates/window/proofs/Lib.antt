@@ -1,0 +1,13 @@
+pub mod BiasLaws
+pub mod AxisLaws
+pub mod SignedLaws
+pub mod MaskLaws
+pub mod CountLaws
+pub mod TileLaws
+pub mod ShareLaws
+pub mod MeaningLaws
+pub mod TouchLaws
+pub mod WindowLaws
+pub mod CellLaws
+pub mod Says
+pub mod Examples

@@ -1,0 +1,4 @@
+pub mod Window
+pub mod WindowSays
+pub mod Biased
+pub mod Answers
