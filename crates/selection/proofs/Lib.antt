@@ -1,0 +1,6 @@
+pub mod SelectsLaws
+pub mod SelectedLaws
+pub mod NextLaws
+pub mod DrivenLaws
+pub mod DrivenZooming
+pub mod TileLaws

@@ -1,0 +1,4 @@
+pub mod Selected
+pub mod Driven
+pub mod Selects
+pub mod TileDriven
