@@ -76,5 +76,10 @@ int main(int argc, char **argv) {
             print_name("way", body + MAPSFORGE_ACCEPT_NAME);
         }
     } while (next[MAPSFORGE_NEXT_KIND] != MAPSFORGE_END);
+
+    /* The end says of all that was read whether its numbers are as short as they can be. */
+    if (!next[MAPSFORGE_NEXT_PLAIN]) {
+        printf("some numbers waste bytes\n");
+    }
     return 0;
 }

@@ -180,9 +180,9 @@ def point(lat_lon, ids=(), values=b"", name=None, house_number=None, elevation=N
 # Ways
 
 
-def way(body, *, size=None, mark=b""):
+def way(body, *, size=None, width=1, mark=b""):
     """A way: its size and its body, from the bitmap on, which the size should count."""
-    return mark + unsigned(len(body) if size is None else size) + body
+    return mark + unsigned(len(body) if size is None else size, width) + body
 
 
 def way_body(data_blocks, ids=(), values=b"", name=None, house_number=None, reference=None,

@@ -46,7 +46,7 @@ fn print_line(shape: &Shape, bytes: &[u8], double: bool) {
 fn best(shape: &Shape, bytes: &[u8], double: bool) -> [f64; 4] {
     let mut blocks = Blocks::new();
     let mut lists = check::lists(shape);
-    let mut words = [0; 9];
+    let mut words = [0; 10];
     let mut least = [f64::MAX; 4];
     for _ in 0..ROUNDS {
         let took = [

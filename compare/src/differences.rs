@@ -127,3 +127,34 @@ fn magnitude(map: &[u8]) -> Option<u64> {
     let sign = 0x40 << (7 * (number.len() - 1));
     Some(unsigned(number) & !sign)
 }
+
+/// Wish 6: "whether the encoding was plain: no shorter one gives the same value". The value is written anew, in the fewest
+/// bytes, and these are compared.
+pub fn is_plain_unsigned(number: &[u8]) -> bool {
+    let mut left = Some(unsigned(number));
+    let written = std::iter::from_fn(|| {
+        let value = left?;
+        left = (value > 0x7F).then_some(value >> 7);
+        Some(group(value, left))
+    });
+    written.eq(number.iter().copied())
+}
+
+/// The same of a signed number, whose last byte holds six bits and the sign; "and minus zero (40) is not plain".
+pub fn is_plain_signed(number: &[u8]) -> bool {
+    let magnitude = magnitude(number).expect("a whole number");
+    let negative = magnitude > 0 && number.last().is_some_and(|last| last & 0x40 != 0);
+    let mut left = Some(magnitude);
+    let written = std::iter::from_fn(|| {
+        let value = left?;
+        left = (value > 0x3F).then_some(value >> 7);
+        let sign = if left.is_none() && negative { 0x40 } else { 0 };
+        Some(group(value, left) | sign)
+    });
+    written.eq(number.iter().copied())
+}
+
+/// The lowest group of a value; its top bit says that more is left.
+fn group(value: u64, left: Option<u64>) -> u8 {
+    value as u8 & 0x7F | if left.is_some() { 0x80 } else { 0 }
+}

@@ -1,6 +1,7 @@
 //! Document 01's worked figures and the examples of its table, as far as the driver's commands reach.
 
 mod calls;
+mod plain;
 mod tiles;
 
 use std::fmt::Debug;
@@ -21,6 +22,7 @@ pub fn check() -> bool {
     let mut tally = Tally::default();
     numbers(&mut tally);
     coordinates(&mut tally);
+    plain::check(&mut tally);
     texts(&mut tally);
     tags(&mut tally);
     values(&mut tally);

@@ -44,10 +44,19 @@ compare/run [--rust FOLDER] COMMAND ARGS...
                       with other bytes in ways that the list declines untried: every answer must be the same. Copies altered
                       where it shows are controls; fails on a difference, and if no control of a kind shows.
                       --quick is a fixed run of some seconds
+  window [--cases N] [--seed S] [--quick] [--only K]
+                      which tiles and cells a window touches: our library's answers against walks over the window's sub tiles
+                      and over the grid's tiles, at every limit and in N random cases, and which ways share a cell; fails on
+                      a difference, and if a kind of window does not come. --quick is a fixed run of some seconds, --only
+                      looks at random case K alone
+  rules [--cases N] [--seed S] [--quick] [--only K] [MAP...]
+                      our library's check of showing rules, and what they show, against the driver's own model: tables at the
+                      limits, N by chance, and the ways of streams of the same maps; fails on a difference. How long the
+                      largest tables take is printed. --quick is a fixed run of some seconds, --only looks at table K alone
   figures             checks document 01's worked figures; fails on a difference
   help                this text
 
-scale, book, zooming and altered link target/staticlib/libmapsforge.a, which host/library builds first, or that of the folder
+scale, book, zooming, altered, window and rules link target/staticlib/libmapsforge.a, which host/library builds first, or that of the folder
 MAPSFORGE_LIB names.
 
 FOLDER holds the Rust: error.rs, io.rs and so on. By default it is compare/mapsforge-rs.
@@ -94,6 +103,14 @@ fn run(arguments: &[&str]) -> io::Result<ExitCode> {
         #[cfg(feature = "both")]
         ["altered", rest @ ..] => {
             return Ok(scale::run_altered(rest)?.unwrap_or_else(misused));
+        }
+        #[cfg(feature = "both")]
+        ["window", rest @ ..] => {
+            return Ok(scale::run_window(rest)?.unwrap_or_else(misused));
+        }
+        #[cfg(feature = "both")]
+        ["rules", rest @ ..] => {
+            return Ok(scale::run_rules(rest)?.unwrap_or_else(misused));
         }
         ["figures"] => return Ok(checked(figures::check())),
         ["help"] => print!("{HELP}"),

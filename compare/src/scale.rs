@@ -21,9 +21,11 @@ mod known;
 mod lent;
 mod library;
 mod opening;
+mod ruled;
 mod streamed;
 mod way_data;
 mod whole;
+mod window;
 mod zooming;
 
 use std::io;
@@ -118,6 +120,25 @@ pub fn run_altered(arguments: &[&str]) -> io::Result<Option<ExitCode>> {
     Ok(Some(if good { ExitCode::SUCCESS } else { ExitCode::FAILURE }))
 }
 
+/// Holds the tiles of windows to walks over sub tiles and grids; None if the arguments make no sense.
+pub fn run_window(arguments: &[&str]) -> io::Result<Option<ExitCode>> {
+    let known = ["--cases", "--seed", "--quick", "--only"];
+    let options = Options::of_those(&known, arguments).filter(|options| options.maps.is_empty());
+    let Some(options) = options else { return Ok(None) };
+    check::keep_panics();
+    let good = window::compare(&options);
+    Ok(Some(if good { ExitCode::SUCCESS } else { ExitCode::FAILURE }))
+}
+
+/// Holds our check of showing rules, and what they show, to a model; None if the arguments make no sense.
+pub fn run_rules(arguments: &[&str]) -> io::Result<Option<ExitCode>> {
+    let known = ["--cases", "--seed", "--quick", "--only"];
+    let Some(options) = Options::of_those(&known, arguments) else { return Ok(None) };
+    check::keep_panics();
+    let good = ruled::compare(&bases(&options)?, &options);
+    Ok(Some(if good { ExitCode::SUCCESS } else { ExitCode::FAILURE }))
+}
+
 /// Compares all; None if the arguments make no sense.
 pub fn run(arguments: &[&str]) -> io::Result<Option<ExitCode>> {
     let Some(options) = Options::of(arguments) else { return Ok(None) };
@@ -199,13 +220,18 @@ fn cut_maps(bases: &[Base], options: &Options, all: &mut Check) -> bool {
     good
 }
 
-/// Whether each refusal of the table came at least once: else a run of so many cases has lost what it is for.
+/// Whether each refusal of the table came at least once, and whether all that can be plain was so and was not so: else a run
+/// of so many cases has lost what it is for.
 fn all_came(all: &Check) -> bool {
     let missing = all.missing();
     if !missing.is_empty() {
         println!("UNEXPLAINED: no call was refused with {missing:?}");
     }
-    missing.is_empty()
+    let unsaid = all.unsaid();
+    if !unsaid.is_empty() {
+        println!("UNEXPLAINED: these did not say both that numbers are plain and that one is not: {unsaid:?}");
+    }
+    missing.is_empty() && unsaid.is_empty()
 }
 
 /// The cases, shared out among threads by their numbers.

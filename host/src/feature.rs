@@ -35,6 +35,8 @@ pub struct Point<'a> {
     pub house_number: Option<String>,
     /// The elevation in metres.
     pub elevation: Option<i32>,
+    /// Whether all its numbers are stored plainly; see [`Tile::plain`](crate::Tile::plain).
+    pub plain: bool,
 }
 
 impl Point<'_> {
@@ -95,6 +97,10 @@ pub struct Way<'a> {
     pub blocks: Vec<Block>,
     /// Whether the nodes are stored as differences of differences.
     pub double_delta: bool,
+    /// Whether all its numbers are stored plainly; see [`Tile::plain`](crate::Tile::plain).
+    pub plain: bool,
+    /// The same of its head alone, as a stream tells it: the way's size, its tag ids and the lengths of its `%s` values.
+    pub head_plain: bool,
 }
 
 impl Way<'_> {
@@ -185,6 +191,7 @@ impl Buffers {
         let words = &got.words;
         let signature = Part::from_words(map, &words[word::FETCH_SIGNATURE..]);
         let layer = got.signed_words[word::LAYER] as i8;
+        let plain = words[word::FETCH_PLAIN] != 0;
         let count = words[word::FETCH_TAG_COUNT] as usize;
         let tag_ids = got.ids.iter().take(count).map(|&id| id as usize).collect();
         let mut texts = Texts { bytes: &self.buffer, at: 0 };
@@ -210,6 +217,7 @@ impl Buffers {
                 name,
                 house_number,
                 elevation,
+                plain,
             });
         }
         Feature::Way(Way {
@@ -224,6 +232,8 @@ impl Buffers {
             label: (words[word::FETCH_HAS_LABEL] != 0).then(|| Offset::of(got.degrees)),
             blocks: self.blocks(words[word::FETCH_BLOCKS] as usize),
             double_delta: words[word::FETCH_DOUBLE_DELTA] != 0,
+            plain,
+            head_plain: words[word::FETCH_HEAD_PLAIN] != 0,
         })
     }
 

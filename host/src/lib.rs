@@ -35,8 +35,8 @@
 //! ```
 //!
 //! Where to start: [`MapFile`] or [`Map`], then [`SubFile`], then [`Tile`] or [`Stream`], or [`Placed`] for features at
-//! their places on earth. [`check`] tells of each tile of a map whether stream and collected tile agree, [`diff`] what
-//! changed from one map to another. [`raw`] has every function of the library as it is, safe to call.
+//! their places on earth; [`Map::window`] for the tiles of a [`Window`]. [`check`] tells of each tile of a map whether stream and collected tile agree, [`diff`] what
+//! changed from one map to another. [`RuleList`] and [`Rules`] say which ways show at which zoom. [`raw`] has every function of the library as it is, safe to call.
 
 #![deny(unsafe_code)]
 #![warn(missing_docs)]
@@ -59,12 +59,14 @@ mod position;
 #[allow(unsafe_code, clippy::too_many_arguments)]
 pub mod raw;
 mod refusal;
+mod rules;
 mod stream;
 mod sub_file;
 #[allow(missing_docs)]
 pub mod sys;
 mod tags;
 mod tile;
+mod window;
 #[allow(missing_docs)]
 pub mod word;
 
@@ -75,10 +77,14 @@ pub use header::{BoundingBox, Header, ZoomInterval};
 pub use map::Map;
 pub use name::Name;
 pub use part::Part;
-pub use placed::{Kind, Line, Placed, PlacedStream};
+pub use placed::{Kind, Line, Placed, PlacedStream, SelectedStream};
 pub use position::{Offset, Position, EARTH_RADIUS};
 pub use refusal::{Lengths, Refusal, TileRefusal};
-pub use stream::{Lists, Step, Stream, StreamEnd, StreamedBody, StreamedPoint, ToCome, WayHead};
+pub use rules::{Fault, Rule, RuleList, Rules, TextMistake};
+pub use stream::{
+    Lists, Selection, Step, Stream, StreamEnd, StreamedBody, StreamedPoint, ToCome, WayHead,
+};
 pub use sub_file::{IndexEntry, SubFile, TilePlace, TilePlaces};
 pub use tags::{InlineKind, NoKey, TagFilter, TagName, TagNames};
 pub use tile::{Features, Tile};
+pub use window::{Window, WindowTile, WindowTiles};

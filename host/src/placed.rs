@@ -1,8 +1,8 @@
 //! Features at their places on earth.
 
 use crate::{
-    closed, Name, Offset, Part, Position, Refusal, Step, Stream, StreamedBody, StreamedPoint,
-    SubFile, TagFilter, TagName, TilePlace, WayHead,
+    closed, Name, Offset, Part, Position, Refusal, Selection, Step, Stream, StreamedBody,
+    StreamedPoint, SubFile, TagFilter, TagName, TilePlace, WayHead,
 };
 
 /// Which kind of feature.
@@ -61,8 +61,12 @@ pub struct Placed<'a> {
     pub number: u64,
     /// The layer, from -5 to 10.
     pub layer: i8,
+    /// Of a way: which of the tile's 4 by 4 cells it touches; see [`WayHead::bitmap`].
+    pub bitmap: Option<u16>,
     /// The tags' names.
     pub tags: Vec<TagName<'a>>,
+    /// Their numbers in the map's tags of points, or of ways.
+    pub tag_ids: Vec<usize>,
     /// The name as stored; see [`Placed::name_in`].
     pub name: Option<&'a str>,
     /// The house number.
@@ -88,7 +92,9 @@ impl<'a> Placed<'a> {
             kind: Kind::Point,
             number,
             layer: point.layer,
+            bitmap: None,
             tags: point.tags().collect(),
+            tag_ids: point.tag_ids.clone(),
             name: text(point.name),
             house_number: text(point.house_number),
             reference: None,
@@ -113,7 +119,9 @@ impl<'a> Placed<'a> {
             kind: Kind::Way,
             number,
             layer: head.layer,
+            bitmap: Some(head.bitmap),
             tags: head.tags().collect(),
+            tag_ids: head.tag_ids.clone(),
             name: text(body.name),
             house_number: text(body.house_number),
             reference: text(body.reference),
@@ -229,7 +237,73 @@ impl<'m, 'a, Accepts: FnMut(&WayHead<'m, 'a>) -> bool> Iterator for PlacedStream
     }
 }
 
+/// The points and the selected ways of a tile at their places, one after the other; see [`SubFile::placed_selected`]. Behind a
+/// refusal nothing comes.
+#[derive(Clone, Debug)]
+pub struct SelectedStream<'m, 'a, 'r> {
+    stream: Stream<'m, 'a>,
+    corner: Position,
+    selection: Selection<'r>,
+    points: u64,
+    all_ways: u64,
+    over: bool,
+}
+
+impl<'a> SelectedStream<'_, 'a, '_> {
+    fn step(&mut self) -> Result<Option<Placed<'a>>, Refusal> {
+        match self.stream.next_selected(&self.selection)? {
+            Step::Point(point) => {
+                self.points += 1;
+                Ok(Some(Placed::point(self.corner, self.points - 1, &point)))
+            }
+            Step::Way(head) => {
+                let number = self.come().1 - 1;
+                let body = self.stream.accept()?;
+                Ok(Some(Placed::way(self.corner, number, &head, &body)))
+            }
+            Step::End(_) => Ok(None),
+        }
+    }
+
+    /// How many points and ways have come so far, declined ones and one that waits included.
+    pub fn come(&self) -> (u64, u64) {
+        (self.points, self.all_ways - self.stream.ways_to_come())
+    }
+}
+
+impl<'a> Iterator for SelectedStream<'_, 'a, '_> {
+    type Item = Result<Placed<'a>, Refusal>;
+
+    fn next(&mut self) -> Option<Self::Item> {
+        if self.over {
+            return None;
+        }
+        let step = self.step();
+        self.over = !matches!(step, Ok(Some(_)));
+        step.transpose()
+    }
+}
+
 impl<'m, 'a> SubFile<'m, 'a> {
+    /// The features of a tile up to a zoom at their places: all points, and the ways that are selected. The library declines the
+    /// others by itself, by their stored sizes.
+    pub fn placed_selected<'r>(
+        &self,
+        place: TilePlace,
+        zoom: u8,
+        selection: Selection<'r>,
+    ) -> Result<SelectedStream<'m, 'a, 'r>, Refusal> {
+        let stream = self.stream(place.number, zoom)?;
+        Ok(SelectedStream {
+            corner: self.corner(place)?,
+            selection,
+            points: 0,
+            all_ways: stream.ways_to_come(),
+            stream,
+            over: false,
+        })
+    }
+
     /// The features of a tile up to a zoom at their places, every way accepted. A way is decoded, never stepped over by its
     /// stored size: what comes is what the collected tile has.
     #[allow(clippy::type_complexity)]

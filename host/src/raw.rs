@@ -11,7 +11,7 @@
 //!
 //! // Nothing waits in a stream of zeros: refusal 16, which has no values and touches nothing.
 //! let mut values = [7; 6];
-//! assert_eq!(raw::stream_decline(&mut [0; 7], &mut values), 16);
+//! assert_eq!(raw::stream_decline(&mut [0; 8], &mut values), 16);
 //! assert_eq!(values, [7; 6]);
 //! // An interval of zeros is that of no sub file: refusal 8.
 //! assert_eq!(raw::index_entry(&[], &[0; 7], &[0; 6], [0; 4], 0, &mut [0; 9]), 8);
@@ -184,6 +184,44 @@ pub fn longitude(
     unsafe { sys::mapsforge_longitude(column, zoom, words, longitude) }
 }
 
+/// How many tiles of a grid a window touches. A grid is x_min, y_min, x_max, y_max; a window is left, top, right, bottom.
+pub fn window_count(
+    grid: [i32; 4],
+    window: [i64; 4],
+    words: &mut [u64; word::WINDOW_COUNT_WORDS],
+) -> u64 {
+    let [x_min, y_min, x_max, y_max] = grid;
+    let [left, top, right, bottom] = window;
+    // SAFETY: borrowed for the call, at its length.
+    unsafe {
+        sys::mapsforge_window_count(x_min, y_min, x_max, y_max, left, top, right, bottom, words)
+    }
+}
+
+/// Tile k of them: its number and its mask, its column and its row.
+pub fn window_tile(
+    grid: [i32; 4],
+    window: [i64; 4],
+    k: u64,
+    words: &mut [u64; word::WINDOW_TILE_WORDS],
+    column_row: &mut [i64; word::WINDOW_TILE_NUMBERS],
+) -> u64 {
+    let [x_min, y_min, x_max, y_max] = grid;
+    let [left, top, right, bottom] = window;
+    // SAFETY: borrowed for the call, at their lengths.
+    unsafe {
+        sys::mapsforge_window_tile(
+            x_min, y_min, x_max, y_max, left, top, right, bottom, k, words, column_row,
+        )
+    }
+}
+
+/// Whether a way's bitmap shares a cell with its tile's mask. This call refuses nothing.
+pub fn shares_cell(bitmap: u16, mask: u16) -> bool {
+    // SAFETY: two numbers by value.
+    unsafe { sys::mapsforge_shares_cell(bitmap, mask) }
+}
+
 /// Opens a stream of a tile at a zoom. The sub file's number is what the stream's end answers.
 pub fn stream_open(
     map: &[u8],
@@ -236,6 +274,39 @@ pub fn stream_next(
             layout,
             letters.as_ptr(),
             letters.len(),
+            state,
+            words,
+            signed_words,
+            degrees,
+            ids,
+        )
+    }
+}
+
+/// The next point, the next way that is selected, or the end.
+pub fn stream_next_selected(
+    map: &[u8],
+    layout: &[u64; word::LAYOUT_WORDS],
+    letters: &[u8],
+    select: &[u64; word::SELECT_WORDS],
+    classes: &[u8],
+    state: &mut [u64; word::STATE_WORDS],
+    words: &mut [u64; word::NEXT_WORDS],
+    signed_words: &mut [i64; word::SIGNED_WORDS],
+    degrees: &mut [f64; word::POSITION_DEGREES],
+    ids: &mut [u64; word::MAX_TAGS],
+) -> u64 {
+    // SAFETY: borrowed for the call, at their lengths.
+    unsafe {
+        sys::mapsforge_stream_next_selected(
+            map.as_ptr(),
+            map.len(),
+            layout,
+            letters.as_ptr(),
+            letters.len(),
+            select,
+            classes.as_ptr(),
+            classes.len(),
             state,
             words,
             signed_words,
@@ -411,7 +482,7 @@ pub fn fetch(
     }
 }
 
-/// The number of blocks and nodes of a way's data, and the place behind them.
+/// The number of blocks and nodes of a way's data, the place behind them, and whether all their numbers were plain.
 pub fn measure_way_data(
     map: &[u8],
     at: usize,
@@ -422,7 +493,7 @@ pub fn measure_way_data(
     unsafe { sys::mapsforge_measure_way_data(map.as_ptr(), map.len(), at, data_blocks, words) }
 }
 
-/// The nodes of a way's data.
+/// The nodes of a way's data, and what measuring says of them.
 pub fn read_way_data(
     map: &[u8],
     at: usize,
@@ -449,6 +520,34 @@ pub fn read_way_data(
             longitudes.len(),
             words,
         )
+    }
+}
+
+/// Checks showing rules of a map with so many way tags, and fills the table with the class of each tag and zoom.
+pub fn check_rules(
+    rules: &[u8],
+    way_tags: u16,
+    classes: &mut [u8],
+    words: &mut [u64; word::VALUES],
+) -> u64 {
+    // SAFETY: borrowed for the call, at their lengths.
+    unsafe {
+        sys::mapsforge_check_rules(
+            rules.as_ptr(),
+            rules.len(),
+            way_tags,
+            classes.as_mut_ptr(),
+            classes.len(),
+            words,
+        )
+    }
+}
+
+/// Whether a way with these tag ids is to be accepted at a zoom, by a checked table.
+pub fn shows(classes: &[u8], zoom: u8, ids: &[u64], words: &mut [u64; word::SHOWS_WORDS]) -> u64 {
+    // SAFETY: borrowed for the call, at their lengths.
+    unsafe {
+        sys::mapsforge_shows(classes.as_ptr(), classes.len(), zoom, ids.as_ptr(), ids.len(), words)
     }
 }
 

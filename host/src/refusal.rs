@@ -69,6 +69,13 @@ pub enum Refusal {
     /// 20: the map ends in a tile's head, with the place of what is missing: of the signature's first byte, or of the
     /// byte of the zoom table or the first-way offset that is not there.
     TileHeadCutOff(u64),
+    /// 22: showing rules whose length is no multiple of 4, or one with a tag id outside the map, or with its lowest zoom
+    /// above its highest.
+    InvalidRules,
+    /// 23: two showing rules or more name a way tag and zoom: the smallest tag id, and its smallest zoom.
+    RulesOverlap(u64, u64),
+    /// 24: no showing rule names a way tag and zoom: the smallest tag id, and its smallest zoom.
+    RulesGap(u64, u64),
     /// A number that this crate does not know, of a later library.
     Other(u64),
 }
@@ -115,6 +122,9 @@ impl Refusal {
             18 => Refusal::ZoomTooLarge,
             19 => Refusal::IndexCutOff(value(word::VALUE)),
             20 => Refusal::TileHeadCutOff(value(word::VALUE)),
+            22 => Refusal::InvalidRules,
+            23 => Refusal::RulesOverlap(value(word::RULES_TAG), value(word::RULES_ZOOM)),
+            24 => Refusal::RulesGap(value(word::RULES_TAG), value(word::RULES_ZOOM)),
             other => Refusal::Other(other),
         }
     }
@@ -142,6 +152,9 @@ impl Refusal {
             Refusal::ZoomTooLarge => 18,
             Refusal::IndexCutOff(_) => 19,
             Refusal::TileHeadCutOff(_) => 20,
+            Refusal::InvalidRules => 22,
+            Refusal::RulesOverlap(..) => 23,
+            Refusal::RulesGap(..) => 24,
             Refusal::Other(number) => number,
         }
     }
@@ -153,6 +166,9 @@ impl Refusal {
             | Refusal::InvalidTagId(value)
             | Refusal::IndexCutOff(value)
             | Refusal::TileHeadCutOff(value) => [value, 0, 0, 0, 0, 0],
+            Refusal::RulesOverlap(tag, zoom) | Refusal::RulesGap(tag, zoom) => {
+                [tag, zoom, 0, 0, 0, 0]
+            }
             Refusal::TooShort(Lengths { lists: [a, b, c, d, e], buffer }) => {
                 [a, b, c, d, e, buffer]
             }
@@ -286,6 +302,20 @@ impl fmt::Display for Refusal {
             Refusal::TileHeadCutOff(place) => {
                 head_cut_off(f, format_args!("the tile's head"), *place)
             }
+            Refusal::InvalidRules => write!(
+                f,
+                "the showing rules are damaged, or of another map: their length is no multiple of \
+                 4, a rule has a tag id outside the map, or its lowest zoom is above its highest"
+            ),
+            Refusal::RulesOverlap(tag, zoom) => write!(
+                f,
+                "way tag {tag}, zoom {zoom}: named twice in the showing rules; take out all rules \
+                 for it but one"
+            ),
+            Refusal::RulesGap(tag, zoom) => write!(
+                f,
+                "way tag {tag}, zoom {zoom}: not named in the showing rules; add a rule for it"
+            ),
             Refusal::Other(number) => write!(
                 f,
                 "the library refuses this by number {number}, which this program does not know: \

@@ -1,7 +1,7 @@
 //! A tile's stream.
 
 use crate::feature::{grow, split_nodes};
-use crate::{raw, word, Map, Name, Offset, Part, Refusal, SubFile, TagName, TagNames};
+use crate::{raw, word, Map, Name, Offset, Part, Refusal, Rules, SubFile, TagName, TagNames};
 
 /// A tile's stream: points, then ways' heads, each of which waits until it is accepted or declined, then the end.
 ///
@@ -43,6 +43,8 @@ pub struct StreamedPoint<'m, 'a> {
     pub house_number: Option<Part<'a>>,
     /// The elevation in metres.
     pub elevation: Option<i32>,
+    /// Whether all its numbers are stored plainly; see [`Tile::plain`](crate::Tile::plain).
+    pub plain: bool,
 }
 
 /// A way's head, which waits.
@@ -55,6 +57,8 @@ pub struct WayHead<'m, 'a> {
     pub layer: i8,
     /// The tags' numbers in [`Map::way_tags`].
     pub tag_ids: Vec<usize>,
+    /// Whether all numbers of the head are stored plainly: the way's size, its tag ids and the lengths of its `%s` values.
+    pub plain: bool,
 }
 
 /// The end of a stream.
@@ -64,6 +68,9 @@ pub struct StreamEnd {
     pub sub_file: usize,
     /// Whether the tile is marked as water.
     pub water: bool,
+    /// Whether all numbers that the stream has read are stored plainly: those of the tile's whole head, of the points, of the
+    /// ways' heads and of the accepted ways' bodies. Calls that were refused do not count.
+    pub plain: bool,
 }
 
 /// What is still to come in a stream; see [`Stream::to_come`].
@@ -90,6 +97,31 @@ pub enum Step<'m, 'a> {
     End(StreamEnd),
 }
 
+/// Which ways a stream gives by [`Stream::next_selected`]: those that the window touches, where there is one, and that the rules
+/// show, where there are any. Without both, all.
+#[derive(Clone, Copy, Debug, Default, PartialEq, Eq)]
+pub struct Selection<'r> {
+    /// The cells of the tile that a window touches; see [`WayHead::shares_cell`].
+    pub mask: Option<u16>,
+    /// Checked rules, and the zoom at which they are asked; see [`Rules::shows`].
+    pub rules: Option<(&'r Rules, u8)>,
+}
+
+impl<'r> Selection<'r> {
+    fn words(&self) -> [u64; word::SELECT_WORDS] {
+        let mut words = [0; word::SELECT_WORDS];
+        words[word::SELECT_BY_WINDOW] = self.mask.is_some().into();
+        words[word::SELECT_MASK] = self.mask.unwrap_or_default().into();
+        words[word::SELECT_BY_RULES] = self.rules.is_some().into();
+        words[word::SELECT_ZOOM] = self.rules.map_or(0, |(_, zoom)| zoom.into());
+        words
+    }
+
+    fn classes(&self) -> &'r [u8] {
+        self.rules.map_or(&[], |(rules, _)| rules.classes())
+    }
+}
+
 /// An accepted way's body. Texts are parts of the map, empty where they are no UTF-8.
 #[derive(Clone, Debug, PartialEq)]
 pub struct StreamedBody<'a, Blocks = Vec<Vec<Offset>>> {
@@ -104,6 +136,8 @@ pub struct StreamedBody<'a, Blocks = Vec<Vec<Offset>>> {
     /// The blocks of nodes, as offsets from the tile's north-western corner; or, with lent lists, how many node counts
     /// and how many nodes went to their fronts.
     pub blocks: Blocks,
+    /// Whether all numbers of the way are stored plainly, those of its head included.
+    pub plain: bool,
 }
 
 /// The three lists that accepting writes to.
@@ -115,6 +149,15 @@ pub struct Lists {
     pub latitudes: Vec<f64>,
     /// Their longitudes.
     pub longitudes: Vec<f64>,
+}
+
+/// What a next writes to.
+#[derive(Default)]
+struct Given {
+    words: [u64; word::NEXT_WORDS],
+    signed: [i64; word::SIGNED_WORDS],
+    degrees: [f64; word::POSITION_DEGREES],
+    ids: [u64; word::MAX_TAGS],
 }
 
 /// The tags of the numbers.
@@ -158,6 +201,12 @@ impl<'a> WayHead<'_, 'a> {
     /// Whether the way has this tag.
     pub fn has_tag(&self, key: &str, value: &str) -> bool {
         self.tags().any(|tag| tag.is(key, value))
+    }
+
+    /// Whether the way touches one of these cells, given as [`WayHead::bitmap`] is: by this a window decides (see
+    /// [`crate::WindowTile`]).
+    pub fn shares_cell(&self, mask: u16) -> bool {
+        raw::shares_cell(self.bitmap, mask)
     }
 }
 
@@ -207,6 +256,22 @@ impl<'m, 'a> Stream<'m, 'a> {
         self.to_come().is_some_and(|to_come| to_come.next_point == 0)
     }
 
+    /// Whether all numbers that the stream has read so far are stored plainly: of an open one, those of the tile's head.
+    pub fn plain(&self) -> bool {
+        self.state[word::STATE_PLAIN] != 0
+    }
+
+    /// How many ways are still to come, without one that waits.
+    pub(crate) fn ways_to_come(&self) -> u64 {
+        let at = if self.waits() { word::WAITING_WAYS } else { word::IDLE_WAYS };
+        self.state[at]
+    }
+
+    /// Where the body of the way that waits starts.
+    pub fn body(&self) -> Option<u64> {
+        self.waits().then(|| self.state[word::WAITING_BODY])
+    }
+
     /// Where the library goes on if the way that waits is declined.
     pub fn past(&self) -> Option<u64> {
         self.waits().then(|| self.state[word::WAITING_PAST])
@@ -215,20 +280,61 @@ impl<'m, 'a> Stream<'m, 'a> {
     /// The next point; after the last one the next way's head; at last the end.
     #[allow(clippy::should_implement_trait)]
     pub fn next(&mut self) -> Result<Step<'m, 'a>, Refusal> {
+        self.step(|map, state, Given { words, signed, degrees, ids }| {
+            raw::stream_next(
+                map.bytes(),
+                map.layout(),
+                map.letters(),
+                state,
+                words,
+                signed,
+                degrees,
+                ids,
+            )
+        })
+    }
+
+    /// The same with every way declined that is not selected: the next point, the next way that is, or the end. A refused call
+    /// declines nothing.
+    ///
+    /// ```
+    /// # use mapsforge::{MapFile, Selection, Step};
+    /// # let file = MapFile::open(concat!(env!("CARGO_MANIFEST_DIR"), "/../maps/islands.map"))?;
+    /// # let map = file.map()?;
+    /// let mut stream = map.sub_file(2)?.stream(9, 13)?;
+    /// let northern_half = Selection { mask: Some(0xff00), ..Selection::default() };
+    /// while let Step::Way(head) = stream.next_selected(&northern_half)? {
+    ///     assert!(head.shares_cell(0xff00));
+    ///     stream.accept()?;
+    /// }
+    /// # Ok::<(), Box<dyn std::error::Error>>(())
+    /// ```
+    pub fn next_selected(&mut self, selection: &Selection<'_>) -> Result<Step<'m, 'a>, Refusal> {
+        let select = selection.words();
+        self.step(|map, state, Given { words, signed, degrees, ids }| {
+            raw::stream_next_selected(
+                map.bytes(),
+                map.layout(),
+                map.letters(),
+                &select,
+                selection.classes(),
+                state,
+                words,
+                signed,
+                degrees,
+                ids,
+            )
+        })
+    }
+
+    fn step(
+        &mut self,
+        call: impl FnOnce(&Map<'a>, &mut [u64; word::STATE_WORDS], &mut Given) -> u64,
+    ) -> Result<Step<'m, 'a>, Refusal> {
         let bytes = self.map.bytes();
-        let (mut words, mut ids) = ([0; word::NEXT_WORDS], [0; word::MAX_TAGS]);
-        let mut signed = [0; word::SIGNED_WORDS];
-        let mut degrees = [0.0; word::POSITION_DEGREES];
-        let number = raw::stream_next(
-            bytes,
-            self.map.layout(),
-            self.map.letters(),
-            &mut self.state,
-            &mut words,
-            &mut signed,
-            &mut degrees,
-            &mut ids,
-        );
+        let mut given = Given::default();
+        let number = call(self.map, &mut self.state, &mut given);
+        let Given { words, signed, degrees, ids } = given;
         Refusal::check(number, &words)?;
         // An answer writes its own words: of the others nothing is read.
         let tag_ids = || {
@@ -236,6 +342,7 @@ impl<'m, 'a> Stream<'m, 'a> {
             ids.iter().take(count).map(|&id| id as usize).collect()
         };
         let layer = || signed[word::LAYER] as i8;
+        let plain = words[word::NEXT_PLAIN] != 0;
         Ok(match words[word::NEXT_KIND] {
             word::POINT => Step::Point(StreamedPoint {
                 names: self.map.point_tags(),
@@ -246,16 +353,19 @@ impl<'m, 'a> Stream<'m, 'a> {
                 house_number: Part::from_words(bytes, &words[word::NEXT_HOUSE_NUMBER..]),
                 elevation: (words[word::NEXT_HAS_ELEVATION] != 0)
                     .then_some(signed[word::ELEVATION] as i32),
+                plain,
             }),
             word::WAY => Step::Way(WayHead {
                 names: self.map.way_tags(),
                 bitmap: words[word::NEXT_BITMAP] as u16,
                 layer: layer(),
                 tag_ids: tag_ids(),
+                plain,
             }),
             _ => Step::End(StreamEnd {
                 sub_file: words[word::NEXT_SUB_FILE] as usize,
                 water: words[word::NEXT_WATER] != 0,
+                plain,
             }),
         })
     }
@@ -275,6 +385,7 @@ impl<'m, 'a> Stream<'m, 'a> {
                     &lists.latitudes[..nodes],
                     &lists.longitudes[..nodes],
                 ),
+                plain: body.plain,
             }
         });
         self.lists = lists;
@@ -326,6 +437,7 @@ impl<'m, 'a> Stream<'m, 'a> {
             reference: Part::from_words(bytes, &words[word::ACCEPT_REFERENCE..]),
             label: (words[word::ACCEPT_HAS_LABEL] != 0).then(|| Offset::of(degrees)),
             blocks: (words[word::ACCEPT_BLOCKS] as usize, words[word::ACCEPT_NODES] as usize),
+            plain: words[word::ACCEPT_PLAIN] != 0,
         })
     }
 

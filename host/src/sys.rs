@@ -100,6 +100,34 @@ extern "C" {
         longitude: *mut [f64; 1],
     ) -> u64;
 
+    pub fn mapsforge_window_count(
+        x_min: i32,
+        y_min: i32,
+        x_max: i32,
+        y_max: i32,
+        left: i64,
+        top: i64,
+        right: i64,
+        bottom: i64,
+        words: *mut [u64; 7],
+    ) -> u64;
+
+    pub fn mapsforge_window_tile(
+        x_min: i32,
+        y_min: i32,
+        x_max: i32,
+        y_max: i32,
+        left: i64,
+        top: i64,
+        right: i64,
+        bottom: i64,
+        k: u64,
+        words: *mut [u64; 9],
+        column_row: *mut [i64; 2],
+    ) -> u64;
+
+    pub fn mapsforge_shares_cell(bitmap: u16, mask: u16) -> bool;
+
     pub fn mapsforge_stream_open(
         map: *const u8,
         map_len: usize,
@@ -112,7 +140,7 @@ extern "C" {
         y_max: i32,
         tile: usize,
         zoom: u8,
-        state: *mut [u64; 7],
+        state: *mut [u64; 8],
         words: *mut [u64; 6],
     ) -> u64;
 
@@ -122,8 +150,24 @@ extern "C" {
         layout: *const [u64; 7],
         letters: *const u8,
         letters_len: usize,
-        state: *mut [u64; 7],
-        words: *mut [u64; 21],
+        state: *mut [u64; 8],
+        words: *mut [u64; 22],
+        signed_words: *mut [i64; 2],
+        degrees: *mut [f64; 2],
+        ids: *mut [u64; 15],
+    ) -> u64;
+
+    pub fn mapsforge_stream_next_selected(
+        map: *const u8,
+        map_len: usize,
+        layout: *const [u64; 7],
+        letters: *const u8,
+        letters_len: usize,
+        select: *const [u64; 4],
+        classes: *const u8,
+        classes_len: usize,
+        state: *mut [u64; 8],
+        words: *mut [u64; 22],
         signed_words: *mut [i64; 2],
         degrees: *mut [f64; 2],
         ids: *mut [u64; 15],
@@ -132,18 +176,18 @@ extern "C" {
     pub fn mapsforge_stream_accept(
         map: *const u8,
         map_len: usize,
-        state: *mut [u64; 7],
+        state: *mut [u64; 8],
         node_counts: *mut u64,
         node_counts_len: usize,
         latitudes: *mut f64,
         latitudes_len: usize,
         longitudes: *mut f64,
         longitudes_len: usize,
-        words: *mut [u64; 18],
+        words: *mut [u64; 19],
         degrees: *mut [f64; 2],
     ) -> u64;
 
-    pub fn mapsforge_stream_decline(state: *mut [u64; 7], words: *mut [u64; 6]) -> u64;
+    pub fn mapsforge_stream_decline(state: *mut [u64; 8], words: *mut [u64; 6]) -> u64;
 
     pub fn mapsforge_collect(
         map: *const u8,
@@ -157,7 +201,7 @@ extern "C" {
         x_max: i32,
         y_max: i32,
         tile: usize,
-        words: *mut [u64; 14],
+        words: *mut [u64; 15],
         points: *mut [u64; 256],
         ways: *mut [u64; 256],
     ) -> u64;
@@ -189,7 +233,7 @@ extern "C" {
         initial_longitudes_len: usize,
         buffer: *mut u8,
         buffer_len: usize,
-        words: *mut [u64; 35],
+        words: *mut [u64; 37],
         signed_words: *mut [i64; 2],
         degrees: *mut [f64; 2],
         ids: *mut [u64; 15],
@@ -201,7 +245,7 @@ extern "C" {
         map_len: usize,
         at: usize,
         data_blocks: u64,
-        words: *mut [u64; 9],
+        words: *mut [u64; 10],
     ) -> u64;
 
     pub fn mapsforge_read_way_data(
@@ -216,6 +260,24 @@ extern "C" {
         latitudes_len: usize,
         longitudes: *mut f64,
         longitudes_len: usize,
-        words: *mut [u64; 9],
+        words: *mut [u64; 10],
+    ) -> u64;
+
+    pub fn mapsforge_check_rules(
+        rules: *const u8,
+        rules_len: usize,
+        way_tags: u16,
+        classes: *mut u8,
+        classes_len: usize,
+        words: *mut [u64; 6],
+    ) -> u64;
+
+    pub fn mapsforge_shows(
+        classes: *const u8,
+        classes_len: usize,
+        zoom: u8,
+        ids: *const u64,
+        ids_len: usize,
+        words: *mut [u64; 7],
     ) -> u64;
 }

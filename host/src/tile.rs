@@ -27,6 +27,7 @@ pub struct Tile<'m, 'a> {
     point_count: u64,
     way_count: u64,
     exact: bool,
+    plain: bool,
 }
 
 impl<'m, 'a> Tile<'m, 'a> {
@@ -55,6 +56,7 @@ impl<'m, 'a> Tile<'m, 'a> {
             point_count: words[word::COLLECT_POINTS],
             way_count: words[word::COLLECT_WAYS],
             exact: words[word::COLLECT_EXACT] != 0,
+            plain: words[word::COLLECT_PLAIN] != 0,
         })
     }
 
@@ -97,6 +99,12 @@ impl<'m, 'a> Tile<'m, 'a> {
     /// whichever ways are declined; if not, a declined way may lead it astray.
     pub fn exact(&self) -> bool {
         self.exact
+    }
+
+    /// Whether all numbers of the tile are stored plainly, those of its head and of all its features: none could be shorter,
+    /// and none is minus zero. If not, [`crate::check::padding`] tells where, and how many bytes it takes.
+    pub fn plain(&self) -> bool {
+        self.plain
     }
 
     /// Fetches a feature: points from 0, ways behind them. Refusal 17 if there is none.

@@ -12,6 +12,9 @@ pub const NEEDED_INITIAL_LONGITUDES: usize = 4;
 pub const NEEDED_BUFFER: usize = 5;
 pub const NEEDED_STARTS: usize = 0;
 pub const NEEDED_LETTERS: usize = 1;
+pub const NEEDED_CLASSES: usize = 0;
+pub const RULES_TAG: usize = 0;
+pub const RULES_ZOOM: usize = 1;
 pub const VALUES: usize = 6;
 
 // A part of the map, counted from its first word.
@@ -34,6 +37,10 @@ pub const SIGNED_WORDS: usize = 2;
 pub const MAX_TAGS: usize = 15;
 pub const MAX_ROWS: usize = 256;
 pub const MOST_ENTRIES: usize = 131070;
+pub const RULE_BYTES: usize = 4;
+pub const ZOOMS: usize = 32;
+pub const HIDDEN: usize = 0;
+pub const CLASSES: usize = 64;
 pub const STACK: usize = 32768;
 
 // `mapsforge_open`: words, degrees, layout.
@@ -123,11 +130,25 @@ pub const INDEX_ENTRY_OFFSET: usize = 7;
 pub const INDEX_ENTRY_PLACE: usize = 8;
 pub const INDEX_ENTRY_WORDS: usize = 9;
 
+// `mapsforge_window_count`.
+pub const WINDOW_COUNT_TILES: usize = 6;
+pub const WINDOW_COUNT_WORDS: usize = 7;
+
+// `mapsforge_window_tile`: words, column_row.
+pub const WINDOW_TILE_THERE: usize = 6;
+pub const WINDOW_TILE_NUMBER: usize = 7;
+pub const WINDOW_TILE_MASK: usize = 8;
+pub const WINDOW_TILE_WORDS: usize = 9;
+pub const WINDOW_TILE_COLUMN: usize = 0;
+pub const WINDOW_TILE_ROW: usize = 1;
+pub const WINDOW_TILE_NUMBERS: usize = 2;
+
 // A stream's state, while no way waits, and while one does.
 pub const STATE_WAITS: usize = 0;
 pub const STATE_SUB_FILE: usize = 5;
 pub const STATE_WATER: usize = 6;
-pub const STATE_WORDS: usize = 7;
+pub const STATE_PLAIN: usize = 7;
+pub const STATE_WORDS: usize = 8;
 pub const IDLE_POINTS: usize = 1;
 pub const IDLE_WAYS: usize = 2;
 pub const IDLE_POINT: usize = 3;
@@ -135,6 +156,7 @@ pub const IDLE_WAY: usize = 4;
 pub const WAITING_WAYS: usize = 1;
 pub const WAITING_PAST: usize = 2;
 pub const WAITING_BODY: usize = 3;
+pub const WAITING_HEAD_PLAIN: usize = 4;
 
 // `mapsforge_stream_next`, and the kinds of what comes.
 pub const NEXT_KIND: usize = 6;
@@ -146,10 +168,18 @@ pub const NEXT_HAS_ELEVATION: usize = 17;
 pub const NEXT_BITMAP: usize = 18;
 pub const NEXT_SUB_FILE: usize = 19;
 pub const NEXT_WATER: usize = 20;
-pub const NEXT_WORDS: usize = 21;
+pub const NEXT_PLAIN: usize = 21;
+pub const NEXT_WORDS: usize = 22;
 pub const POINT: u64 = 0;
 pub const WAY: u64 = 1;
 pub const END: u64 = 2;
+
+// `mapsforge_stream_next_selected`: select.
+pub const SELECT_BY_WINDOW: usize = 0;
+pub const SELECT_MASK: usize = 1;
+pub const SELECT_BY_RULES: usize = 2;
+pub const SELECT_ZOOM: usize = 3;
+pub const SELECT_WORDS: usize = 4;
 
 // `mapsforge_stream_accept`.
 pub const ACCEPT_BLOCKS: usize = 6;
@@ -158,7 +188,8 @@ pub const ACCEPT_NAME: usize = 8;
 pub const ACCEPT_HOUSE_NUMBER: usize = 11;
 pub const ACCEPT_REFERENCE: usize = 14;
 pub const ACCEPT_HAS_LABEL: usize = 17;
-pub const ACCEPT_WORDS: usize = 18;
+pub const ACCEPT_PLAIN: usize = 18;
+pub const ACCEPT_WORDS: usize = 19;
 
 // `mapsforge_collect`.
 pub const COLLECT_SIGNATURE: usize = 6;
@@ -167,7 +198,8 @@ pub const COLLECT_FIRST_WAY_OFFSET: usize = 10;
 pub const COLLECT_POINTS: usize = 11;
 pub const COLLECT_WAYS: usize = 12;
 pub const COLLECT_EXACT: usize = 13;
-pub const COLLECT_WORDS: usize = 14;
+pub const COLLECT_PLAIN: usize = 14;
+pub const COLLECT_WORDS: usize = 15;
 
 // `mapsforge_fetch`, and a text in the buffer, counted from its first word.
 pub const FETCH_KIND: usize = 6;
@@ -185,7 +217,9 @@ pub const FETCH_DOUBLE_DELTA: usize = 31;
 pub const FETCH_BLOCKS: usize = 32;
 pub const FETCH_NODES: usize = 33;
 pub const FETCH_HAS_LABEL: usize = 34;
-pub const FETCH_WORDS: usize = 35;
+pub const FETCH_PLAIN: usize = 35;
+pub const FETCH_HEAD_PLAIN: usize = 36;
+pub const FETCH_WORDS: usize = 37;
 pub const STRING_SIZE: usize = 0;
 pub const STRING_KEY_SIZE: usize = 1;
 pub const STRING_VALUE_SIZE: usize = 2;
@@ -197,4 +231,9 @@ pub const STRING_WORDS: usize = 5;
 pub const WAY_DATA_BLOCKS: usize = 6;
 pub const WAY_DATA_NODES: usize = 7;
 pub const WAY_DATA_END: usize = 8;
-pub const WAY_DATA_WORDS: usize = 9;
+pub const WAY_DATA_PLAIN: usize = 9;
+pub const WAY_DATA_WORDS: usize = 10;
+
+// `mapsforge_shows`: words.
+pub const SHOWS_ACCEPT: usize = 6;
+pub const SHOWS_WORDS: usize = 7;

@@ -4,8 +4,8 @@ mod common;
 
 use common::json::Json;
 use common::{
-    answer, closed_early, command, complaint, cut, limited, map_bytes, map_path, offset_place, run,
-    shipped, stored, text, tool, with_box, written, SHIPPED,
+    answer, closed_early, command, complaint, cut, limited, map_bytes, map_path, offset_place,
+    one_row, run, shipped, stored, text, tool, with_box, written, SHIPPED,
 };
 use mapsforge::check::{self, Cause, Fault, Finding, Met, Spot};
 use mapsforge::{Kind, Map, Refusal, SubFile};
@@ -437,9 +437,13 @@ fn the_names_of_json_are_documented() {
         }
     }
     let mut all = Vec::new();
-    // A map with a finding, and one that could not be looked at.
+    // A map with a finding, one with padding, and one that could not be looked at.
     let none = text(&written("undocumented.map", b"This is no map."));
-    let output = run(&["check", "--json", &shipped("short-size.map"), &none]);
+    let mut head = vec![0; 18];
+    head.extend([0x80, 0]);
+    let padded = text(&written("undocumented-padding.map", &one_row(&[0], &head)));
+    let short = shipped("short-size.map");
+    let output = run(&["check", "--json", "--padding", &short, &padded, &none]);
     names(&Json::parse(&String::from_utf8(output.stdout).unwrap()), &mut all);
     for name in &all {
         assert!(page.contains(&format!("`{name}`")), "{name} is missing in docs/JSON.md");
@@ -538,30 +542,6 @@ fn only_the_first_findings_are_shown_unless_all_are_asked_for() {
     let map = &json.get("maps").list()[0];
     assert_eq!(map.get("finding_count").number(), 200.0);
     assert_eq!(map.get("findings").list().len(), 100);
-}
-
-/// The header of the shipped map with one sub file of base zoom 13: so many tiles in a row, of these offsets behind the
-/// index, and what stands there.
-fn one_row(offsets: &[u64], content: &[u8]) -> Vec<u8> {
-    let whole = map_bytes("islands.map");
-    let end = Map::open(&whole).unwrap().header().end as usize;
-    // A column has 43945.3125 microdegrees.
-    let east = 43_946 * (offsets.len() as i32 - 1) + 9;
-    let mut bytes = with_box(whole[..end].to_vec(), [0, 0, 0, east]);
-    bytes.truncate(end - 38);
-    let place = end - 3 * 19;
-    bytes[place - 1] = 1;
-    let (start, index) = (bytes.len() as u64, 5 * offsets.len() as u64);
-    bytes[place..][..3].copy_from_slice(&[13, 13, 21]);
-    bytes[place + 3..][..8].copy_from_slice(&start.to_be_bytes());
-    bytes[place + 11..][..8].copy_from_slice(&(index + content.len() as u64).to_be_bytes());
-    for offset in offsets {
-        bytes.extend_from_slice(&(index + offset).to_be_bytes()[3..]);
-    }
-    bytes.extend_from_slice(content);
-    let size = bytes.len() as u64;
-    bytes[common::FILE_SIZE..][..8].copy_from_slice(&size.to_be_bytes());
-    bytes
 }
 
 /// A map of so many tiles in a row, none of which is there.

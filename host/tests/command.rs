@@ -4,8 +4,10 @@ mod common;
 
 use common::{answer, closed_early, command, complaint, cut, shipped, text, written};
 
-const COMMANDS: [&str; 10] =
-    ["check", "diff", "report", "svg", "list", "at", "export", "info", "tiles", "show"];
+const COMMANDS: [&str; 12] = [
+    "check", "diff", "report", "svg", "rules", "list", "at", "export", "info", "tiles", "show",
+    "window",
+];
 
 #[test]
 fn help_and_version() {

@@ -71,8 +71,8 @@ int main(int argc, char **argv) {
 
     uint64_t tile[MAPSFORGE_COLLECT_WORDS], points[MAPSFORGE_MAX_ROWS], ways[MAPSFORGE_MAX_ROWS];
     check("collect", mapsforge_collect(map, len, layout, letters, letters_len, interval, MAPSFORGE_CORNERS(grid), TILE, tile, points, ways));
-    printf("tile %" PRIu64 " points, %" PRIu64 " ways, exact %" PRIu64 "\n", tile[MAPSFORGE_COLLECT_POINTS],
-           tile[MAPSFORGE_COLLECT_WAYS], tile[MAPSFORGE_COLLECT_EXACT]);
+    printf("tile %" PRIu64 " points, %" PRIu64 " ways, exact %" PRIu64 ", plain %" PRIu64 "\n", tile[MAPSFORGE_COLLECT_POINTS],
+           tile[MAPSFORGE_COLLECT_WAYS], tile[MAPSFORGE_COLLECT_EXACT], tile[MAPSFORGE_COLLECT_PLAIN]);
     printf("row 0: %" PRIu64 "+%" PRIu64 "\n", points[0], ways[0]);
 
     /* The texts of the first feature: its tags, then its name. */
@@ -94,13 +94,14 @@ int main(int argc, char **argv) {
     printf("name %.*s\n", (int)fetched[MAPSFORGE_FETCH_NAME + MAPSFORGE_STRING_SIZE], text);
 
     /* Accepts each way by lists that are long enough; counts the nodes. */
-    uint64_t state[MAPSFORGE_STATE_WORDS], nodes = 0, heads = 0, kind = MAPSFORGE_POINT;
+    uint64_t state[MAPSFORGE_STATE_WORDS], nodes = 0, heads = 0, kind = MAPSFORGE_POINT, plain = 0;
     check("stream_open", mapsforge_stream_open(map, len, layout, interval, SUB_FILE, MAPSFORGE_CORNERS(grid), TILE, ZOOM, state, refused));
     while (kind != MAPSFORGE_END) {
         uint64_t next[MAPSFORGE_NEXT_WORDS], body[MAPSFORGE_ACCEPT_WORDS];
         double label[MAPSFORGE_POSITION_DEGREES];
         check("stream_next", mapsforge_stream_next(map, len, layout, letters, letters_len, state, next, signed_words, position, ids));
         kind = next[MAPSFORGE_NEXT_KIND];
+        plain = next[MAPSFORGE_NEXT_PLAIN];
         if (kind != MAPSFORGE_WAY) {
             continue;
         }
@@ -108,7 +109,7 @@ int main(int argc, char **argv) {
         check("stream_accept", mapsforge_stream_accept(map, len, state, counts, ROOM, latitudes, ROOM, longitudes, ROOM, body, label));
         nodes += body[MAPSFORGE_ACCEPT_NODES];
     }
-    printf("streamed %" PRIu64 " ways, %" PRIu64 " nodes\n", heads, nodes);
+    printf("streamed %" PRIu64 " ways, %" PRIu64 " nodes, plain %" PRIu64 "\n", heads, nodes, plain);
     printf("out of turn %d\n", mapsforge_stream_decline(state, refused) == MAPSFORGE_OUT_OF_TURN);
     free(letters);
     free(starts);

@@ -137,6 +137,7 @@ fn declared(text: &str) -> (String, String) {
 fn c_scalar(kind: &str) -> &'static str {
     match kind {
         "uint8_t" => "u8",
+        "uint16_t" => "u16",
         "uint32_t" => "u32",
         "uint64_t" => "u64",
         "int32_t" => "i32",
@@ -223,7 +224,7 @@ fn of_rattle(text: &str) -> Functions {
 #[test]
 fn header_library_and_wrapper_declare_the_same() {
     let sources = Sources::read();
-    assert_eq!(of_header(&sources.header).len(), 18);
+    assert_eq!(of_header(&sources.header).len(), 24);
     let differences = sources.differences();
     assert!(differences.is_empty(), "they differ:\n{}", differences.join("\n"));
 }
@@ -231,7 +232,7 @@ fn header_library_and_wrapper_declare_the_same() {
 /// Each of these small changes must be noticed: else the test above compares nothing.
 #[test]
 fn changes_are_noticed() {
-    let edits: [(&str, &str, &str); 33] = [
+    let edits: [(&str, &str, &str); 42] = [
         ("header", "mapsforge_open(", "mapsforge_opened("),
         ("header", "uint64_t *starts, size_t starts_len, uint8_t *letters", "uint8_t *letters"),
         ("header", "const uint8_t *letters", "uint8_t *letters"),
@@ -239,6 +240,12 @@ fn changes_are_noticed() {
         ("rattle", "starts: &[u64],\n    letters: &[u8],", "letters: &[u8],\n    starts: &[u64],"),
         ("rust", "starts: *const u64", "starts: *mut u64"),
         ("header", "uint64_t words[34]", "uint64_t words[33]"),
+        (
+            "header",
+            "uint64_t state[8], uint64_t words[22]",
+            "uint64_t state[7], uint64_t words[22]",
+        ),
+        ("rust", "words: *mut [u64; 37]", "words: *mut [u64; 35]"),
         (
             "header",
             "double degrees[6], uint64_t layout[7]",
@@ -256,7 +263,7 @@ fn changes_are_noticed() {
         ("header", "double *latitudes, size_t latitudes_len, ", ""),
         ("header", "uint32_t column", "int32_t column"),
         ("header", "uint64_t mapsforge_stream_decline", "int64_t mapsforge_stream_decline"),
-        ("header", "uint64_t mapsforge_stream_decline(uint64_t state[7], uint64_t words[6]);", ""),
+        ("header", "uint64_t mapsforge_stream_decline(uint64_t state[8], uint64_t words[6]);", ""),
         ("rattle", "zoom: u8,\n    state", "zoom: u32,\n    state"),
         ("rattle", "x_min: i32,\n    y_min: i32,", "y_min: i32,\n    x_min: i32,"),
         ("rattle", "interval: &mut [u64; 6]", "interval: &[u64; 6]"),
@@ -277,6 +284,13 @@ fn changes_are_noticed() {
             "ways: *mut [u64; 256],\n        points: *mut [u64; 256]",
         ),
         ("rust", "double_delta: bool", "double_delta: u8"),
+        ("header", "int64_t left, int64_t top", "int64_t top, int64_t left"),
+        ("header", "bool mapsforge_shares_cell", "uint64_t mapsforge_shares_cell"),
+        ("rattle", "column_row: &mut [i64; 2]", "column_row: &mut [i64; 1]"),
+        ("rust", "bitmap: u16, mask: u16", "mask: u16, bitmap: u16"),
+        ("header", "uint16_t way_tags", "uint32_t way_tags"),
+        ("rattle", "classes: &mut [u8]", "classes: &[u8]"),
+        ("rust", "ids: *const u64", "ids: *mut u64"),
     ];
     let sources = Sources::read();
     let before = sources.differences();
@@ -314,35 +328,39 @@ fn c_name(case: &str) -> String {
     name
 }
 
-/// The refusals of the header, in their order: 1, 2 and so on.
-fn refusals() -> Vec<String> {
+/// The refusals of the header, by their numbers.
+fn refusals() -> BTreeMap<u64, String> {
     let cases = first_enum(&text("include/mapsforge.h"), "enum {");
-    let named = cases.iter().enumerate().map(|(k, case)| {
-        let name = case.strip_suffix(&format!(" = {}", k + 1));
-        name.unwrap_or_else(|| panic!("{case:?} is refusal {}", k + 1)).to_string()
+    let named = cases.iter().map(|case| {
+        let (name, number) = case.split_once(" = ").unwrap_or_else(|| panic!("{case:?}"));
+        (number.parse().expect(case), name.to_string())
     });
     named.collect()
 }
 
-/// The refusals have the names that the library's source has for them, where 15 is a case of its own.
+/// The refusals have the names that the library's source has for them, where 15 is a case of its own, and those of rules
+/// are the answers of their check.
 #[test]
 fn refusals_have_the_librarys_names() {
     let source = text("crates/error/src/lib.rt");
     let mut cases = first_enum(&source, "pub enum Refusal {");
     cases.insert(14, "TooShort".into());
     assert!(source.contains("LentRefusal::Short(_) => 15,"));
-    assert_eq!(refusals(), cases.iter().map(|case| c_name(case)).collect::<Vec<_>>());
+    let of_rules = first_enum(&text("crates/showing/src/lib.rt"), "pub enum Checked {");
+    // A case with two values is listed in two pieces.
+    let of_rules = of_rules.into_iter().filter(|case| case.contains("Rules"));
+    let numbered = (1..).zip(cases).chain((22..).zip(of_rules));
+    assert_eq!(refusals(), numbered.map(|(number, case)| (number, c_name(&case))).collect());
 }
 
 /// And those that the wrapper has.
 #[test]
 fn refusals_have_the_wrappers_names() {
-    let known: Vec<_> = (1..)
-        .map(|number| Refusal::check(number, &[]).unwrap_err())
-        .take_while(|refusal| !matches!(refusal, Refusal::Other(_)))
-        .map(|refusal| c_name(&format!("{refusal:?}")))
-        .collect();
-    assert_eq!(known, refusals());
+    let known = (1..64)
+        .map(|number| (number, Refusal::check(number, &[]).unwrap_err()))
+        .filter(|(_, refusal)| !matches!(refusal, Refusal::Other(_)))
+        .map(|(number, refusal)| (number, c_name(&format!("{refusal:?}"))));
+    assert_eq!(known.collect::<BTreeMap<_, _>>(), refusals());
 }
 
 /// The names of words and their numbers, from lines `START NAME BETWEEN NUMBER`.
@@ -383,7 +401,7 @@ fn header_and_wrapper_have_the_same_names_of_words() {
 #[test]
 fn each_name_of_a_word_is_used() {
     let mut rust = String::new();
-    for folder in ["host/src", "host/tests"] {
+    for folder in ["host/src", "host/src/rules", "host/tests"] {
         for file in std::fs::read_dir(repository(folder)).unwrap() {
             let path = file.unwrap().path();
             if path.extension().is_some_and(|end| end == "rs") && !path.ends_with("word.rs") {
@@ -415,16 +433,16 @@ fn as_wrapped(file: &MapFile) -> String {
     let (grid, tile) = (sub_file.grid(), sub_file.collect(10).unwrap());
     let mut stream = sub_file.stream(10, 13).unwrap();
     let (mut ways, mut nodes) = (0, 0);
-    loop {
+    let plain = loop {
         match stream.next().unwrap() {
             Step::Point(_) => (),
             Step::Way(_) => {
                 ways += 1;
                 nodes += stream.accept().unwrap().blocks.iter().map(Vec::len).sum::<usize>();
             }
-            Step::End(_) => break,
+            Step::End(end) => break end.plain,
         }
-    }
+    };
     let out_of_turn = u8::from(stream.decline() == Err(Refusal::OutOfTurn));
     let (header, row, town) = (map.header(), tile.rows()[0], tile.point(0).unwrap());
     let tags: Vec<_> = town.tags[..town.tag_ids.len()]
@@ -445,14 +463,15 @@ fn as_wrapped(file: &MapFile) -> String {
             sub_file.tile_count().unwrap()
         ),
         format!(
-            "tile {} points, {} ways, exact {}",
+            "tile {} points, {} ways, exact {}, plain {}",
             tile.point_count(),
             tile.way_count(),
-            u8::from(tile.exact())
+            u8::from(tile.exact()),
+            u8::from(tile.plain())
         ),
         format!("row 0: {}+{}", row.0, row.1),
         tags.concat() + "name " + &town.name.expect("the town has a name"),
-        format!("streamed {ways} ways, {nodes} nodes"),
+        format!("streamed {ways} ways, {nodes} nodes, plain {}", u8::from(plain)),
         format!("out of turn {out_of_turn}\n"),
     ]
     .join("\n")

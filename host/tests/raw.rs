@@ -226,8 +226,8 @@ impl Asked<'_> {
         (number, words.inner)
     }
 
-    fn stream(&self, tile: usize, zoom: u8) -> (u64, [u64; 7]) {
-        let (mut state, mut words) = (Guarded::new([7; 7]), Guarded::new([7; 6]));
+    fn stream(&self, tile: usize, zoom: u8) -> (u64, [u64; 8]) {
+        let (mut state, mut words) = (Guarded::new([7; 8]), Guarded::new([7; 6]));
         let number = raw::stream_open(
             self.map,
             &self.layout,
@@ -239,12 +239,12 @@ impl Asked<'_> {
             &mut state.inner,
             &mut words.inner,
         );
-        assert!(number == 0 || state.inner == [7; 7]);
+        assert!(number == 0 || state.inner == [7; 8]);
         (number, state.inner)
     }
 
-    fn collect(&self, tile: usize) -> (u64, [u64; 14]) {
-        let mut words = Guarded::new([7; 14]);
+    fn collect(&self, tile: usize) -> (u64, [u64; 15]) {
+        let mut words = Guarded::new([7; 15]);
         let (mut points, mut ways) = (Guarded::new([7; 256]), Guarded::new([7; 256]));
         let number = raw::collect(
             self.map,
@@ -259,7 +259,7 @@ impl Asked<'_> {
         );
         let rows = if number == 0 { words.inner[9] as usize } else { 0 };
         assert!(points.inner[rows..].iter().chain(&ways.inner[rows..]).all(|&row| row == 7));
-        assert!(number == 0 || words.inner[6..] == [7; 8]);
+        assert!(number == 0 || words.inner[6..] == [7; 9]);
         (number, words.inner)
     }
 
@@ -276,7 +276,7 @@ impl Asked<'_> {
             buffer,
         };
         let mut got = Box::new(FetchWords {
-            words: [7; 35],
+            words: [7; 37],
             signed_words: [7; 2],
             degrees: [7.0; 2],
             ids: [7; 15],
@@ -390,12 +390,12 @@ fn any_state_any_letters_and_any_layout_will_do() {
     let mut random = Random(1);
     let mut seen = [0; 21];
     for _ in 0..20_000 {
-        let mut state = Guarded::new([0; 7]);
+        let mut state = Guarded::new([0; 8]);
         let mut layout = [0; 7];
         state.inner.fill_with(|| random.word(&map));
         layout.fill_with(|| random.word(&map));
         let before = state.inner;
-        let (mut words, mut signed_words) = (Guarded::new([1; 21]), Guarded::new([1; 2]));
+        let (mut words, mut signed_words) = (Guarded::new([1; 22]), Guarded::new([1; 2]));
         let (mut degrees, mut ids) = (Guarded::new([1.0; 2]), Guarded::new([1; 15]));
         let (_, letters) = any_lists(&mut random, &map, &known_lists);
         let number = raw::stream_next(
@@ -410,14 +410,14 @@ fn any_state_any_letters_and_any_layout_will_do() {
         );
         seen[number as usize] += 1;
         if number != 0 {
-            assert_eq!((&words.inner[1..], ids.inner), (&[1; 20][..], [1; 15]));
+            assert_eq!((&words.inner[1..], ids.inner), (&[1; 21][..], [1; 15]));
             assert_eq!((signed_words.inner, degrees.inner), ([1; 2], [1.0; 2]));
             assert_eq!(state.inner, before);
         }
 
         let mut lists = Guarded::new(([7u64; 9], [7.0; 9], [7.0; 9]));
         let (counts, latitudes, longitudes) = &mut lists.inner;
-        let (mut words, mut degrees) = (Guarded::new([1; 18]), Guarded::new([1.0; 2]));
+        let (mut words, mut degrees) = (Guarded::new([1; 19]), Guarded::new([1.0; 2]));
         state.inner = before;
         let number = raw::stream_accept(
             &map,
@@ -567,9 +567,10 @@ fn tags_and_way_data_of_any_place() {
         }
 
         let blocks = random.word(&map);
-        let mut measured = Guarded::new([7; 9]);
+        let mut measured = Guarded::new([7; 10]);
         let number = raw::measure_way_data(&map, at, blocks, &mut measured.inner);
         assert!(matches!(number, 0 | 1 | 10 | 11 | 12), "{number}");
+        let mut words = Guarded::new([7; 10]);
         let mut lists = Guarded::new(([7u64; 5], [7.0; 9], [7.0; 9]));
         let (counts, latitudes, longitudes) = &mut lists.inner;
         let read = raw::read_way_data(
@@ -580,12 +581,13 @@ fn tags_and_way_data_of_any_place() {
             &mut counts[..4],
             &mut latitudes[..8],
             &mut longitudes[..8],
-            &mut [7; 9],
+            &mut words.inner,
         );
-        assert!(number == 0 || measured.inner == [7; 9]);
+        assert!(number == 0 || measured.inner == [7; 10]);
         let fits = measured.inner[6] <= 4 && measured.inner[7] <= 8;
         let expected = if number == 0 && !fits { 15 } else { number };
         assert_eq!(read, expected);
+        assert!(read == 15 || words.inner == measured.inner);
         assert!(counts[4] == 7 && latitudes[8] == 7.0 && longitudes[8] == 7.0);
         if read != 0 {
             assert_eq!((*counts, *latitudes), ([7; 5], [7.0; 9]));

@@ -114,6 +114,8 @@ struct Example {
     feature: u64,
     /// A tag's number, and that of all tags.
     tag: [usize; 2],
+    /// How many way tags rules are checked for.
+    way_tags: u16,
     zoom: u8,
 }
 
@@ -132,6 +134,7 @@ impl Example {
             tile: 0,
             feature: 0,
             tag: [0, 1],
+            way_tags: 0,
             zoom: 0,
             text: text.clone(),
         };
@@ -155,6 +158,7 @@ impl Example {
             ("tile", &[tile]) => self.tile = tile as usize,
             ("feature", &[feature]) => self.feature = feature,
             ("tag", &[k, count]) => self.tag = [k, count].map(|number| number as usize),
+            ("tags", &[count]) => self.way_tags = count as u16,
             ("zoom", &[zoom]) => self.zoom = zoom as u8,
             _ => panic!("{item:?} is not known"),
         }
@@ -181,17 +185,20 @@ impl Example {
             "text" => lent::text(map, 0, lent),
             "tile_count" => lent::tile_count(interval, *grid, lent),
             "tile_index" => lent::tile_index(interval, *grid, 0, 0, lent),
+            "window_count" => lent::window_count(*grid, [0; 4], lent),
+            "window_tile" => lent::window_tile(*grid, [0; 4], 0, lent),
             "index_entry" => tiles.entry(*tile, lent),
             "column" => lent::column(0.0, *zoom, lent),
             "longitude" => lent::longitude(0, *zoom, lent),
             "stream_open" => tiles.stream(0, *tile, *zoom, lent),
-            "stream_next" => lent::next(&opened, &[0; 7], lent),
-            "stream_accept" => lent::accept(map, &[0; 7], &[0; 6], lent),
-            "stream_decline" => lent::decline(&[0; 7], lent),
+            "stream_next" => lent::next(&opened, &[0; 8], lent),
+            "stream_accept" => lent::accept(map, &[0; 8], &[0; 6], lent),
+            "stream_decline" => lent::decline(&[0; 8], lent),
             "collect" => tiles.collect(*tile, lent),
             "fetch" => tiles.fetch(*tile, self.feature, &[0; 6], lent),
             "measure_way_data" => lent::measure_way_data(map, 0, 1, lent),
             "read_way_data" => lent::read_way_data(map, 1, &[0; 6], lent),
+            "check_rules" => lent::check_rules(map, self.way_tags, 0, lent),
             other => panic!("{other} is not known"),
         });
         answered(&told)
@@ -257,9 +264,10 @@ fn every_refusal_has_a_row() {
     let page = text("docs/REFUSALS.md");
     let rows = table(&page, HEAD);
     let source = text("crates/error/src/lib.rt");
-    for (k, row) in rows.iter().enumerate() {
-        let number = k as u64 + 1;
-        assert_eq!(row[0], number.to_string());
+    let of_rules = text("crates/showing/specs/Showing.antt");
+    let numbers: Vec<u64> = rows.iter().map(|row| row[0].parse().expect("a number")).collect();
+    assert!(numbers.windows(2).all(|pair| pair[0] < pair[1]));
+    for (&number, row) in numbers.iter().zip(&rows) {
         let wrapped = format!("{:?}", Refusal::check(number, &[]).unwrap_err());
         let case = name(&row[1]);
         assert_eq!(wrapped.split('(').next(), Some(case));
@@ -267,13 +275,22 @@ fn every_refusal_has_a_row() {
         let known =
             if number == 15 { "LentRefusal::Short".into() } else { format!("Refusal::{case}") };
         let arms = ["", "(_)"].map(|value| format!("        {known}{value} => {number},\n"));
-        assert!(arms.iter().any(|arm| source.contains(arm)), "{known} has the number {number}");
+        let of_check = [case.into(), format!("({case} id zoom)")]
+            .map(|answer| format!("\ncheckedRes {answer} = no {number} "));
+        assert!(
+            arms.iter().any(|arm| source.contains(arm))
+                || of_check.iter().any(|line| of_rules.contains(line)),
+            "{known} has the number {number}"
+        );
         assert!(row.iter().all(|cell| !cell.is_empty()), "{row:?}");
     }
     // No other case of the library has a number.
     let body = source.split("pub enum Refusal {").nth(1).and_then(|rest| rest.split("\n}").next());
     let cases = body.expect("the enum").lines().map(str::trim).filter(|line| !line.is_empty());
-    assert_eq!(cases.filter(|line| !line.starts_with("//")).count() + 1, rows.len());
+    let checks = of_rules.matches("\ncheckedRes ").count();
+    // Of the answers of a check, one is that it passes, and 15 counts already.
+    let cases = cases.filter(|line| !line.starts_with("//")).count() + 1 + checks - 2;
+    assert_eq!(cases, rows.len());
     let constants = text("include/mapsforge.h").matches("    MAPSFORGE_").count();
     assert_eq!(constants, rows.len());
     let hex: Vec<String> = MAGIC.iter().map(|byte| format!("{byte:02X}")).collect();
@@ -319,7 +336,8 @@ fn each_call_answers_what_the_page_says() {
         }
     }
     let calls: BTreeSet<String> = said.iter().map(|(call, _)| call.clone()).collect();
-    assert_eq!(calls.len(), 18);
+    // All but `shares_cell` and `shows`, which refuse nothing.
+    assert_eq!(calls.len(), 21);
     let mut seen = BTreeSet::new();
     for (example, _) in examples() {
         for length in 0..=example.map.len() {

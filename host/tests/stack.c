@@ -13,7 +13,7 @@
 enum { BYTES = 1 << 20, ROOM = 1 << 16, STACK = 1 << 18, UNTOUCHED = 0xa5, ZOOM = 255 };
 
 /* What the calls take and give: nothing of it is on the stack. */
-static uint8_t map[BYTES], letters[ROOM], buffer[ROOM];
+static uint8_t map[BYTES], letters[ROOM], buffer[ROOM], rules[ROOM], classes[ROOM];
 static size_t len, sub_file, tile;
 static mapsforge_grid grid;
 static uint64_t feature, refusal, words[64], header[MAPSFORGE_OPEN_WORDS], layout[MAPSFORGE_LAYOUT_WORDS];
@@ -40,6 +40,11 @@ static void tile_index(void) { refusal = mapsforge_tile_index(interval, MAPSFORG
 static void index_entry(void) { refusal = mapsforge_index_entry(map, len, layout, interval, MAPSFORGE_CORNERS(grid), tile, words); }
 static void column(void) { refusal = mapsforge_column(degrees[MAPSFORGE_OPEN_EAST], 13, words, signed_words); }
 static void longitude(void) { refusal = mapsforge_longitude(4096, 13, words, place); }
+static void window_count(void) { refusal = mapsforge_window_count(MAPSFORGE_CORNERS(grid), INT64_MIN, INT64_MIN, INT64_MAX, INT64_MAX, words); }
+static void window_tile(void) {
+    refusal = mapsforge_window_tile(MAPSFORGE_CORNERS(grid), INT64_MIN, INT64_MIN, INT64_MAX, INT64_MAX, tile, words, signed_words);
+}
+static void shares_cell(void) { refusal = mapsforge_shares_cell(0xff00, 0x00ff) ? 1 : 0; }
 static void stream_open(void) {
     refusal = mapsforge_stream_open(map, len, layout, interval, sub_file, MAPSFORGE_CORNERS(grid), tile, ZOOM, state, words);
 }
@@ -65,6 +70,17 @@ static void read_way_data(void) {
     refusal = mapsforge_read_way_data(way, sizeof way, 0, 1, true, counts, ROOM, latitudes, ROOM, longitudes, ROOM, words);
 }
 
+/* All zooms of each way tag are shown. */
+static void check_rules(void) {
+    size_t tags = (size_t)layout[MAPSFORGE_LAYOUT_WAY_TAG_COUNT];
+    for (size_t tag = 0; tag < tags; tag++) {
+        uint8_t rule[MAPSFORGE_RULE_BYTES] = {(uint8_t)(tag >> 8), (uint8_t)tag, 0x07, 0xc1};
+        memcpy(rules + sizeof rule * tag, rule, sizeof rule);
+    }
+    refusal = mapsforge_check_rules(rules, tags * MAPSFORGE_RULE_BYTES, (uint16_t)tags, classes, ROOM, words);
+}
+static void shows(void) { refusal = mapsforge_shows(classes, ROOM, ZOOM, ids, MAPSFORGE_MAX_TAGS, words); }
+
 /* The most that a call took. */
 static struct call {
     const char *name;
@@ -81,6 +97,9 @@ static struct call {
     {"index_entry", index_entry, 0},
     {"column", column, 0},
     {"longitude", longitude, 0},
+    {"window_count", window_count, 0},
+    {"window_tile", window_tile, 0},
+    {"shares_cell", shares_cell, 0},
     {"stream_open", stream_open, 0},
     {"stream_next", stream_next, 0},
     {"stream_accept", stream_accept, 0},
@@ -89,6 +108,8 @@ static struct call {
     {"fetch", fetch, 0},
     {"measure_way_data", measure_way_data, 0},
     {"read_way_data", read_way_data, 0},
+    {"check_rules", check_rules, 0},
+    {"shows", shows, 0},
 };
 enum { CALLS = sizeof calls / sizeof *calls };
 
@@ -147,6 +168,7 @@ static void walk_stream(void) {
 
 static void walk_tile(void) {
     call(index_entry);
+    call(window_tile);
     call(collect);
     uint64_t features = words[MAPSFORGE_COLLECT_POINTS] + words[MAPSFORGE_COLLECT_WAYS];
     for (feature = 0; feature < features; feature++) {
@@ -164,11 +186,15 @@ static void *walk(void *unused) {
     call(longitude);
     call(measure_way_data);
     call(read_way_data);
+    call(check_rules);
+    call(shows);
     for (sub_file = 0; sub_file < header[MAPSFORGE_OPEN_SUB_FILES]; sub_file++) {
         call(find_interval);
         mapsforge_grid_of_sub_file(degrees, interval, &grid);
         call(tile_count);
         call(tile_index);
+        call(window_count);
+        call(shares_cell);
         for (tile = 0; tile < mapsforge_grid_tiles(&grid); tile++) {
             walk_tile();
         }

@@ -356,7 +356,7 @@ fn a_square_around_a_place_is_drawn_over_several_tiles() {
     told(&["--at", "62.2679,0.04", "2:10"], "does not know what to do with \"2:10\"");
     told(&["2:10", "--size", "100"], "takes --size with --at only");
     told(&["--at", "62.2679,0.04", "--zoom", "25"], "no sub file has zoom 25");
-    told(&[], "needs a TILE, or --at LAT,LON");
+    told(&[], "needs a TILE, --at LAT,LON or --window ENDS");
     told(&["2:10", "--as", "boat"], "takes list or panel behind --as, not \"boat\"");
     told(&["2:10", "--as", "list", "--both"], "takes --both or --as, not both");
     told(&["2:10", "--decline", "highway"], "takes --decline with --as panel or --both only");

@@ -346,6 +346,8 @@ fn a_state_has_what_is_to_come() {
             loop {
                 assert_eq!(state[word::STATE_WAITS], 0);
                 assert_eq!(state[word::STATE_SUB_FILE], SUB_FILE as u64);
+                // All numbers of the shipped maps are plain.
+                assert_eq!(state[word::STATE_PLAIN], 1);
                 assert_eq!([state[word::IDLE_POINTS], state[word::IDLE_WAYS]], [points, ways]);
                 let next = tiles.next(&mut state);
                 match next[word::NEXT_KIND] {
@@ -361,6 +363,7 @@ fn a_state_has_what_is_to_come() {
                     }
                     kind => {
                         assert_eq!((kind, points, ways), (word::END, 0, 0));
+                        assert_eq!(next[word::NEXT_PLAIN], whole[word::COLLECT_PLAIN]);
                         break;
                     }
                 }
@@ -382,7 +385,31 @@ fn waiting(tiles: &Tiles, state: State, ways: u64) -> State {
     other[word::WAITING_PAST] = 0;
     assert_eq!((tiles.accept(&mut other), other), (body, accepted));
     assert!(state[word::WAITING_BODY] < accepted[word::IDLE_WAY]);
+    said_of_the_head(tiles, state, body);
     accepted
+}
+
+/// Accept goes by the word that says whether the waiting way's head was plain. Any word but 0 says yes.
+fn said_of_the_head(tiles: &Tiles, state: State, body: Body) {
+    assert_eq!((state[word::WAITING_HEAD_PLAIN], body[word::ACCEPT_PLAIN]), (1, 1));
+    for said in [0, 1, 7, u64::MAX] {
+        let mut other = state;
+        other[word::WAITING_HEAD_PLAIN] = said;
+        let mut expected = body;
+        expected[word::ACCEPT_PLAIN] = u64::from(said != 0);
+        assert_eq!(tiles.accept(&mut other), expected);
+        assert_eq!(other[word::STATE_PLAIN], u64::from(said != 0));
+        // What was not plain before stays so, with any word for yes too; declining says nothing of the body.
+        for before in [0, 9] {
+            let mut declined = state;
+            (declined[word::STATE_PLAIN], declined[word::WAITING_HEAD_PLAIN]) = (before, said);
+            let mut accepted = declined;
+            assert_eq!(raw::stream_decline(&mut declined, &mut [7; 6]), 0);
+            assert_eq!(declined[word::STATE_PLAIN], u64::from(before != 0));
+            tiles.accept(&mut accepted);
+            assert_eq!(accepted[word::STATE_PLAIN], u64::from(before != 0 && said != 0));
+        }
+    }
 }
 
 #[test]
@@ -398,6 +425,7 @@ fn nodes_are_counted() {
     assert_eq!(raw::measure_way_data(&[1, 2, 1, 1, 2, 2, 9], 0, 1, &mut words), 0);
     let got = [word::WAY_DATA_BLOCKS, word::WAY_DATA_NODES, word::WAY_DATA_END].map(|k| words[k]);
     assert_eq!(got, [1, 2, 6]);
+    assert_eq!(words[word::WAY_DATA_PLAIN], 1);
 }
 
 /// Tags that start where no names are: each is empty, and nothing is refused for that.
@@ -539,6 +567,7 @@ fn each_answer_writes_its_own_words() {
             of_tile(&mut tried, &tiles, tile);
         }
     }
+    windows(&mut tried);
     tried.of("column", "a column", |lent| lent::column(0.5, 13, lent));
     tried.of("longitude", "a longitude", |lent| lent::longitude(4096, 13, lent));
     let text = b"\xff text";
@@ -552,9 +581,38 @@ fn each_answer_writes_its_own_words() {
         |_| "a way",
         |lengths, lent| lent::read_way_data(&data, 1, lengths, lent),
     );
+    for (classes, accepted) in [([0; 32], 0), ([63; 32], 1)] {
+        let told = tried.of("shows", "a way", |lent| lent::shows(&classes, 255, &[7, 0], lent));
+        assert_eq!(told.word(word::SHOWS_ACCEPT), accepted);
+    }
     // Each answer that the header tells of was there.
     assert_eq!(tried.answers, tried.writes.answers());
-    assert_eq!(tried.answers.len(), 25);
+    assert_eq!(tried.answers.len(), 29);
+    // Rules that pass write no word, but the front of the table.
+    let told = twice(|lent| lent::check_rules(&[0, 0, 7, 0xc0 | 5], 1, 35, lent));
+    assert_eq!(told.number, 0);
+    told.wrote(&(0..32).map(|k| -> Entry { ("classes", k) }).collect());
+}
+
+/// The tiles of some windows, and none behind the last.
+fn windows(tried: &mut Tried) {
+    for window in
+        [[i64::MIN, i64::MIN, i64::MAX, i64::MAX], [16383, 9080, 16384, 9080], [5, 0, 4, 0]]
+    {
+        let count =
+            tried.of("window_count", "a count", |lent| lent::window_count(GRID, window, lent));
+        let count = count.word(word::WINDOW_COUNT_TILES);
+        for k in 0..count {
+            let told =
+                tried.of("window_tile", "a tile", |lent| lent::window_tile(GRID, window, k, lent));
+            assert_eq!(told.word(word::WINDOW_TILE_THERE), 1);
+        }
+        for k in [count, u64::MAX] {
+            let told =
+                tried.of("window_tile", "none", |lent| lent::window_tile(GRID, window, k, lent));
+            assert_eq!(told.word(word::WINDOW_TILE_THERE), 0);
+        }
+    }
 }
 
 fn open(tried: &mut Tried, map: &[u8]) {
@@ -642,6 +700,9 @@ fn refused_calls_leave_all_else_alone() {
     refused(15, listed, twice(|lent| lent::open(bytes, &[100, 200, 0, 0, 0, 0], lent)));
     refused(14, none, twice(|lent| lent::tile_count(interval, reversed.grid, lent)));
     refused(14, none, twice(|lent| reversed.entry(0, lent)));
+    // Also where the window is reversed too, or there is no such tile.
+    refused(14, none, twice(|lent| lent::window_count(reversed.grid, [1, 0, 0, 0], lent)));
+    refused(14, none, twice(|lent| lent::window_tile(reversed.grid, [0; 4], 9, lent)));
     refused(8, none, twice(|lent| asked.stream(2, 12, 13, lent)));
     refused(8, none, twice(|lent| asked.collect(12, lent)));
     refused(17, none, twice(|lent| asked.fetch(10, 176, &[9; 6], lent)));
@@ -649,4 +710,12 @@ fn refused_calls_leave_all_else_alone() {
     refused(1, none, twice(|lent| front.collect(10, lent)));
     refused(1, none, twice(|lent| front.fetch(10, 0, &[99; 6], lent)));
     refused(15, [0, 0, 0, 0, 0, 8], twice(|lent| lent::text(b"\xff text", 7, lent)));
+    let rules = [0, 0, 7, 0xc0, 0, 1, 7, 0xc0];
+    let short = twice(|lent| lent::check_rules(&rules, 2, 63, lent));
+    assert_eq!(short.word(word::NEEDED_CLASSES), 64);
+    refused(15, [64, 0, 0, 0, 0, 0], short);
+    refused(22, none, twice(|lent| lent::check_rules(&rules, 1, 99, lent)));
+    refused(24, [2, 0, 0, 0, 0, 0], twice(|lent| lent::check_rules(&rules, 3, 99, lent)));
+    let twice_named = [rules, rules].concat();
+    refused(23, none, twice(|lent| lent::check_rules(&twice_named, 2, 99, lent)));
 }

@@ -21,7 +21,7 @@ pub struct Calls<'a> {
     values: [u64; 6],
     pub interval: [u64; 6],
     pub found: [u64; 8],
-    state: [u64; 7],
+    state: [u64; 8],
     pub next: Next,
     pub accepted: Accepted,
     pub collected: Collected,
@@ -39,25 +39,25 @@ pub struct Opened {
 }
 
 pub struct Next {
-    pub words: [u64; 21],
+    pub words: [u64; 22],
     pub signed: [i64; 2],
     pub degrees: [f64; 2],
     pub ids: [u64; 15],
 }
 
 pub struct Accepted {
-    pub words: [u64; 18],
+    pub words: [u64; 19],
     pub degrees: [f64; 2],
 }
 
 pub struct Collected {
-    pub words: [u64; 14],
+    pub words: [u64; 15],
     pub points: [u64; 256],
     pub ways: [u64; 256],
 }
 
 pub struct Fetched {
-    pub words: [u64; 35],
+    pub words: [u64; 37],
     pub signed: [i64; 2],
     pub degrees: [f64; 2],
     pub ids: [u64; 15],
@@ -107,12 +107,12 @@ impl<'a> Calls<'a> {
             values: [0; 6],
             interval: [0; 6],
             found: [0; 8],
-            state: [0; 7],
-            next: Next { words: [0; 21], signed: [0; 2], degrees: [0.0; 2], ids: [0; 15] },
-            accepted: Accepted { words: [0; 18], degrees: [0.0; 2] },
-            collected: Collected { words: [0; 14], points: [0; 256], ways: [0; 256] },
+            state: [0; 8],
+            next: Next { words: [0; 22], signed: [0; 2], degrees: [0.0; 2], ids: [0; 15] },
+            accepted: Accepted { words: [0; 19], degrees: [0.0; 2] },
+            collected: Collected { words: [0; 15], points: [0; 256], ways: [0; 256] },
             fetched: Fetched {
-                words: [0; 35],
+                words: [0; 37],
                 signed: [0; 2],
                 degrees: [0.0; 2],
                 ids: [0; 15],

@@ -10,15 +10,15 @@ pub struct Lists {
     pub longitudes: Vec<f64>,
 }
 
-/// The number answered; with 0 words 6 to 8 are the blocks, the nodes and the place behind them.
-pub fn measure(map: &[u8], data_blocks: u64, words: &mut [u64; 9]) -> u64 {
+/// The number answered; with 0 words 6 to 9 are the blocks, the nodes, the place behind them and whether their numbers are plain.
+pub fn measure(map: &[u8], data_blocks: u64, words: &mut [u64; 10]) -> u64 {
     // SAFETY: each pair is the address and the length of a live slice, and no two overlap.
     unsafe { sys::mapsforge_measure_way_data(map.as_ptr(), map.len(), 0, data_blocks, words) }
 }
 
 /// The number answered; with 0 the nodes are at the fronts of the lists.
 pub fn read(map: &[u8], data_blocks: u64, double: bool, lists: &mut Lists) -> u64 {
-    let mut words = [0; 9];
+    let mut words = [0; 10];
     // SAFETY: each pair is the address and the length of a live slice, and no two overlap.
     unsafe {
         sys::mapsforge_read_way_data(

@@ -46,13 +46,17 @@ pub struct Port {
     /// The places of the texts that were read, in their order.
     #[cfg_attr(not(feature = "both"), allow(dead_code))]
     pub texts: Vec<u64>,
+    /// Whether all numbers that were read are plain.
+    #[cfg_attr(not(feature = "both"), allow(dead_code))]
+    pub plain: bool,
 }
 
-/// The blocks of a way, and the place behind them.
+/// The blocks of a way, the place behind them, and whether all their numbers are plain.
 #[cfg(feature = "both")]
 pub struct WayData {
     pub blocks: Vec<Block>,
     pub end: u64,
+    pub plain: bool,
 }
 
 /// Where collecting a tile reads.
@@ -98,14 +102,14 @@ impl<'a> Opened<'a> {
         let mut reader = Reader::new(self, View::Collected);
         let tile = reader.tile(address);
         let answer = tile.map_or_else(|refusal| refusal, |tile| tile.answer());
-        Port { answer, parting: reader.parting, texts: Vec::new() }
+        Port { answer, parting: reader.parting, texts: Vec::new(), plain: reader.padded == 0 }
     }
 
     /// Feature `k` of the collected tile, with its tags.
     pub fn fetch(self, address: &Address, k: usize) -> Port {
         let (tile, parting) = self.fetched(address);
         let answer = tile.map_or_else(|refusal| refusal, |tile| tile.answer(k));
-        Port { answer, parting, texts: Vec::new() }
+        Port { answer, parting, texts: Vec::new(), plain: true }
     }
 
     /// The collected tile with the texts of its features, or the refusal.
@@ -126,7 +130,8 @@ impl<'a> Opened<'a> {
         let ended = reader.stream(address, zoom, delivery);
         let end = |water| vec![0, address.sub_file, u64::from(water)];
         let answer = ended.map_or_else(|refusal| refusal, end);
-        Port { answer, parting: reader.parting, texts: reader.texts }
+        let plain = reader.padded == 0;
+        Port { answer, parting: reader.parting, texts: reader.texts, plain }
     }
 
     /// Whether no stored count is above the number of the map's bytes. Above that a tile does not
@@ -162,6 +167,14 @@ impl<'a> Opened<'a> {
         let mut reader = Reader::new(self, View::Collected);
         let opens = reader.head(address).is_ok();
         opens && reader.parting.is_some_and(|parting| parting.cause == Cause::Empty)
+    }
+
+    /// Wish 6: whether all numbers of the tile's head are plain, rows above the zoom and the first-way offset included; of
+    /// an empty tile they are. The refusal, if there is no head.
+    #[cfg(feature = "both")]
+    pub fn head_plain(self, address: &Address) -> Result<bool, Answer> {
+        let mut reader = Reader::new(self, View::Streamed);
+        reader.head(address).map(|_| reader.padded == 0)
     }
 
     /// The refusal by which a stream of the tile does not open.
@@ -215,8 +228,8 @@ impl<'a> Opened<'a> {
         let mut reader = Reader::new(self, View::Streamed);
         reader.seek(at as u128);
         let blocks = reader.blocks(data_blocks, double);
-        let end = reader.at() as u64;
-        (blocks.map(|blocks| WayData { blocks, end }), reader.parting)
+        let (end, plain) = (reader.at() as u64, reader.padded == 0);
+        (blocks.map(|blocks| WayData { blocks, end, plain }), reader.parting)
     }
 
     fn debug(self) -> bool {
@@ -276,7 +289,8 @@ impl<'a> Reader<'a> {
             Ok(way)
         };
         let ways = (0..ways).map(way).collect::<Read<_>>()?;
-        Ok(Tile { signature, table, first_way, points, ways, exact })
+        let padded = self.padded;
+        Ok(Tile { signature, table, first_way, points, ways, exact, padded: Some(padded) })
     }
 
     /// Answers the water mark.

@@ -26,7 +26,7 @@ impl Delivery for Calls {
     }
 
     fn head(&mut self, head: Head) -> bool {
-        let Head { bitmap, ids, layer } = head;
+        let Head { bitmap, ids, layer, .. } = head;
         let layer = layer.expect("the model has a layer");
         let words = [&[2, u64::from(bitmap), layer], ids.as_slice()].concat();
         self.0 += &format!("{}n{}\n", out_of_turn(), numbers(&words));

@@ -18,7 +18,7 @@ use crate::source::Source;
 use crate::tiles::Address;
 
 /// The maps of the repository, whose folder is beside this package's.
-const SHIPPED: [&str; 3] = ["islands.map", "islands-debug.map", "short-size.map"];
+const SHIPPED: [&str; 4] = ["islands.map", "islands-debug.map", "short-size.map", "padded.map"];
 
 /// Of a grid so many tiles are asked for at most: some maps are huge.
 const TILES: u64 = 20_000;

@@ -115,7 +115,7 @@ fn of_tile(
 
 /// "A tile collects if collecting isn't refused; its stream then opens at every zoom."
 fn stream(ask: &Ask, zoom: u8) -> Checked<State> {
-    let mut state = [WORD; 7];
+    let mut state = [WORD; 8];
     let opened = library::stream_open(ask, ask.at.sub_file, zoom, &mut state);
     match opened.number {
         0 => Ok(state),

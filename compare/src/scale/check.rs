@@ -82,6 +82,31 @@ const REASONS: [(Reason, &str); 13] = [
     (Reason::Tile(Cause::Empty), "a tile that is marked empty"),
 ];
 
+/// Who says whether numbers are plain.
+#[derive(Clone, Copy, Debug)]
+pub enum Said {
+    Collected,
+    FetchedPoint,
+    FetchedWay,
+    StreamedPoint,
+    Head,
+    Accepted,
+    End,
+    Data,
+}
+
+/// In the order of their numbers.
+const SAID: [(Said, &str); 8] = [
+    (Said::Collected, "a collected tile"),
+    (Said::FetchedPoint, "a fetched point"),
+    (Said::FetchedWay, "a fetched way"),
+    (Said::StreamedPoint, "a streamed point"),
+    (Said::Head, "a way's head"),
+    (Said::Accepted, "an accepted way"),
+    (Said::End, "the end of a stream"),
+    (Said::Data, "a way's data alone"),
+];
+
 /// Nothing, or what differs.
 pub type Checked<T = ()> = Result<T, String>;
 
@@ -99,6 +124,10 @@ pub struct Check {
     /// Answers that document 01's model gave in place of the Rust, by reason, and the cases with such.
     answers_settled: [u64; REASONS.len()],
     cases_settled: [u64; REASONS.len()],
+    /// Answers that say whether numbers are plain: those that say no, and those that say yes.
+    said: [[u64; 2]; SAID.len()],
+    /// The numbers of collected tiles that are not plain.
+    pub padded_numbers: u64,
     /// Whether the case so far has such an answer.
     in_case: [bool; REASONS.len()],
 }
@@ -133,6 +162,17 @@ impl Check {
         let k = REASONS.iter().position(|(known, _)| *known == reason).expect("all are listed");
         self.answers_settled[k] += 1;
         self.in_case[k] = true;
+    }
+
+    /// Counts an answer that says whether numbers are plain.
+    pub fn said(&mut self, of: Said, plain: bool) {
+        self.said[of as usize][usize::from(plain)] += 1;
+    }
+
+    /// Who did not say both: of a padded number, and that all are plain.
+    pub fn unsaid(&self) -> Vec<&'static str> {
+        let unsaid = SAID.iter().filter(|(of, _)| self.said[*of as usize].contains(&0));
+        unsaid.map(|(_, name)| *name).collect()
     }
 
     /// A case, or an undamaged map, ends here.
@@ -203,6 +243,8 @@ impl Check {
         add(self.answers.as_flattened_mut(), other.answers.as_flattened());
         add(&mut self.answers_settled, &other.answers_settled);
         add(&mut self.cases_settled, &other.cases_settled);
+        add(self.said.as_flattened_mut(), other.said.as_flattened());
+        self.padded_numbers += other.padded_numbers;
         self.values += other.values;
         self.by_the_rust += other.by_the_rust;
     }
@@ -239,6 +281,13 @@ impl Check {
         let settled = self.answers_settled.iter().zip(self.cases_settled);
         for ((_, name), (answers, cases)) in REASONS.iter().zip(settled) {
             println!("  {name:<48} {answers:>10} {cases:>10}");
+        }
+        println!("plain numbers: answers with a padded number, and answers where all are plain");
+        for ((_, name), [padded, plain]) in SAID.iter().zip(self.said) {
+            println!("  {name:<48} {padded:>10} {plain:>10}");
+        }
+        if self.padded_numbers > 0 {
+            println!("padded numbers in collected tiles: {}", self.padded_numbers);
         }
         println!("values compared: {}", self.values);
     }

@@ -1,6 +1,6 @@
 //! Collected tiles and fetched features.
 
-use super::check::{Call, Check, Checked};
+use super::check::{Call, Check, Checked, Said};
 use super::known::Tile;
 use super::lent::{suffice, Fronts, Lengths, Lent};
 use super::library::{self, degrees, kept_but, Ask, Fetch, SIGNED, WORD};
@@ -29,11 +29,15 @@ pub fn collect(check: &mut Check, ask: &Ask, known: &Tile) -> Checked {
         (points[k], ways[k]) = (*row_points, *row_ways);
     }
     let counts = [tile.table.len(), tile.points.len(), tile.ways.len()].map(|n| n as u64);
-    let mut words = [WORD; 14];
+    let padded = tile.padded.ok_or("the model does not say what is padded")?;
+    check.said(Said::Collected, padded == 0);
+    check.padded_numbers += padded;
+    let mut words = [WORD; 15];
     words[6..9].copy_from_slice(&placed(check, ask.map, &tile.signature, known_place(known, 0))?);
     words[9] = counts[0];
     words[10] = tile.first_way;
-    words[11..14].copy_from_slice(&[counts[1], counts[2], u64::from(tile.exact)]);
+    let said = [tile.exact, padded == 0].map(u64::from);
+    words[11..15].copy_from_slice(&[counts[1], counts[2], said[0], said[1]]);
     check.got(Call::Collect, &ours.got, 0, &words)?;
     check.words("points of the zoom table", &ours.points, &points)?;
     check.words("ways of the zoom table", &ours.ways, &ways)
@@ -134,22 +138,30 @@ fn feature(
     fetched: &Fetched,
     signature_place: Option<u64>,
 ) -> Checked {
-    let mut words: [u64; 35] = kept_but(6, &[0; 23]);
+    let mut words: [u64; 37] = kept_but(6, &[0; 23]);
+    let unsaid = "the model does not say whether it is plain";
     let (ids, signature, layer, metres, degrees) = match fetched.feature {
         Feature::Point(point) => {
             words[29] = u64::from(point.elevation.is_some());
+            let plain = point.plain.ok_or(unsaid)?;
+            words[35] = u64::from(plain);
+            check.said(Said::FetchedPoint, plain);
             let metres = i64::from(point.elevation.unwrap_or(0));
             (&point.ids, &point.signature, point.layer, metres, point.position)
         }
         Feature::Way(way) => {
             let nodes: usize = way.blocks.iter().map(|block| block.nodes.len()).sum();
             words[6] = 1;
-            words[30..35].copy_from_slice(&[
+            let (plain, head) = (way.plain.ok_or(unsaid)?, way.head_plain.ok_or(unsaid)?);
+            check.said(Said::FetchedWay, plain);
+            words[30..37].copy_from_slice(&[
                 u64::from(way.bitmap),
                 u64::from(way.double),
                 way.blocks.len() as u64,
                 nodes as u64,
                 u64::from(way.label.is_some()),
+                u64::from(plain),
+                u64::from(head),
             ]);
             (&way.ids, &way.signature, way.layer, SIGNED[1], way.label.unwrap_or_default())
         }

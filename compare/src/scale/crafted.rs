@@ -7,6 +7,7 @@ mod layout;
 mod marked;
 mod numbers;
 mod order;
+mod padded;
 mod points;
 mod random;
 mod rich;
@@ -57,6 +58,7 @@ pub fn maps() -> Vec<(Vec<u8>, Vec<Address>)> {
     marked::add(&mut maps);
     rich::add(&mut maps);
     random::add(&mut maps);
+    padded::add(&mut maps);
     maps.0
 }
 

@@ -8,6 +8,8 @@ use crate::random::Random;
 
 /// From this size on bytes are put in or taken out only at times, since the rest is moved.
 const LARGE: usize = 1 << 14;
+/// One in so many numbers is not another one, but the same in a byte more.
+const PADDED: usize = 4;
 /// Below this size a map that differs is shown as a whole.
 pub const SHOWN: usize = 2000;
 
@@ -161,8 +163,12 @@ impl Random {
         }
     }
 
-    /// A number in place of one that is there, or over what is there.
+    /// A number in place of one that is there, or over what is there; at times the same one in a byte more.
     fn number(&mut self, map: &[u8], stretch: &Stretch) -> Edit {
+        if map.len() < LARGE && !stretch.numbers.is_empty() && self.below(PADDED) == 0 {
+            let k = self.below(stretch.numbers.len());
+            return self.padded(map, &stretch.numbers[k]);
+        }
         let put = self.special();
         if stretch.numbers.is_empty() {
             return self.replaced(map, stretch, put);
@@ -173,6 +179,14 @@ impl Random {
         }
         let taken = put.len().min(map.len() - place.start);
         Edit { at: place.start, taken, put: put[..taken].to_vec() }
+    }
+
+    /// A byte more for a number that is there. The bit below the top one is data of an unsigned number and the sign of a signed
+    /// one; which of them it is, nobody says here.
+    fn padded(&mut self, map: &[u8], place: &Range<usize>) -> Edit {
+        let last = map.get(place.end - 1).copied().unwrap_or(0);
+        let sign = last & [0, 0x40][self.below(2)];
+        Edit { at: place.end - 1, taken: 1, put: vec![last & !sign | 0x80, sign] }
     }
 
     /// The bytes of a number at a limit, padded at times, or of no number.

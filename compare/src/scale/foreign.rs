@@ -118,7 +118,7 @@ fn some_tag(check: &mut Check, file: &MapFile<Source>, ask: &Ask, random: &mut R
 }
 
 /// Each call of a stream by made-up words for its state. What it answers nothing is compared with, but it writes no
-/// words of other answers, and a refused one leaves all seven words as they are, in whatever form, and the lists too.
+/// words of other answers, and a refused one leaves all eight words as they are, in whatever form, and the lists too.
 fn made_up(
     check: &mut Check,
     lent: &mut Lent,
@@ -142,9 +142,10 @@ fn made_up(
     check.call(Call::StreamDecline, number);
     check.same("a decline", number, if before[0] == 0 { 16 } else { 0 })?;
     if number != 0 {
-        check.words("the state of a refused decline", &state, before)?;
+        return check.words("the state of a refused decline", &state, before);
     }
-    Ok(())
+    // any word but 0 is taken for yes, and a declined way's body says nothing
+    check.same("whether what was read is plain", state[7], u64::from(before[7] != 0))
 }
 
 /// Intervals and a tile by the whole map's words and lists, where the map is cut off before its header ends.
@@ -215,6 +216,7 @@ fn any_next(check: &mut Check, next: &Next) -> Checked<bool> {
         }
         kind => return Err(format!("a next of kind {kind}")),
     };
+    check.same("whether the word for plain is one", next.got.words[21] < 2, true)?;
     for others in others {
         kept(check, "words of another answer", &next.got.words[others.clone()])?;
     }

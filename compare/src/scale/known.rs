@@ -56,17 +56,19 @@ pub fn told(rust: Answer, model: Answer) -> Checked<Answer> {
     Err(format!("the Rust answers {rust:x?}, the model {model:x?}"))
 }
 
-/// The Rust does not compare sizes, and trims signatures: these two are the model's.
+/// The Rust does not compare sizes, does not say whether numbers are plain, and trims signatures: these are the model's.
 fn said_by_the_model(
     rust: &mut crate::tiles::feature::Tile,
     model: crate::tiles::feature::Tile,
 ) -> Checked {
-    rust.exact = model.exact;
+    (rust.exact, rust.padded) = (model.exact, model.padded);
     signature(&mut rust.signature, model.signature)?;
     for (rust, model) in rust.points.iter_mut().zip(model.points) {
+        rust.plain = model.plain;
         signature(&mut rust.signature, model.signature)?;
     }
     for (rust, model) in rust.ways.iter_mut().zip(model.ways) {
+        (rust.plain, rust.head_plain) = (model.plain, model.head_plain);
         signature(&mut rust.signature, model.signature)?;
     }
     Ok(())
@@ -138,6 +140,9 @@ pub struct Script {
     pub empty: bool,
     /// The places of its texts, in their order.
     pub texts: Vec<u64>,
+    /// By the model: whether all numbers of the tile's head are plain, and all that the stream reads to its end.
+    pub head_plain: bool,
+    pub plain: bool,
     heads: usize,
 }
 
@@ -152,8 +157,9 @@ impl Script {
     ) -> Checked<Self> {
         let (opened, at) = (ask.opened(file), &ask.at);
         let mut model = Script::new(plan);
-        let Port { answer, parting, texts } = opened.stream(at, zoom, &mut model);
-        (model.end, model.texts) = (answer, texts);
+        let Port { answer, parting, texts, plain } = opened.stream(at, zoom, &mut model);
+        (model.end, model.texts, model.plain) = (answer, texts, plain);
+        model.head_plain = opened.head_plain(at).unwrap_or(false);
         model.opens = opened.unopened(at).is_none();
         model.empty = parting.is_some_and(|parting| parting.cause == Cause::Empty);
         if let Some(reason) = model_alone(ask, parting.as_ref()) {
@@ -168,6 +174,7 @@ impl Script {
         rust.visit(file, at, zoom)?;
         rust.end = told(rust.end, model.end)?;
         (rust.opens, rust.texts) = (model.opens, model.texts);
+        (rust.head_plain, rust.plain) = (model.head_plain, model.plain);
         rust.events.iter_mut().zip(model.events).for_each(|(rust, model)| rust.complete(model));
         Ok(rust)
     }
@@ -210,7 +217,17 @@ impl Script {
 
     fn new(plan: &Plan) -> Self {
         let (events, end, texts) = (Vec::new(), Answer::new(), Vec::new());
-        Script { plan: plan.clone(), events, end, opens: false, empty: false, texts, heads: 0 }
+        Script {
+            plan: plan.clone(),
+            events,
+            end,
+            opens: false,
+            empty: false,
+            texts,
+            head_plain: false,
+            plain: false,
+            heads: 0,
+        }
     }
 }
 
@@ -219,7 +236,7 @@ impl Event {
     fn is(&self, model: &Event) -> bool {
         match (self, model) {
             (Event::Point(rust), Event::Point(model)) => {
-                *rust == Point { signature: None, ..model.clone() }
+                *rust == Point { signature: None, plain: None, ..model.clone() }
             }
             (Event::Head(rust), Event::Head(model)) => {
                 rust.bitmap == model.bitmap && rust.ids == model.ids
@@ -232,6 +249,8 @@ impl Event {
                     signature: None,
                     double: false,
                     blocks: Vec::new(),
+                    plain: None,
+                    head_plain: None,
                     ..way.clone()
                 };
                 nodes(rust) == nodes(model) && fields(rust) == fields(model)
@@ -240,10 +259,18 @@ impl Event {
         }
     }
 
-    /// The Rust says a layer only of an accepted way.
+    /// The Rust says a layer only of an accepted way, and of nothing whether it is plain.
     fn complete(&mut self, model: Event) {
-        if let (Event::Head(rust), Event::Head(model)) = (self, model) {
-            rust.layer = model.layer;
+        match (self, model) {
+            (Event::Point(rust), Event::Point(model)) => rust.plain = model.plain,
+            (Event::Head(rust), Event::Head(model)) => {
+                (rust.layer, rust.plain) = (model.layer, model.plain);
+            }
+            (Event::Way(rust), Event::Way(model)) => {
+                (rust.plain, rust.head_plain) = (model.plain, model.head_plain);
+            }
+            // told where they are compared
+            _ => {}
         }
     }
 }

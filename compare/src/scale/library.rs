@@ -33,7 +33,7 @@ pub fn degrees<const N: usize>() -> [f64; N] {
 }
 
 /// The state of a stream.
-pub type State = [u64; 7];
+pub type State = [u64; 8];
 /// What other calls need of the header.
 pub type Layout = [u64; 7];
 /// A sub file's interval, as `interval` gives it and other calls take it; its first word is 0 if there is none.
@@ -279,8 +279,9 @@ pub fn stream_open(ask: &Ask, number: u64, zoom: u8, state: &mut State) -> Got<6
 }
 
 /// A point, a way's head or the end.
+#[derive(Clone)]
 pub struct Next {
-    pub got: Got<21>,
+    pub got: Got<22>,
     pub signed: [i64; 2],
     pub degrees: [f64; 2],
     pub ids: [u64; 15],
@@ -317,7 +318,7 @@ pub struct Nodes<'a> {
 
 /// A way's body.
 pub struct Accept {
-    pub got: Got<18>,
+    pub got: Got<19>,
     pub degrees: [f64; 2],
 }
 
@@ -350,7 +351,7 @@ pub fn stream_decline(state: &mut State) -> u64 {
 
 /// A collected tile's words, and its zoom table.
 pub struct Collect {
-    pub got: Got<14>,
+    pub got: Got<15>,
     pub points: [u64; 256],
     pub ways: [u64; 256],
 }
@@ -391,7 +392,7 @@ pub struct Lists<'a> {
 
 /// A fetched feature.
 pub struct Fetch {
-    pub got: Got<35>,
+    pub got: Got<37>,
     pub signed: [i64; 2],
     pub degrees: [f64; 2],
     pub ids: [u64; 15],
@@ -444,7 +445,7 @@ pub fn fetch(ask: &Ask, feature: u64, lists: Lists) -> Fetch {
     Fetch { got, signed, degrees, ids, tags }
 }
 
-pub fn measure_way_data(map: &[u8], at: usize, data_blocks: u64) -> Got<9> {
+pub fn measure_way_data(map: &[u8], at: usize, data_blocks: u64) -> Got<10> {
     // SAFETY: as above
     Got::of(|words| unsafe {
         sys::mapsforge_measure_way_data(map.as_ptr(), map.len(), at, data_blocks, words)
@@ -457,7 +458,7 @@ pub fn read_way_data(
     data_blocks: u64,
     double: bool,
     nodes: Nodes,
-) -> Got<9> {
+) -> Got<10> {
     let Nodes { counts, latitudes, longitudes } = nodes;
     // SAFETY: as above
     Got::of(|words| unsafe {

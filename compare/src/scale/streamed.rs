@@ -2,7 +2,7 @@
 
 use mapsforge_rs::types::MapFile;
 
-use super::check::{Call, Check, Checked};
+use super::check::{Call, Check, Checked, Said};
 use super::collected::{padded, placed};
 use super::known::{Event, Plan, Script};
 use super::lent::{suffice, Fronts, Lengths, Lent};
@@ -33,6 +33,10 @@ struct Run<'a, 'b> {
     texts: Vec<u64>,
     /// How many texts came so far.
     text: usize,
+    /// Wish 6: whether all numbers "that the stream has read for it in calls not refused" are plain, those of the tile's head
+    /// at first; and whether those of the last way's head are.
+    plain: bool,
+    head_plain: bool,
 }
 
 /// Streams a tile by a plan to its end.
@@ -45,8 +49,9 @@ pub fn stream(
     random: &mut Random,
 ) -> Checked {
     let script = Script::of(check, file, &question.ask, question.zoom, plan)?;
-    let (state, texts) = ([WORD; 7], Vec::new());
-    let mut run = Run { question, state, check, lent, random, texts, text: 0 };
+    let (state, texts, plain) = ([WORD; 8], Vec::new(), script.head_plain);
+    let head_plain = true;
+    let mut run = Run { question, state, check, lent, random, texts, text: 0, plain, head_plain };
     if !script.opens {
         return run.unopened(&script.end);
     }
@@ -69,21 +74,24 @@ impl Run<'_, '_> {
     fn unopened(mut self, refusal: &Answer) -> Checked {
         let ours = self.open();
         self.check.refused(Call::StreamOpen, &ours, refusal)?;
-        self.check.words("the state of a stream that does not open", &self.state, &[WORD; 7])
+        self.check.words("the state of a stream that does not open", &self.state, &[WORD; 8])
     }
 
-    /// What a state says besides counts and places: whether a way waits, the sub file's number and the water mark.
+    /// What a state says besides counts and places: whether a way waits, the sub file's number, the water mark, and whether
+    /// what was read is plain, and the waiting way's head.
     fn stated(&mut self, waits: bool) -> Checked {
-        let [waiting, .., fourth, number, water] = self.state;
+        let [waiting, .., fourth, number, water, plain] = self.state;
         self.check.same("whether a way waits", waiting, u64::from(waits))?;
         self.check.same("the state's sub file", number, self.question.number)?;
         self.check.same("whether the water mark is one", water < 2, true)?;
-        self.check.same("the state's word 4", waits && fourth != 0, false)
+        self.check.same("whether what was read is plain", plain, u64::from(self.plain))?;
+        let head_plain = if waits { u64::from(self.head_plain) } else { fourth };
+        self.check.same("whether the waiting way's head is", fourth, head_plain)
     }
 
     /// The header file, of an empty tile: "nothing is to come, and both places are 0".
     fn at_end(&mut self, end: &Answer) -> Checked {
-        let state = [0, 0, 0, 0, 0, self.question.number, end[2]];
+        let state = [0, 0, 0, 0, 0, self.question.number, end[2], 1];
         self.check.words("the state of an empty tile", &self.state, &state)
     }
 
@@ -127,10 +135,22 @@ impl Run<'_, '_> {
                 }
             }
         }
+        if script.end[0] == 0 {
+            // by all that the model has read in one go, declined bodies left out
+            self.check.same("whether all that was read is plain", self.plain, script.plain)?;
+        }
         self.out_of_turn()?;
         self.end(&script.end)?;
         self.out_of_turn()?;
         self.end(&script.end)
+    }
+
+    /// Notes whether the numbers of a call that is not refused are plain; gives the word for it.
+    fn noted(&mut self, of: Said, plain: Option<bool>) -> Checked<u64> {
+        let plain = plain.ok_or("the model does not say whether it is plain")?;
+        self.plain &= plain;
+        self.check.said(of, plain);
+        Ok(u64::from(plain))
     }
 
     fn next(&mut self) -> (Next, State) {
@@ -141,8 +161,10 @@ impl Run<'_, '_> {
     /// A streamed feature has no signature.
     fn point(&mut self, point: &Point) -> Checked {
         let (ours, _) = self.next();
+        let plain = self.noted(Said::StreamedPoint, point.plain)?;
         self.stated(false)?;
-        let mut words: [u64; 21] = kept_but(6, &[0; 12]);
+        let mut words: [u64; 22] = kept_but(6, &[0; 12]);
+        words[21] = plain;
         words[7] = point.ids.len() as u64;
         self.parts(&mut words, 11, &point.name)?;
         self.parts(&mut words, 14, &point.house_number)?;
@@ -156,9 +178,12 @@ impl Run<'_, '_> {
 
     fn head(&mut self, head: &Head) -> Checked {
         let (ours, _) = self.next();
+        let plain = self.noted(Said::Head, head.plain)?;
+        self.head_plain = plain != 0;
         self.stated(true)?;
         let layer = head.layer.ok_or("the model has no such head")?;
-        let mut words: [u64; 21] = kept_but(6, &[1, head.ids.len() as u64]);
+        let mut words: [u64; 22] = kept_but(6, &[1, head.ids.len() as u64]);
+        words[21] = plain;
         words[18] = u64::from(head.bitmap);
         self.check.got(Call::StreamNext, &ours.got, 0, &words)?;
         self.check.same("a head's layer", ours.signed, [layer as i64 - 5, SIGNED[1]])?;
@@ -170,10 +195,11 @@ impl Run<'_, '_> {
     /// it was. The Rust's number is the one by which it was asked.
     fn end(&mut self, end: &Answer) -> Checked {
         let (ours, before) = self.next();
-        let mut words: [u64; 21] = kept_but(0, &end[1..]);
+        let mut words: [u64; 22] = kept_but(0, &end[1..]);
         if let [0, sub_file, water] = end[..] {
             self.check.same("the Rust's sub file", self.question.ask.at.sub_file, sub_file)?;
-            words = kept_but(19, &[self.question.number, water]);
+            self.check.said(Said::End, self.plain);
+            words = kept_but(19, &[self.question.number, water, u64::from(self.plain)]);
             words[6] = 2;
         }
         self.check.got(Call::StreamNext, &ours.got, end[0], &words)?;
@@ -224,13 +250,15 @@ impl Run<'_, '_> {
         }
         let lengths = self.random.enough(&needed);
         let ours = self.call_accept(lengths);
+        let plain = self.noted(Said::Accepted, way.plain)?;
         self.stated(false)?;
-        self.body(&ours, way, &needed)?;
+        self.body(&ours, way, &needed, plain)?;
         self.lent.check(self.check, lengths, &fronts)
     }
 
-    fn body(&mut self, ours: &Accept, way: &Way, needed: &Lengths) -> Checked {
-        let mut words: [u64; 18] = kept_but(6, &[needed[0] as u64, needed[1] as u64]);
+    fn body(&mut self, ours: &Accept, way: &Way, needed: &Lengths, plain: u64) -> Checked {
+        let mut words: [u64; 19] = kept_but(6, &[needed[0] as u64, needed[1] as u64]);
+        words[18] = plain;
         self.parts(&mut words, 8, &way.name)?;
         self.parts(&mut words, 11, &way.house_number)?;
         self.parts(&mut words, 14, &way.reference)?;

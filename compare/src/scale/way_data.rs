@@ -3,7 +3,7 @@
 use mapsforge_rs::io::ByteSource;
 use mapsforge_rs::utils::read_vbe_u_int;
 
-use super::check::{caught, Call, Check, Checked, Reason};
+use super::check::{caught, Call, Check, Checked, Reason, Said};
 use super::lent::{suffice, Fronts, Lent};
 use super::library;
 use crate::answer::{refused, Answer};
@@ -11,8 +11,8 @@ use crate::differences::tile::Opened;
 use crate::random::Random;
 use crate::source::Source;
 
-/// Node counts, latitudes and longitudes, and the place behind them; or the refusal.
-type Data = Result<(Fronts, u64), Answer>;
+/// Node counts, latitudes and longitudes, the place behind them, and whether all their numbers are plain; or the refusal.
+type Data = Result<(Fronts, u64, bool), Answer>;
 
 /// So many data blocks from a place on, with one of the two forms of deltas.
 #[derive(Clone, Copy)]
@@ -36,15 +36,22 @@ pub fn compare(
     read(check, lent, map, question, &known, random)
 }
 
-/// The Rust's, by its own readers of numbers and nodes; where it parts, the model's.
+/// The Rust's, by its own readers of numbers and nodes; where it parts, the model's. Whether the numbers are plain the model says.
 fn known(check: &mut Check, opened: Opened, question: Question) -> Checked<Data> {
     let Question { at, data_blocks, double } = question;
     let (model, parting) = opened.way_data(at, data_blocks, double);
     if let Some(parting) = parting {
         check.settle(Reason::Tile(parting.cause));
-        return Ok(model.map(|data| (Fronts::of_blocks(&data.blocks), data.end)));
+        return Ok(model.map(|data| (Fronts::of_blocks(&data.blocks), data.end, data.plain)));
     }
-    caught(|| rust(opened.map, question).map_err(|error| refused(&error)))
+    let (fronts, end) =
+        match caught(|| rust(opened.map, question).map_err(|error| refused(&error)))? {
+            Err(refusal) => return Ok(Err(refusal)),
+            Ok(data) => data,
+        };
+    let plain = model.map(|data| data.plain);
+    let plain = plain.map_err(|_| "the model does not say whether it is plain")?;
+    Ok(Ok((fronts, end, plain)))
 }
 
 fn rust(map: &[u8], question: Question) -> mapsforge_rs::Result<(Fronts, u64)> {
@@ -63,18 +70,21 @@ fn rust(map: &[u8], question: Question) -> mapsforge_rs::Result<(Fronts, u64)> {
     Ok((fronts, source.at()))
 }
 
-/// Blocks, nodes and the place behind them.
+/// Blocks, nodes, the place behind them and whether they are plain.
 fn measure(check: &mut Check, map: &[u8], question: Question, known: &Data) -> Checked {
     let got = library::measure_way_data(map, question.at, question.data_blocks);
     match known {
         Err(refusal) => check.refused(Call::MeasureWayData, &got, refusal),
-        Ok(data) => check.got(Call::MeasureWayData, &got, 0, &measured(data)),
+        Ok(data) => {
+            check.said(Said::Data, data.2);
+            check.got(Call::MeasureWayData, &got, 0, &measured(data))
+        }
     }
 }
 
-fn measured((fronts, end): &(Fronts, u64)) -> [u64; 9] {
+fn measured((fronts, end, plain): &(Fronts, u64, bool)) -> [u64; 10] {
     let [blocks, nodes, ..] = fronts.lengths().map(|length| length as u64);
-    library::kept_but(6, &[blocks, nodes, *end])
+    library::kept_but(6, &[blocks, nodes, *end, u64::from(*plain)])
 }
 
 fn read(
@@ -86,7 +96,7 @@ fn read(
     random: &mut Random,
 ) -> Checked {
     let nothing = Fronts::default();
-    let needed = known.as_ref().map_or([1, 2, 2, 0, 0, 0], |(fronts, _)| fronts.lengths());
+    let needed = known.as_ref().map_or([1, 2, 2, 0, 0, 0], |(fronts, ..)| fronts.lengths());
     let lengths = random.lengths(&needed);
     let Question { at, data_blocks, double } = question;
     let lists = lent.lists(lengths).nodes;
@@ -103,6 +113,7 @@ fn read(
             &nothing
         }
         Ok(data) => {
+            check.said(Said::Data, data.2);
             check.got(Call::ReadWayData, &got, 0, &measured(data))?;
             &data.0
         }

@@ -21,6 +21,8 @@ pub struct Point {
     pub elevation: Option<i32>,
     /// As it is stored, or as the Rust gives it: replaced and trimmed.
     pub signature: Option<Text>,
+    /// Whether all its numbers are plain, which the Rust does not say.
+    pub plain: Option<bool>,
 }
 
 impl Point {
@@ -54,6 +56,9 @@ pub struct Way {
     pub blocks: Vec<Block>,
     /// As a point's.
     pub signature: Option<Text>,
+    pub plain: Option<bool>,
+    /// The same of its head alone.
+    pub head_plain: Option<bool>,
 }
 
 /// A way's head, as a stream delivers it.
@@ -62,6 +67,9 @@ pub struct Head {
     pub ids: Vec<u64>,
     /// The layer + 5, which the Rust does not say before a way is accepted.
     pub layer: Option<u64>,
+    /// Whether all its numbers are plain, which the Rust does not say.
+    #[cfg_attr(not(feature = "both"), allow(dead_code))]
+    pub plain: Option<bool>,
 }
 
 /// A coordinate block.
@@ -122,6 +130,9 @@ pub struct Tile {
     pub ways: Vec<Way>,
     /// Whether every stored size is the decoded length, which the Rust does not say.
     pub exact: bool,
+    /// How many numbers of the tile are not plain, which the Rust does not say.
+    #[cfg_attr(not(feature = "both"), allow(dead_code))]
+    pub padded: Option<u64>,
 }
 
 /// A feature of a collected tile.

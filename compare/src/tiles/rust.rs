@@ -71,6 +71,7 @@ fn collected(tile: &types::Tile) -> Tile {
         points: tile.pois.iter().map(collected_point).collect(),
         ways: tile.ways.iter().map(collected_way).collect(),
         exact: false,
+        padded: None,
     }
 }
 
@@ -83,6 +84,7 @@ fn collected_point(point: &POI) -> Point {
         house_number: text(point.house_number.as_deref()),
         elevation: point.elevation,
         signature: text(point.debug_signature.as_deref()),
+        plain: None,
     }
 }
 
@@ -98,6 +100,8 @@ fn collected_way(way: &types::Way) -> Way {
         double: way.double_delta_encoding,
         blocks: way.coordinate_blocks.iter().map(collected_block).collect(),
         signature: text(way.debug_signature.as_deref()),
+        plain: None,
+        head_plain: None,
     }
 }
 
@@ -140,6 +144,7 @@ impl<D: Delivery> TileVisitor for Visitor<'_, D> {
             house_number: text(point.house_number),
             elevation: point.elevation,
             signature: None,
+            plain: None,
         });
     }
 
@@ -155,11 +160,13 @@ impl<D: Delivery> TileVisitor for Visitor<'_, D> {
             double: false,
             blocks: way.blocks.iter().map(|nodes| streamed_block(nodes)).collect(),
             signature: None,
+            plain: None,
+            head_plain: None,
         });
     }
 
     fn accept_way(&mut self, bitmap: u16, tag_ids: &[usize]) -> bool {
-        self.0.head(Head { bitmap, ids: ids(tag_ids), layer: None })
+        self.0.head(Head { bitmap, ids: ids(tag_ids), layer: None, plain: None })
     }
 }
 

@@ -56,7 +56,7 @@ module _ (C : MapLayout) (L : MapLaws C) (m : List ℕ) (h : C .Header) (n : C .
     map = o;
     opens = rw (o .entry) (a .opens);
     replies = a .replies;
-    shown = ap (streamedReplies (C .view h)) (a .replies) ∙ view-book (C .view h) (L .view h) t (C .end h n) (rowsAt C h zoom) (bookStart (C .end h n)) cs;
+    shown = ap (streamedReplies (C .view h)) (a .replies) ∙ view-book (C .view h) (L .view h) t (C .end h n) (rowsAt C h zoom) (bookStart (C .end h n (t .head))) cs;
   }
 
   altered : (zoom : ℕ) (cs : List Call) (m′ : List ℕ) → DifferOnly m m′ (MapAlterable C m h t zoom cs (mapReplies C h n t zoom cs)) → MapAgrees C m′ h n t zoom cs

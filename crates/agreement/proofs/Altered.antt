@@ -12,7 +12,7 @@ use Rattle.arithmetic.specs.Cut.{cut}
 use Rattle.format.specs.Lent.{LentLists, fits}
 use Rattle.agreement.specs.Calls.{Call, next, accept, decline, Step, run}
 use Rattle.agreement.specs.Format.{Format, Laws, dataEnd}
-use Rattle.agreement.specs.Stream.{StreamAnswer, State, idle, waits, stream}
+use Rattle.agreement.specs.Stream.{StreamAnswer, StreamState, idle, waits, stream}
 use Rattle.agreement.specs.Collected.{Way}
 use Rattle.agreement.specs.Declined.{Bytes, LiesIn, this, later, untried, bytesAdded, declinedFrom}
 use Rattle.agreement.proofs.Chain.{Chain, stop, link, forth}
@@ -50,16 +50,16 @@ module _ (F : Format) (L : Laws F) (m m′ : List ℕ) (long : length m ≡ leng
 
   -- a state of the stream of a tile that collects; the way declined next, if it is untried; a place behind which only declined bytes
   -- were altered, and one before which none lies
-  pub data Sound : State (F .End) → Maybe (F .Head) → (low high : ℕ) → Type 0 where
+  pub data Sound : StreamState F → Maybe (F .Head) → (low high : ℕ) → Type 0 where
     s-idle : {i v : ℕ} {z : F .End} {ps : List (F .Point)} {ws : List (Way F)} → Points i ps → Ways F m v ws
         → Sound (idle (length ps) (length ws) i v z) none v v
     s-untried : {b : ℕ} {z : F .End} {w : Way F} {ws : List (Way F)} → F .behind (w .head) ≡ b → Body F m b w → Ways F m (cut (dataEnd F (w .head))) ws
-        → Sound (waits (length ws) (cut (dataEnd F (w .head))) b z) (some (w .head)) b b
+        → Sound (waits (length ws) (cut (dataEnd F (w .head))) b (F .kept (w .head)) z) (some (w .head)) b b
     s-tried : {b : ℕ} {z : F .End} {w : Way F} {ws : List (Way F)} → Body F m b w → Ways F m (cut (dataEnd F (w .head))) ws
-        → Sound (waits (length ws) (cut (dataEnd F (w .head))) b z) none b (cut (dataEnd F (w .head)))
+        → Sound (waits (length ws) (cut (dataEnd F (w .head))) b (F .kept (w .head)) z) none b (cut (dataEnd F (w .head)))
 
   -- what one call does to that, and what it needs to be answered alike from both maps
-  record Onward (s : State (F .End)) (w : Maybe (F .Head)) (lo hi : ℕ) (c : Call) (st : Step (StreamAnswer F) (State (F .End))) : Type 0 where
+  record Onward (s : StreamState F) (w : Maybe (F .Head)) (lo hi : ℕ) (c : Call) (st : Step (StreamAnswer F) (StreamState F)) : Type 0 where
     low : ℕ
     high : ℕ
     lows : lo ≤ low
@@ -69,7 +69,7 @@ module _ (F : Format) (L : Laws F) (m m′ : List ℕ) (long : length m ≡ leng
     reads : ((j : ℕ) → lo ≤ j → j < high → (LiesIn j (bytesAdded F w c) → ⊥) → getD m j 0 ≡ getD m′ j 0) → stream F m′ s c ≡ st
 
   -- a call that reads nothing and leaves the state
-  stays : {s : State (F .End)} {w : Maybe (F .Head)} {lo hi : ℕ} {c : Call} {st : Step (StreamAnswer F) (State (F .End))} → Sound (st .left) (untried w c (st .reply .answer)) lo hi
+  stays : {s : StreamState F} {w : Maybe (F .Head)} {lo hi : ℕ} {c : Call} {st : Step (StreamAnswer F) (StreamState F)} → Sound (st .left) (untried w c (st .reply .answer)) lo hi
       → ((j : ℕ) → LiesIn j (bytesAdded F w c) → ⊥) → stream F m′ s c ≡ st → Onward s w lo hi c st
   stays g d r = record {
     low = _;
@@ -84,7 +84,7 @@ module _ (F : Format) (L : Laws F) (m m′ : List ℕ) (long : length m ≡ leng
   -- accept reads the body, whether or not the lists fit
   accepts : {w : Maybe (F .Head)} {hi b : ℕ} {z : F .End} (y : Way F) (ws : List (Way F)) (l : LentLists) → hi ≤ cut (dataEnd F (y .head)) → Body F m b y → Ways F m (cut (dataEnd F (y .head))) ws
       → (c : Bool) → fits (F .lists (y .body)) l ≡ c
-      → Onward (waits (length ws) (cut (dataEnd F (y .head))) b z) w b hi (accept l) (stream F m (waits (length ws) (cut (dataEnd F (y .head))) b z) (accept l))
+      → Onward (waits (length ws) (cut (dataEnd F (y .head))) b (F .kept (y .head)) z) w b hi (accept l) (stream F m (waits (length ws) (cut (dataEnd F (y .head))) b (F .kept (y .head)) z) (accept l))
   accepts {b = b} y ws l up d x true e =
       let f = L .body-good .forth m b (y .body) (cut (dataEnd F (y .head))) (d .reads) in
       rw (d .reads, e) record {
@@ -107,7 +107,7 @@ module _ (F : Format) (L : Laws F) (m m′ : List ℕ) (long : length m ≡ leng
         reads = λ g. rw (L .body-good .near m m′ b (y .body) _ (record { long = long; same = λ j p q. g j p q nowhere }) (d .reads), e);
       }
 
-  onward : (s : State (F .End)) (w : Maybe (F .Head)) (lo hi : ℕ) (c : Call) → Sound s w lo hi → Onward s w lo hi c (stream F m s c)
+  onward : (s : StreamState F) (w : Maybe (F .Head)) (lo hi : ℕ) (c : Call) → Sound s w lo hi → Onward s w lo hi c (stream F m s c)
   onward s u lo hi next (s-idle (alike-point h h′ y) x) =
       rw h record {
         low = lo;
@@ -161,7 +161,7 @@ module _ (F : Format) (L : Laws F) (m m′ : List ℕ) (long : length m ≡ leng
       }
 
   -- no declined byte lies before the second place
-  pub above : (cs : List Call) (s : State (F .End)) (w : Maybe (F .Head)) (lo hi : ℕ) → Sound s w lo hi
+  pub above : (cs : List Call) (s : StreamState F) (w : Maybe (F .Head)) (lo hi : ℕ) → Sound s w lo hi
       → (j : ℕ) → LiesIn j (declinedFrom F w cs (run (stream F m) s cs)) → hi ≤ j
   above [] s w lo hi g j h = nowhere h
   above (c ∷ cs) s w lo hi g j h =
@@ -171,7 +171,7 @@ module _ (F : Format) (L : Laws F) (m m′ : List ℕ) (long : length m ≡ leng
       (λ k. le-trans (o .highs) (above cs _ _ _ _ (o .sound) j k))
 
   -- altered only there: the same replies
-  pub alike : (cs : List Call) (s : State (F .End)) (w : Maybe (F .Head)) (lo hi : ℕ) → Sound s w lo hi
+  pub alike : (cs : List Call) (s : StreamState F) (w : Maybe (F .Head)) (lo hi : ℕ) → Sound s w lo hi
       → ((j : ℕ) → lo ≤ j → (LiesIn j (declinedFrom F w cs (run (stream F m) s cs)) → ⊥) → getD m j 0 ≡ getD m′ j 0)
       → run (stream F m′) s cs ≡ run (stream F m) s cs
   alike [] s w lo hi g d = refl

@@ -9,6 +9,7 @@ use borrow.Author.Tests.{lt-ltb, le-ltb}
 use lib.ListN.{length-take, drop-of-length-le, length, take, drop}
 use Rattle.parsing.specs.Parse.{some, nth}
 use Rattle.format.specs.Lent.{fits}
+use Rattle.format.specs.Tile.{TileHead}
 use Rattle.agreement.specs.Calls.{Call, next, accept, decline, run}
 use Rattle.agreement.specs.Format.{Format}
 use Rattle.agreement.specs.Collected.{Way, StoredTile, storedCollection, storedTile, aPoint, aWay, fetch}
@@ -37,7 +38,7 @@ none-left [] (suc n) k f h = absurd (not-suc-le-zero f)
 none-left (x ∷ l) (suc n) zero f h = absurd (let z : _≡_ {A = ℕ} 0 1 = cc in omega arith)
 none-left (x ∷ l) (suc n) (suc k) f h = suc-le-suc (none-left l n k (le-of-suc-le-suc f) h)
 
-module _ {F : Format} (t : StoredTile F) (fed : F .End) (P W : ℕ) (hp : P ≤ length (t .points)) (hw : W ≤ length (t .ways)) where
+module _ {F : Format} (t : StoredTile F) (fed : TileHead → F .End) (P W : ℕ) (hp : P ≤ length (t .points)) (hw : W ≤ length (t .ways)) where
   fetch-point : (k : ℕ) (p : F .Point) → k < P → nth (t .points) k ≡ some p → fetch (storedTile t fed) k ≡ aPoint p
   fetch-point k p l h = rw (lt-ltb k (length (t .points)) (omega arith), h)
 
@@ -63,13 +64,13 @@ module _ {F : Format} (t : StoredTile F) (fed : F .End) (P W : ℕ) (hp : P ≤ 
       let b = begins (t .points) P k p ps e in
       let l = b .below in
       let q : k - P ≡ suc k - P = omega arith in
-      rw (lt-ltb k P l, fetch-point k p l (b .entry)) record { reply = refl; left = m-between (suc k) ps ws z (b .tail) (rw q at f) }
+      rw (lt-ltb k P l, fetch-point k p l (b .entry)) record { reply = refl; left = m-between (suc k) ps ws _ (b .tail) (rw q at f) }
   follows s r next (m-between k [] (w ∷ ws) z e f) =
       let l = none-left (t .points) P k hp e in
       let b = begins (t .ways) W (k - P) w ws f in
       rw (le-ltb k P l, lt-ltb k (P + W) (omega (arith, b .below)), fetch-way (k - P) w (b .entry)) record {
         reply = refl;
-        left = m-waiting k w ws z l (b .entry) (b .tail);
+        left = m-waiting k w ws _ l (b .entry) (b .tail);
       }
   follows s r next (m-between k [] [] z e f) =
       let l = none-left (t .points) P k hp e in
@@ -78,13 +79,13 @@ module _ {F : Format} (t : StoredTile F) (fed : F .End) (P W : ℕ) (hp : P ≤ 
   follows s r next (m-waiting k w ws z l e f) = record { reply = refl; left = m-waiting k w ws z l e f }
   follows s r (accept n) (m-between k ps ws z e f) = record { reply = refl; left = m-between k ps ws z e f }
   follows s r (accept n) (m-waiting k w ws z l e f) =
-      rw (fetch-way (k - P) w e) (accept-alike (bookLent (storedCollection F) k z) (onWay F w ws z) (w .body) (w .body) 0 0 (F .lists (w .body)) n
-      (record { reply = refl; left = passed k ws z l f }) (record { reply = refl; left = m-waiting k w ws z l e f }) (fits (F .lists (w .body)) n))
+      rw (fetch-way (k - P) w e) (accept-alike (bookLent (storedCollection F) k z) (onWay F w ws z) (F .whole (F .kept (w .head)) (w .body)) (w .body) 0 0 (F .lists (w .body)) n
+      (record { reply = refl; left = passed k ws _ l f }) (record { reply = refl; left = m-waiting k w ws z l e f }) (fits (F .lists (w .body)) n))
   follows s r decline (m-between k ps ws z e f) = record { reply = refl; left = m-between k ps ws z e f }
   follows s r decline (m-waiting k w ws z l e f) = record { reply = refl; left = passed k ws z l f }
 
   pub book-remaining : (cs : List Call)
-      → run (λ s c. bookCall (storedCollection F) (storedTile t fed) P W (s .k) (s .waiting) (s .end) c) (bookStart fed) cs
-      ≡ run (remaining F) (between (take P (t .points)) (take W (t .ways)) fed) cs
+      → run (λ s c. bookCall (storedCollection F) (storedTile t fed) P W (s .k) (s .waiting) (s .end) c) (bookStart (fed (t .head))) cs
+      ≡ run (remaining F) (between (take P (t .points)) (take W (t .ways)) (fed (t .head))) cs
   book-remaining cs =
-      simulate _ (remaining F) Match follows (bookStart fed) (between (take P (t .points)) (take W (t .ways)) fed) (m-between 0 _ _ fed refl (rw zero-sub)) cs
+      simulate _ (remaining F) Match follows (bookStart (fed (t .head))) (between (take P (t .points)) (take W (t .ways)) (fed (t .head))) (m-between 0 _ _ (fed (t .head)) refl (rw zero-sub)) cs

@@ -3,7 +3,7 @@
 -- point that is delivered.
 use mathlib.Core.Path.{_≡_, refl, ap}
 use mathlib.Core.Logic.{_≢_}
-use mathlib.Core.Bool.{false}
+use mathlib.Core.Bool.{true, false}
 use mathlib.Core.List.{List, [], _∷_}
 use Prim.Native.Nat.{ℕ, zero, suc}
 use native.Mathlib.Omega.{arith}
@@ -11,7 +11,7 @@ use lib.IntN.{pos}
 use lib.ListN.{getD}
 use Rattle.parsing.specs.Parse.{Parser, Part, part, Maybe, none, some, optional}
 use Rattle.byte_source.specs.BigEndian.{bigEndianOf, bigEndian}
-use Rattle.utils.specs.Vbe.{groups, unsigned, signed, coordinate, text}
+use Rattle.utils.specs.Vbe.{groups, notedUnsigned, notedSigned, notedCoordinate, notedText}
 use Rattle.format.specs.Lent.{Reply}
 use Rattle.format.specs.WayData.{node, block, dataBlock, wayData}
 use Rattle.format.specs.Tile.{TileHead, row, zoomTable, debugSignature, tileHead, values, tagId, tagged, pointFields, point, headRest, head, wayFields, dataBlockCount, body}
@@ -33,7 +33,7 @@ plainTile = tileFormat false [] []
 -- the sentence without a word on where the ways start (compare `tile-literal` of TileAltered.antt)
 abbrev pub Literally : Type 0
 Literally =
-    (m : List ℕ) (i : ℕ) (t : StoredTile plainTile) → Collects plainHead plainTile m i t → (z : TileEnd) (rows : ℕ) (cs : List Call) (m′ : List ℕ)
+    (m : List ℕ) (i : ℕ) (t : StoredTile plainTile) → Collects plainHead plainTile m i t → (z : TileHead → TileEnd) (rows : ℕ) (cs : List Call) (m′ : List ℕ)
     → DifferOnly m m′ (λ j. LiesIn j (declinedBytes plainTile cs (storedReplies plainTile t z rows cs))) → Agrees plainHead plainTile m′ i t z rows cs
 
 -- a tile of one point and one way, and with one byte altered. Behind the head, 01 01 00, the point is 05 00, its position, 50, no tags,
@@ -47,33 +47,34 @@ after = 0x01 ∷ 0x01 ∷ 0x00 ∷ 0x05 ∷ 0x00 ∷ 0x50 ∷ 0x80 ∷ 0x00 ∷ 
 
 abbrev stored : StoredTile plainTile
 stored = record {
-  head = record { signature = none; table = record { points = 1; ways = 1 } ∷ []; offset = 0 };
+  head = record { signature = none; table = record { points = 1; ways = 1 } ∷ []; offset = 0; plain = true };
   start = 3;
   points = record {
     signature = none;
     position = record { latitude = pos 5; longitude = pos 0 };
-    tagged = record { layer = pos 0; ids = []; values = [] };
+    tagged = record { layer = pos 0; ids = []; values = []; plain = true };
     name = some (record { start = 8; size = 1; bytes = 0 ∷ [] });
     houseNumber = none;
     elevation = none;
+    plain = true;
   } ∷ [];
   ways = record {
-    head = record { signature = none; size = 5; start = 4; bitmap = 80; tagged = record { layer = pos 3; ids = []; values = [] }; behind = 7 };
-    body = record { fields = record { name = none; houseNumber = none; reference = none; label = none; flags = 1 }; dataBlocks = [] ∷ [] };
+    head = record { signature = none; size = 5; start = 4; bitmap = 80; tagged = record { layer = pos 3; ids = []; values = []; plain = true }; behind = 7; plain = true };
+    body = record { fields = record { name = none; houseNumber = none; reference = none; label = none; flags = 1; plain = true }; dataBlocks = [] ∷ []; plain = true };
     end = 9;
   } ∷ [];
 }
 
 collects : Collects plainHead plainTile before 0 stored
-unfolding part optional bigEndianOf bigEndian groups unsigned signed coordinate text node block dataBlock wayData row zoomTable debugSignature tileHead values tagId tagged pointFields point headRest head wayFields dataBlockCount body
+unfolding part optional bigEndianOf bigEndian groups notedUnsigned notedSigned notedCoordinate notedText node block dataBlock wayData row zoomTable debugSignature tileHead values tagId tagged pointFields point headRest head wayFields dataBlockCount body
 collects = record { past = 9; collects = refl; sizes = refl; small = omega arith }
 
 -- the point, then the way, which is declined
 abbrev calls : List Call
 calls = next ∷ next ∷ decline ∷ []
 
-abbrev land : TileEnd
-land = record { subFile = 0; water = false }
+abbrev land : TileHead → TileEnd
+land h = record { subFile = 0; water = false; plain = h .plain }
 
 differ : DifferOnly before after (λ j. LiesIn j (declinedBytes plainTile calls (storedReplies plainTile stored land 1 calls)))
 differ = record { long = refl; only = go }
@@ -108,7 +109,7 @@ firstNamed [] = 0
 firstNamed (r ∷ rs) = named (r .answer)
 
 pub literally-false : Literally → ⊥
-unfolding part optional bigEndianOf bigEndian groups unsigned signed coordinate text node tagged values tagId pointFields debugSignature point
+unfolding part optional bigEndianOf bigEndian groups notedUnsigned notedSigned notedCoordinate notedText node tagged values tagId pointFields debugSignature point
 literally-false f =
     let a = f before 0 stored collects land 1 calls after differ in
     let e : _≡_ {A = ℕ} 0 1 = ap firstNamed (a .replies) in

@@ -69,11 +69,11 @@ module _ (F : Format) where
       → pointsDelivered (run (remaining F) (between ps ws z) cs) ≡ length ps
   all-delivered [] ps ws z j h = nowhere h
   all-delivered (c ∷ cs) [] ws z j h = omega (arith, delivered-le (c ∷ cs) (between [] ws z))
-  all-delivered (next ∷ cs) (p ∷ ps) ws z j h = omega (arith, all-delivered cs ps ws z j h)
+  all-delivered (next ∷ cs) (p ∷ ps) ws z j h = omega (arith, all-delivered cs ps ws (F .notePoint p z) j h)
   all-delivered (accept l ∷ cs) (p ∷ ps) ws z j h = omega (arith, all-delivered cs (p ∷ ps) ws z j h)
   all-delivered (decline ∷ cs) (p ∷ ps) ws z j h = omega (arith, all-delivered cs (p ∷ ps) ws z j h)
 
-module _ {H : Parser TileHead} {F : Format} {m : List ℕ} {i : ℕ} {t : StoredTile F} (C : Supposed H F m i t) (z : F .End) (rows : ℕ) (cs : List Call) where
+module _ {H : Parser TileHead} {F : Format} {m : List ℕ} {i : ℕ} {t : StoredTile F} (C : Supposed H F m i t) (z : TileHead → F .End) (rows : ℕ) (cs : List Call) where
   abbrev P : ℕ
   P = pointsUpTo (t .head .table) rows
 
@@ -81,19 +81,19 @@ module _ {H : Parser TileHead} {F : Format} {m : List ℕ} {i : ℕ} {t : Stored
   rs = storedReplies F t z rows cs
 
   -- the book's replies, by the points and ways that remain
-  by-remaining : rs ≡ run (remaining F) (between (take P (t .points)) (take (waysUpTo (t .head .table) rows) (t .ways)) z) cs
+  by-remaining : rs ≡ run (remaining F) (between (take P (t .points)) (take (waysUpTo (t .head .table) rows) (t .ways)) (z (t .head))) cs
   by-remaining = book-remaining t z _ _ (points-le C rows) (ways-le C rows) cs
 
   counted : length (take P (t .points)) ≡ P
   counted = length-take-le _ (t .points) (points-le C rows)
 
   delivers-no-more : pointsDelivered rs ≤ P
-  delivers-no-more = rw by-remaining (omega (arith, counted, delivered-le F cs (between (take P (t .points)) (take (waysUpTo (t .head .table) rows) (t .ways)) z)))
+  delivers-no-more = rw by-remaining (omega (arith, counted, delivered-le F cs (between (take P (t .points)) (take (waysUpTo (t .head .table) rows) (t .ways)) (z (t .head)))))
 
   delivers-all : (j : ℕ) → LiesIn j (declinedBytes F cs rs) → pointsDelivered rs ≡ P
   delivers-all j h =
       ap (λ l. pointsDelivered l) by-remaining
-      ∙ all-delivered F cs (take P (t .points)) (take (waysUpTo (t .head .table) rows) (t .ways)) z j (rw by-remaining at h)
+      ∙ all-delivered F cs (take P (t .points)) (take (waysUpTo (t .head .table) rows) (t .ways)) (z (t .head)) j (rw by-remaining at h)
       ∙ counted
 
   within : (j : ℕ) → LiesIn j (pointBytes F m t (pointsDelivered rs) ∷ []) → LiesIn j (pointBytes F m t P ∷ [])
@@ -103,7 +103,7 @@ module _ {H : Parser TileHead} {F : Format} {m : List ℕ} {i : ℕ} {t : Stored
       let b = f .within in
       this {b = pointBytes F m t P} (u .0) (rw (points-up-to C rows .reads) (omega arith))
 
-module _ (H : Parser TileHead) (F : Format) (m : List ℕ) (i : ℕ) (t : StoredTile F) (L : Laws F) (c : Collects H F m i t) (z : F .End) (rows : ℕ) (cs : List Call) (j : ℕ) where
+module _ (H : Parser TileHead) (F : Format) (m : List ℕ) (i : ℕ) (t : StoredTile F) (L : Laws F) (c : Collects H F m i t) (z : TileHead → F .End) (rows : ℕ) (cs : List Call) (j : ℕ) where
   -- a byte of a point that the calls delivered lies in a point up to the zoom
   pub delivered-up-to : LiesIn j (pointBytes F m t (pointsDelivered (storedReplies F t z rows cs)) ∷ [])
       → LiesIn j (pointBytes F m t (pointsUpTo (t .head .table) rows) ∷ [])

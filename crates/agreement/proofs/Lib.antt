@@ -13,3 +13,4 @@ pub mod CallLaws
 pub mod CollectLaws
 pub mod TileFormatLaws
 pub mod EmptyTile
+pub mod Stored

@@ -11,7 +11,7 @@ use Rattle.format.specs.Index.{answer}
 use Rattle.format.specs.Lent.{LentLists, Reply, fits, written, needed, deliver}
 use Rattle.agreement.specs.Calls.{Call, next, accept, decline, gotPoint, gotHead, gotBody, declined, ended, refused, Step, run, plain, lending}
 use Rattle.agreement.specs.Format.{Format, dataEnd}
-use Rattle.agreement.specs.Stream.{StreamAnswer, State, idle, waits, onBody, stream}
+use Rattle.agreement.specs.Stream.{StreamAnswer, StreamState, idle, waits, onBody, stream}
 use Rattle.agreement.specs.Collected.{Way}
 use Rattle.agreement.proofs.Chain.{Chain, stop, link}
 
@@ -45,12 +45,12 @@ pub data Remaining (F : Format) : Type 0 where
   waiting : Way F → List (Way F) → F .End → Remaining F
 
 abbrev pub onWay : (F : Format) → Way F → List (Way F) → F .End → (left : LentLists) → Res (F .Body) → Step (StreamAnswer F) (Remaining F)
-onWay F w ws z l (ok b e) = lending (gotBody b) l (between [] ws z)
+onWay F w ws z l (ok b e) = lending (gotBody (F .whole (F .kept (w .head)) b)) l (between [] ws (F .noteBody (F .whole (F .kept (w .head)) b) z))
 onWay F w ws z l (no n v) = lending (refused n v) l (waiting w ws z)
 
 abbrev pub remaining : (F : Format) → Remaining F → Call → Step (StreamAnswer F) (Remaining F)
-remaining F (between (p ∷ ps) ws z) next = plain (gotPoint p) (between ps ws z)
-remaining F (between [] (w ∷ ws) z) next = plain (gotHead (w .head)) (waiting w ws z)
+remaining F (between (p ∷ ps) ws z) next = plain (gotPoint p) (between ps ws (F .notePoint p z))
+remaining F (between [] (w ∷ ws) z) next = plain (gotHead (w .head)) (waiting w ws (F .noteHead (w .head) z))
 remaining F (between [] [] z) next = plain (ended z) (between [] [] z)
 remaining F (between ps ws z) (accept l) = lending (refused 16 []) l (between ps ws z)
 remaining F (between ps ws z) decline = plain (refused 16 []) (between ps ws z)
@@ -73,20 +73,20 @@ pub data Ways (F : Format) (m : List ℕ) : ℕ → List (Way F) → Type 0 wher
 
 module _ (F : Format) (m : List ℕ) where
   -- the stream stands where these points and ways remain, and its end answers the same
-  pub data Same : State (F .End) → Remaining F → Type 0 where
+  pub data Same : StreamState F → Remaining F → Type 0 where
     same-between : (ps : List (F .Point)) (ws : List (Way F)) (i v e : ℕ) (z : F .End) → Chain (F .point) m i ps e → Ways F m v ws
         → Same (idle (length ps) (length ws) i v z) (between ps ws z)
     same-waiting : (w : Way F) (ws : List (Way F)) (b : ℕ) (z : F .End) → Body F m b w → Ways F m (cut (dataEnd F (w .head))) ws
-        → Same (waits (length ws) (cut (dataEnd F (w .head))) b z) (waiting w ws z)
+        → Same (waits (length ws) (cut (dataEnd F (w .head))) b (F .kept (w .head)) z) (waiting w ws z)
 
-  pub keeps : (s : State (F .End)) (t : Remaining F) (c : Call) → Same s t → Alike Same (stream F m s c) (remaining F t c)
-  keeps s t next (same-between (p ∷ ps) ws i v e z (link h c) x) = rw h record { reply = refl; left = same-between ps ws _ v e z c x }
-  keeps s t next (same-between [] (w ∷ ws) i v e z c (cons h b x)) = rw h record { reply = refl; left = same-waiting w ws _ z b x }
+  pub keeps : (s : StreamState F) (t : Remaining F) (c : Call) → Same s t → Alike Same (stream F m s c) (remaining F t c)
+  keeps s t next (same-between (p ∷ ps) ws i v e z (link h c) x) = rw h record { reply = refl; left = same-between ps ws _ v e _ c x }
+  keeps s t next (same-between [] (w ∷ ws) i v e z c (cons h b x)) = rw h record { reply = refl; left = same-waiting w ws _ _ b x }
   keeps s t next (same-between [] [] i v e z c x) = record { reply = refl; left = same-between [] [] i v e z c x }
   keeps s t next (same-waiting w ws b z y x) = record { reply = refl; left = same-waiting w ws b z y x }
   keeps s t (accept l) (same-between ps ws i v e z c x) = record { reply = refl; left = same-between ps ws i v e z c x }
   keeps s t (accept l) (same-waiting w ws b z y x) =
-      rw (y .reads) (accept-alike (onBody (length ws) (cut (dataEnd F (w .head))) b z) (onWay F w ws z) (w .body) (w .body) _ 0 (F .lists (w .body)) l
-      (record { reply = refl; left = same-between [] ws _ _ _ z stop x }) (record { reply = refl; left = same-waiting w ws b z y x }) (fits (F .lists (w .body)) l))
+      rw (y .reads) (accept-alike (onBody (F .whole) (F .noteBody) (length ws) (cut (dataEnd F (w .head))) b (F .kept (w .head)) z) (onWay F w ws z) (w .body) (w .body) _ 0 (F .lists (w .body)) l
+      (record { reply = refl; left = same-between [] ws _ _ _ _ stop x }) (record { reply = refl; left = same-waiting w ws b z y x }) (fits (F .lists (w .body)) l))
   keeps s t decline (same-between ps ws i v e z c x) = record { reply = refl; left = same-between ps ws i v e z c x }
   keeps s t decline (same-waiting w ws b z y x) = record { reply = refl; left = same-between [] ws _ _ _ z stop x }

@@ -165,13 +165,13 @@ module _ {H : Parser TileHead} {F : Format} {m : List ℕ} {i : ℕ} {t : Stored
   pub ways-up-to : Ways F m (cut (t .start + t .head .offset)) (take (waysUpTo (t .head .table) rows) (t .ways))
   ways-up-to = ways-first (waysUpTo (t .head .table) rows) (ways-of F (C .laws) m (C .small) (C .read .ways .chain) (C .sizes))
 
-  pub replies : (z : F .End) (cs : List Call) → run (stream F m) (freshOf F t z rows) cs ≡ storedReplies F t z rows cs
+  pub replies : (z : TileHead → F .End) (cs : List Call) → run (stream F m) (freshOf F t z rows) cs ≡ storedReplies F t z rows cs
   replies z cs =
-      simulate (stream F m) (remaining F) (Same F m) (keeps F m) _ _ (same-by F m z (points-up-to .chain) ways-up-to points-counted ways-counted) cs
+      simulate (stream F m) (remaining F) (Same F m) (keeps F m) _ _ (same-by F m (z (t .head)) (points-up-to .chain) ways-up-to points-counted ways-counted) cs
       ∙ sym (book-remaining t z _ _ points-le ways-le cs)
 
 pub tile-agrees : (H : Parser TileHead) (F : Format) (m : List ℕ) (i : ℕ) (t : StoredTile F) → Laws F → Collects H F m i t
-    → (z : F .End) (rows : ℕ) (cs : List Call) → Agrees H F m i t z rows cs
+    → (z : TileHead → F .End) (rows : ℕ) (cs : List Call) → Agrees H F m i t z rows cs
 tile-agrees H F m i t L c z rows cs =
     let C = supposed H F m i t L c in
     record { opens = rw (C .read .head); replies = replies C rows z cs }

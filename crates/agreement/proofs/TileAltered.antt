@@ -36,12 +36,12 @@ sound-by : (F : Format) (L : Laws F) (m m′ : List ℕ) (long : length m ≡ le
     → Points F L m m′ long i ps → Ways F m v ws → length ps ≡ a → length ws ≡ b → Sound F L m m′ long (idle a b i v z) none v v
 sound-by F L m m′ long z y x p q = rw (← p, ← q) (s-idle y x)
 
-module _ {H : Parser TileHead} {F : Format} {m : List ℕ} {i : ℕ} {t : StoredTile F} (C : Supposed H F m i t) (z : F .End) (rows : ℕ) (cs : List Call) where
+module _ {H : Parser TileHead} {F : Format} {m : List ℕ} {i : ℕ} {t : StoredTile F} (C : Supposed H F m i t) (z : TileHead → F .End) (rows : ℕ) (cs : List Call) where
   -- no declined byte lies before the place where the ways start
   pub declined-low : (j : ℕ) → LiesIn j (declinedBytes F cs (storedReplies F t z rows cs)) → cut (t .start + t .head .offset) ≤ j
   declined-low j h =
       above F (C .laws) m m refl cs _ _ _ _
-      (sound-by F (C .laws) m m refl z (near-points F (C .laws) m m refl (points-up-to C rows .chain) (record { long = refl; same = λ i a b. refl })) (ways-up-to C rows) (points-counted C rows) (ways-counted C rows))
+      (sound-by F (C .laws) m m refl (z (t .head)) (near-points F (C .laws) m m refl (points-up-to C rows .chain) (record { long = refl; same = λ i a b. refl })) (ways-up-to C rows) (points-counted C rows) (ways-counted C rows))
       j (rw (replies C rows z cs) h)
 
   -- where the first-way offset leads behind the points, a declined byte lies in no point
@@ -82,13 +82,13 @@ module _ {H : Parser TileHead} {F : Format} {m : List ℕ} {i : ℕ} {t : Stored
     replies-near : run (stream F m′) (freshOf F t z rows) cs ≡ storedReplies F t z rows cs
     replies-near =
         alike F (C .laws) m m′ (D .long) cs _ _ _ _
-        (sound-by F (C .laws) m m′ (D .long) z
+        (sound-by F (C .laws) m m′ (D .long) (z (t .head))
         (near-points F (C .laws) m m′ (D .long) (points-up-to C rows .chain) points-near)
         (ways-up-to C rows) (points-counted C rows) (ways-counted C rows))
         (λ j l k. decided _ _ (λ e. k (rw (replies C rows z cs) (D .only j e .declined))))
         ∙ replies C rows z cs
 
-module _ (H : Parser TileHead) (F : Format) (m : List ℕ) (i : ℕ) (t : StoredTile F) (g : Good H) (L : Laws F) (c : Collects H F m i t) (z : F .End) (rows : ℕ) (cs : List Call) where
+module _ (H : Parser TileHead) (F : Format) (m : List ℕ) (i : ℕ) (t : StoredTile F) (g : Good H) (L : Laws F) (c : Collects H F m i t) (z : TileHead → F .End) (rows : ℕ) (cs : List Call) where
   pub tile-altered : (m′ : List ℕ) → DifferOnly m m′ (Alterable F m t rows cs (storedReplies F t z rows cs)) → Agrees H F m′ i t z rows cs
   tile-altered m′ D =
       let C = supposed H F m i t L c in

@@ -2,7 +2,7 @@
 use Prim.Native.Nat.{ℕ, _^_, _≤_, _<_, max}
 use native.Mathlib.Omega.{arith}
 use mathlib.Core.Path.{_≡_, refl, ap}
-use mathlib.Core.Bool.{Bool, true, false, cond}
+use mathlib.Core.Bool.{Bool, true, false, cond, _&&_}
 use mathlib.Core.List.{List, [], _∷_}
 use lib.Dec.{lit≤}
 use lib.ListN.{length}
@@ -10,7 +10,7 @@ use Rattle.parsing.specs.Parse.{Res, ok, no, andThen, many, renumbered, optiona
 use Rattle.arithmetic.specs.Cut.{cut}
 use Rattle.arithmetic.proofs.CutLaws.{Cuts, cuts-past}
 use Rattle.parsing.proofs.Ends.{PastEnd, Still, AtEnd, stopped, stays, part-end, ends}
-use Rattle.utils.specs.Vbe.{groups, unsigned, signed, coordinate}
+use Rattle.utils.specs.Vbe.{Noted, valuesOf, allPlain, groups, notedUnsigned, notedSigned, notedCoordinate}
 use Rattle.format.specs.WayData.{node}
 use Rattle.format.specs.Tile as tile
 use Rattle.format.specs.Rows.{pointsOf, waysOf, markedHead}
@@ -43,16 +43,16 @@ head-counts true debug rows = record {
 }
 head-counts false debug rows = record { passes = λ m i h e q _. tile.tileHead-strict debug rows .more m i h e q }
 
-pub unsigned-end : PastEnd unsigned
-unfolding unsigned groups
+pub unsigned-end : PastEnd notedUnsigned
+unfolding notedUnsigned groups
 unsigned-end = search ends
 
-signed-end : PastEnd signed
-unfolding signed groups
+signed-end : PastEnd notedSigned
+unfolding notedSigned groups
 signed-end = search ends
 
-coordinate-end : PastEnd coordinate
-unfolding coordinate
+coordinate-end : PastEnd notedCoordinate
+unfolding notedCoordinate
 coordinate-end = search (ends, signed-end)
 
 node-end : PastEnd node
@@ -79,8 +79,8 @@ head-past false rows m i h = go (many tile.row rows m i) (rows-still rows .stops
     e : max i (length m) ≡ i
     e = omega arith
 
-    go : (r : Res (List tile.Row)) → AtEnd i r
-        → _≡_ {A = Res tile.TileHead} (andThen (renumbered 20 (cut (max i (length m))) r) (λ t x. andThen (renumbered 20 (cut (max x (length m))) (unsigned m x)) (λ o y. ok (record { signature = none; table = t; offset = o }) y))) (no 20 (cut i ∷ []))
+    go : (r : Res (List (Noted tile.Row))) → AtEnd i r
+        → _≡_ {A = Res tile.TileHead} (andThen (renumbered 20 (cut (max i (length m))) r) (λ t x. andThen (renumbered 20 (cut (max x (length m))) (notedUnsigned m x)) (λ o y. ok (record { signature = none; table = valuesOf t; offset = o .value; plain = allPlain t && o .plain }) y))) (no 20 (cut i ∷ []))
     go r stopped = rw e
     go r (stays a) = rw (unsigned-end .stops m i h, e)
 

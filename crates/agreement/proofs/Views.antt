@@ -6,6 +6,7 @@ use Prim.Native.Nat.{ℕ, zero, suc, _+_, _-_}
 use lib.Dec.{ltb}
 use lib.ListN.{length}
 use Rattle.format.specs.Lent.{LentLists, fits}
+use Rattle.format.specs.Tile.{TileHead}
 use Rattle.agreement.specs.Calls.{Call, next, accept, decline, ended, run, plain}
 use Rattle.agreement.specs.Format.{Format}
 use Rattle.agreement.specs.Heads.{pointsUpTo, waysUpTo}
@@ -46,7 +47,7 @@ module _ {F : Format} (S : View F) where
   shown-cond true x y = refl
   shown-cond false x y = refl
 
-  module _ (t : StoredTile F) (z : F .End) where
+  module _ (t : StoredTile F) (z : TileHead → F .End) where
     -- a fetch shows the stored feature
     pub shown-fetch : (k : ℕ) → fetch (collectedTile S t z) k ≡ shownFeature (fetch (storedTile t z) k)
     shown-fetch k =
@@ -59,13 +60,13 @@ module _ {F : Format} (S : View F) where
 
   module _ (L : ViewLaws S) where
     view-point : (k : ℕ) (z : F .End) (f : Feature (storedCollection F)) → bookPoint (S .collection) k (S .streamedEnd z) (shownFeature f) ≡ streamedStep (bookPoint (storedCollection F) k z f)
-    view-point k z (aPoint p) = rw (L .point p)
+    view-point k z (aPoint p) = rw (L .point p, L .notePoint p z)
     view-point k z (aWay w) = refl
     view-point k z missing = refl
 
     view-head : (k : ℕ) (z : F .End) (f : Feature (storedCollection F)) → bookHead (S .collection) k (S .streamedEnd z) (shownFeature f) ≡ streamedStep (bookHead (storedCollection F) k z f)
     view-head k z (aPoint p) = refl
-    view-head k z (aWay w) = rw (L .head w)
+    view-head k z (aWay w) = rw (L .head w, L .noteHead (w .head) z)
     view-head k z missing = refl
 
     view-cond : (c : Bool) (x y : BookStep (storedCollection F)) → cond c (streamedStep x) (streamedStep y) ≡ streamedStep (cond c x y)
@@ -75,15 +76,15 @@ module _ {F : Format} (S : View F) where
     view-lent : (k : ℕ) (z : F .End) (b : F .Body) (v l : LentLists) (c : Bool)
         → (let r = lentReply (S .streamedBody b) 0 v l c in bookLent (S .collection) k (S .streamedEnd z) (r .lists) (r .answer))
         ≡ streamedStep (let r = lentReply b 0 v l c in bookLent (storedCollection F) k z (r .lists) (r .answer))
-    view-lent k z b v l true = refl
+    view-lent k z b v l true = rw (L .noteBody b z)
     view-lent k z b v l false = refl
 
     view-body : (k : ℕ) (z : F .End) (l : LentLists) (f : Feature (storedCollection F)) → bookBody (S .collection) k (S .streamedEnd z) l (shownFeature f) ≡ streamedStep (bookBody (storedCollection F) k z l f)
     view-body k z l (aPoint p) = refl
-    view-body k z l (aWay w) = rw (L .lists w, L .body w) (view-lent k z (w .body) (F .lists (w .body)) l (fits (F .lists (w .body)) l))
+    view-body k z l (aWay w) = rw (L .lists w, L .body w) (view-lent k z (F .whole (F .kept (w .head)) (w .body)) (F .lists (w .body)) l (fits (F .lists (w .body)) l))
     view-body k z l missing = refl
 
-    module _ (t : StoredTile F) (fed : F .End) where
+    module _ (t : StoredTile F) (fed : TileHead → F .End) where
       view-next : (P W k : ℕ) (z : F .End) → bookNext (S .collection) (collectedTile S t fed) P W k (S .streamedEnd z) ≡ streamedStep (bookNext (storedCollection F) (storedTile t fed) P W k z)
       view-next P W k z =
           let p = ap (bookPoint (S .collection) k (S .streamedEnd z)) (shown-fetch t fed k) ∙ view-point k z (fetch (storedTile t fed) k) in

@@ -15,7 +15,7 @@ use Rattle.agreement.specs.Collected.{Collection, CollectedTile, Feature
 abbrev pub BookAnswer : Collection → Type 0
 BookAnswer K = Answer (K .PointAnswer) (K .HeadAnswer) (K .BodyAnswer) (K .EndAnswer)
 
--- `end` is the end's answer, as the book is fed it; no call changes it
+-- `end` is what the end would answer: as the book is fed it, with what was said of each feature since
 pub record BookState (E : Type 0) : Type 0 where
   pub k : ℕ
   pub waiting : Bool
@@ -33,19 +33,19 @@ BookStep K = Step (BookAnswer K) (BookState (K .EndAnswer))
 
 -- point k, and k grows by 1 (a tile that collects has it; a missing feature is 17)
 abbrev pub bookPoint : (K : Collection) → (k : ℕ) → K .EndAnswer → Feature K → BookStep K
-bookPoint K k z (aPoint p) = plain (gotPoint (K .point p)) (bookState (suc k) false z)
+bookPoint K k z (aPoint p) = plain (gotPoint (K .point p)) (bookState (suc k) false (K .notePoint (K .point p) z))
 bookPoint K k z (aWay w) = plain (refused 17 []) (bookState k false z)
 bookPoint K k z missing = plain (refused 17 []) (bookState k false z)
 
 -- the head of a way, which then waits
 abbrev pub bookHead : (K : Collection) → (k : ℕ) → K .EndAnswer → Feature K → BookStep K
 bookHead K k z (aPoint p) = plain (refused 17 []) (bookState k false z)
-bookHead K k z (aWay w) = plain (gotHead (K .head w)) (bookState k true z)
+bookHead K k z (aWay w) = plain (gotHead (K .head w)) (bookState k true (K .noteHead (K .head w) z))
 bookHead K k z missing = plain (refused 17 []) (bookState k false z)
 
 -- what was delivered of a way: its other fields, k grows by 1 and none waits; a refusal changes nothing
 abbrev pub bookLent : (K : Collection) → (k : ℕ) → K .EndAnswer → (left : LentLists) → Res (K .BodyAnswer) → BookStep K
-bookLent K k z l (ok b e) = lending (gotBody b) l (bookState (suc k) false z)
+bookLent K k z l (ok b e) = lending (gotBody b) l (bookState (suc k) false (K .noteBody b z))
 bookLent K k z l (no n v) = lending (refused n v) l (bookState k true z)
 
 -- its lists are written, or 15 if one is shorter

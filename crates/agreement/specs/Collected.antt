@@ -37,6 +37,18 @@ abbrev pub allExact : {F : Format} → List (Way F) → Bool
 allExact [] = true
 allExact (w ∷ ws) = exact w && allExact ws
 
+-- every number of a way, of these points and of these ways was plain
+abbrev pub plainWay : {F : Format} → Way F → Bool
+plainWay {F} w = F .plainHead (w .head) && F .plainBody (w .body)
+
+abbrev pub plainPoints : (F : Format) → List (F .Point) → Bool
+plainPoints F [] = true
+plainPoints F (p ∷ ps) = F .plainPoint p && plainPoints F ps
+
+abbrev pub plainWays : {F : Format} → List (Way F) → Bool
+plainWays [] = true
+plainWays (w ∷ ws) = plainWay w && plainWays ws
+
 -- a collected tile, its features as stored; `start` is the place behind its head, where the points start
 pub record StoredTile (F : Format) : Type 0 where
   pub head : TileHead
@@ -72,8 +84,13 @@ pub record Collection : Type 1 where
   pub head : Way → HeadAnswer
   pub body : Way → BodyAnswer
   pub lists : Way → LentLists
+  -- what the end answers, after the book said this of a point, a way's head or its other fields
+  pub notePoint : PointAnswer → EndAnswer → EndAnswer
+  pub noteHead : HeadAnswer → EndAnswer → EndAnswer
+  pub noteBody : BodyAnswer → EndAnswer → EndAnswer
 
--- a collected tile as the book is fed it; `end` is its sub file and its entry's water mark
+-- a collected tile as the book is fed it; `end` is what the end would answer if no feature was read: its sub file, its entry's water mark,
+-- and whether its head was plain
 pub record CollectedTile (K : Collection) : Type 0 where
   pub table : List Row
   pub points : List (K .Point)
@@ -91,12 +108,15 @@ storedCollection F = record {
   EndAnswer = F .End;
   point = λ p. p;
   head = λ w. w .head;
-  body = λ w. w .body;
+  body = λ w. F .whole (F .kept (w .head)) (w .body);
   lists = λ w. F .lists (w .body);
+  notePoint = F .notePoint;
+  noteHead = F .noteHead;
+  noteBody = F .noteBody;
 }
 
-abbrev pub storedTile : {F : Format} → StoredTile F → F .End → CollectedTile (storedCollection F)
-storedTile {F} t z = record { table = t .head .table; points = t .points; ways = t .ways; end = z }
+abbrev pub storedTile : {F : Format} → StoredTile F → (TileHead → F .End) → CollectedTile (storedCollection F)
+storedTile {F} t z = record { table = t .head .table; points = t .points; ways = t .ways; end = z (t .head) }
 
 -- `missing` is refusal 17: a feature number at or above the count
 pub data Feature (K : Collection) : Type 0 where

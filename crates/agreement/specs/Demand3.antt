@@ -10,7 +10,7 @@ use Rattle.format.specs.Tile.{TileHead}
 use Rattle.agreement.specs.Calls.{Call, run}
 use Rattle.agreement.specs.Format.{Format}
 use Rattle.agreement.specs.Heads.{pointsUpTo}
-use Rattle.agreement.specs.Stream.{StreamAnswer, State, stream, freshStream, openStream}
+use Rattle.agreement.specs.Stream.{StreamAnswer, StreamState, stream, freshStream, openStream}
 use Rattle.agreement.specs.Collected.{StoredTile, allExact, collect, storedCollection, storedTile}
 use Rattle.agreement.specs.Book.{bookReplies}
 use Rattle.agreement.specs.Declined.{Bytes, LiesIn, passedBytes, DifferOnly, declinedBytes}
@@ -26,15 +26,15 @@ pub record Collects (tileHead : Parser TileHead) (F : Format) (m : List ℕ) (i 
   pub small : length m < 2 ^ 64
 
 -- the book's replies, where it is fed the tile as stored
-abbrev pub storedReplies : (F : Format) → StoredTile F → F .End → (rows : ℕ) → List Call → List (Reply (StreamAnswer F))
+abbrev pub storedReplies : (F : Format) → StoredTile F → (TileHead → F .End) → (rows : ℕ) → List Call → List (Reply (StreamAnswer F))
 storedReplies F t z rows cs = bookReplies (storedCollection F) (storedTile t z) rows cs
 
 -- a tile's stream, freshly opened
-abbrev pub freshOf : (F : Format) → StoredTile F → F .End → (rows : ℕ) → State (F .End)
+abbrev pub freshOf : (F : Format) → StoredTile F → (TileHead → F .End) → (rows : ℕ) → StreamState F
 freshOf F t z rows = freshStream rows z (t .head) (t .start)
 
 -- the stream opens, and every answer and every lent list are exactly those of the book
-pub record Agrees (tileHead : Parser TileHead) (F : Format) (m : List ℕ) (i : ℕ) (t : StoredTile F) (z : F .End) (rows : ℕ) (cs : List Call) : Type 0 where
+pub record Agrees (tileHead : Parser TileHead) (F : Format) (m : List ℕ) (i : ℕ) (t : StoredTile F) (z : TileHead → F .End) (rows : ℕ) (cs : List Call) : Type 0 where
   pub opens : openStream tileHead rows z m i ≡ ok (freshOf F t z rows) (t .start)
   pub replies : run (stream F m) (freshOf F t z rows) cs ≡ storedReplies F t z rows cs
 
@@ -70,7 +70,7 @@ pub record MapCollects (C : MapLayout) (m : List ℕ) (h : C .Header) (n : C .En
 abbrev pub mapReplies : (C : MapLayout) (h : C .Header) (n : C .Entry) → StoredTile (C .format h) → (zoom : ℕ) → List Call → List (Reply (StreamAnswer (C .format h)))
 mapReplies C h n t zoom cs = storedReplies (C .format h) t (C .end h n) (rowsAt C h zoom) cs
 
-abbrev pub freshTile : (C : MapLayout) (h : C .Header) (n : C .Entry) → StoredTile (C .format h) → (zoom : ℕ) → State (C .format h .End)
+abbrev pub freshTile : (C : MapLayout) (h : C .Header) (n : C .Entry) → StoredTile (C .format h) → (zoom : ℕ) → StreamState (C .format h)
 freshTile C h n t zoom = freshOf (C .format h) t (C .end h n) (rowsAt C h zoom)
 
 -- the stream opens, and every answer and every lent list are exactly those of the book. `shown`: so they are as the stream shows

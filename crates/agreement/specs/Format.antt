@@ -2,6 +2,7 @@
 -- (crate format) give such a Format; the stream and the book are defined over any. How a tile's head is read stands in Heads.antt:
 -- no call of a stream reads it again.
 use mathlib.Core.Path.{_≡_}
+use mathlib.Core.Bool.{Bool}
 use Prim.Native.Nat.{ℕ, _+_, _≤_}
 use Rattle.parsing.specs.Parse.{Parser}
 use Rattle.parsing.specs.Good.{Good, Strict, Post}
@@ -24,6 +25,18 @@ pub record Format : Type 1 where
   -- a way behind its tag values, and its node counts, latitudes and longitudes
   pub body : Parser Body
   pub lists : Body → LentLists
+  -- whether every number of it was plain (request 6 of document 02)
+  pub plainPoint : Point → Bool
+  pub plainHead : Head → Bool
+  pub plainBody : Body → Bool
+  -- what is kept of the head of a way that waits, and the body with what accept says of the whole way
+  pub Kept : Type 0
+  pub kept : Head → Kept
+  pub whole : Kept → Body → Body
+  -- what the end answers, after a point, a way's head or its body was delivered
+  pub notePoint : Point → End → End
+  pub noteHead : Head → End → End
+  pub noteBody : Body → End → End
 
 -- data start plus stored size
 abbrev pub dataEnd : (F : Format) → F .Head → ℕ

@@ -7,7 +7,7 @@ use Rattle.parsing.specs.Good.{Good}
 use Rattle.format.specs.Rows.{rowsUpto}
 use Rattle.format.specs.Tile.{TileHead}
 use Rattle.agreement.specs.Format.{Format, Laws}
-use Rattle.agreement.specs.Stream.{State, openStream}
+use Rattle.agreement.specs.Stream.{StreamState, openStream}
 use Rattle.agreement.specs.Collected.{StoredTile, collect}
 use Rattle.agreement.specs.View.{View, ViewLaws}
 use Rattle.agreement.specs.Declined.{Bytes, passedBytes}
@@ -29,8 +29,8 @@ pub record MapLayout : Type 1 where
   pub format : Header → Format
   pub low : Header → ℕ
   pub high : Header → ℕ
-  -- the answer of the stream's end, sub file and water mark, and what is shown of each feature
-  pub end : (h : Header) → Entry → format h .End
+  -- what the stream's end answers if no feature is read, and what is shown of each feature
+  pub end : (h : Header) → Entry → TileHead → format h .End
   pub view : (h : Header) → View (format h)
 
 pub record MapLaws (C : MapLayout) : Type 0 where
@@ -60,7 +60,7 @@ abbrev pub rowsAt : (C : MapLayout) → C .Header → (zoom : ℕ) → ℕ
 rowsAt C h zoom = rowsUpto (C .low h) (C .high h) zoom
 
 -- opening the tile's stream at a zoom, and collecting the tile, in a map that was opened with header h
-abbrev pub openTile : (C : MapLayout) (h : C .Header) → (zoom : ℕ) → List ℕ → Res (State (C .format h .End))
+abbrev pub openTile : (C : MapLayout) (h : C .Header) → (zoom : ℕ) → List ℕ → Res (StreamState (C .format h))
 openTile C h zoom m =
     andThen (C .entry h m (C .entryAt h)) (λ n _. openStream (C .tileHead h n) (rowsAt C h zoom) (C .end h n) m (C .tileAt h n))
 

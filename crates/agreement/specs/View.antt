@@ -4,6 +4,7 @@
 use mathlib.Core.Path.{_≡_}
 use mathlib.Core.List.{List, [], _∷_, map}
 use Rattle.format.specs.Lent.{Reply}
+use Rattle.format.specs.Tile.{TileHead}
 use Rattle.agreement.specs.Calls.{mapAnswer}
 use Rattle.agreement.specs.Format.{Format}
 use Rattle.agreement.specs.Stream.{StreamAnswer}
@@ -25,17 +26,20 @@ pub record View (F : Format) : Type 1 where
 pub record ViewLaws {F : Format} (S : View F) : Type 0 where
   pub point : (p : F .Point) → S .collection .point (S .collectedPoint p) ≡ S .streamedPoint p
   pub head : (w : Way F) → S .collection .head (S .collectedWay w) ≡ S .streamedHead (w .head)
-  pub body : (w : Way F) → S .collection .body (S .collectedWay w) ≡ S .streamedBody (w .body)
+  pub body : (w : Way F) → S .collection .body (S .collectedWay w) ≡ S .streamedBody (F .whole (F .kept (w .head)) (w .body))
   pub lists : (w : Way F) → S .collection .lists (S .collectedWay w) ≡ F .lists (w .body)
+  pub notePoint : (p : F .Point) (z : F .End) → S .collection .notePoint (S .streamedPoint p) (S .streamedEnd z) ≡ S .streamedEnd (F .notePoint p z)
+  pub noteHead : (h : F .Head) (z : F .End) → S .collection .noteHead (S .streamedHead h) (S .streamedEnd z) ≡ S .streamedEnd (F .noteHead h z)
+  pub noteBody : (b : F .Body) (z : F .End) → S .collection .noteBody (S .streamedBody b) (S .streamedEnd z) ≡ S .streamedEnd (F .noteBody b z)
 
 module _ {F : Format} (S : View F) where
-  -- a collected tile, as collecting and fetches show it; z is the answer of its stream's end
-  abbrev pub collectedTile : StoredTile F → F .End → CollectedTile (S .collection)
+  -- a collected tile, as collecting and fetches show it; z is what its stream's end would answer
+  abbrev pub collectedTile : StoredTile F → (TileHead → F .End) → CollectedTile (S .collection)
   collectedTile t z = record {
     table = t .head .table;
     points = map (S .collectedPoint) (t .points);
     ways = map (S .collectedWay) (t .ways);
-    end = S .streamedEnd z;
+    end = S .streamedEnd (z (t .head));
   }
 
   -- a stream's answers, as it shows them

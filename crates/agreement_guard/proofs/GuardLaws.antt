@@ -30,6 +30,7 @@ use Rattle.index.specs.Answers.{intervalFound}
 use Rattle.way_data.specs.Reply.{lent}
 use Rattle.tile_layout.specs.TileLayout.{layoutOf, TileKinds, kindsOf, formatOf}
 use Rattle.agreement.specs.Stream.{onNext, onAccept, onDecline}
+use Rattle.agreement.specs.TileFormat.{wholeBody, noteBody}
 use Rattle.visit.specs.Visit.{stateOf, openTile, openRes, shownStep, NextIs, acceptStep, declineStep}
 use Rattle.visit.specs.declared.Stream.{Stream}
 use Rattle.visit.specs.declared.OpenRead.{OpenRead}
@@ -54,7 +55,7 @@ use Rattle.agreement_guard.specs.declared.Outcome.the-variants as outcom
 -- three contracts, one after the other
 pub called-three : (m : List ℕ) (l : TileKinds) (s : Stream) (a : NextStep) (b : Accepted) (d : Declined) (c₀ c : List ℕ) (la₀ lo₀ la lo : List Float)
     → NextIs (shownStep (onNext (formatOf l) m (stateOf s))) a
-    → acceptStep b c la lo ≡ shownStep (onAccept body bodyLists m (stateOf (a .stream)) (lent c₀ la₀ lo₀))
+    → acceptStep b c la lo ≡ shownStep (onAccept body bodyLists wholeBody noteBody m (stateOf (a .stream)) (lent c₀ la₀ lo₀))
     → declineStep d ≡ shownStep (onDecline (stateOf (b .stream)))
     → Called3 m l s (lent c₀ la₀ lo₀) (lent c la lo) (record { next = a .answer; accepted = b .answer; declined = d .answer })
 called-three m l s a b d c₀ c la₀ lo₀ la lo p q r = record {

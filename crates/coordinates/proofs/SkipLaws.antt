@@ -1,101 +1,153 @@
 -- The loop that passes over coordinates, and that what it passes are coordinates.
-use Prim.Native.Nat.{ℕ, zero, suc, _+_, _-_, _*_, _%_, _^_, _<_, _≤_}
-use native.Mathlib.Numerals.{sub-one}
+use Prim.Native.Nat.{ℕ, zero, suc, _+_, _*_, _/_, _%_, _^_, _<_, _≤_}
 use native.Mathlib.Omega.{arith}
 use mathlib.Core.Path.{_≡_, refl, sym, ap, _∙_}
-use mathlib.Core.Bool.{Bool, true, false, cond}
-use mathlib.Core.List.{List, [], _∷_}
-use lib.Dec.{ltb, eqb, lit<, lit≤}
+use mathlib.Core.Bool.{Bool, true, false, cond, not, _&&_, and-true, and-assoc}
+use mathlib.Core.List.{List, [], _∷_, _++_}
+use lib.Dec.{ltb, eqb, leb, lit<, lit≤}
 use lib.IntN.{ℤ, pos, negℤ, natAbs}
 use lib.ListN.{length, getD}
-use borrow.Author.Tests.{le-ltb, lt-ltb, ltb-true, ltb-false, le-leb}
+use mir.Syntax.{w8}
+use mir.Val.{Fits}
+use borrow.Author.Tests.{le-ltb, lt-ltb, le-leb, lt-leb, eq-eqb, ne-eqb, eqb-true, eqb-false, leb-true, leb-false}
 use borrow.Author.Needs.{needs}
 use Rattle.parsing.specs.Parse.{Res, ok, no, andThen, mapRes, many, byte}
 use Rattle.parsing.specs.Good.{split, ok-at, no-ok}
-use Rattle.utils.specs.Vbe.{Groups, groups, lastGroup, below, signedOf, signed, coordinate}
-use Rattle.utils.proofs.VbeLaws.{above, above-none, groups-none, groups-past, groups-last, loop-more, groups-small}
-use Rattle.coordinates.specs.Skip.{short, skipOf, endsAt, runAfter}
+use Rattle.parsing.proofs.Loops.{fold-more, view-no}
+use Rattle.utils.specs.Vbe.{Noted, noted, allPlain, Groups, groups, lastGroup, below, signedOf, plainSigned, notedSigned, notedCoordinate}
+use Rattle.utils.proofs.VbeLaws.{groups-small}
+use Rattle.coordinates.specs.Skip.{short, skipOne, skipAll, skipOf, plainEnd}
 use Rattle.coordinates.specs.declared.Skip.{Skip}
 use Rattle.coordinates.specs.declared.Skip.the-variants.{At, Unknown}
 
--- what is left to pass over where run bytes of the next number are behind
-abbrev pub pending : ℕ → ℕ → List ℕ → ℕ → Res (List Groups)
-pending run zero s at = ok [] at
-pending run (suc k) s at = andThen (groups 64 (7 - run) s at) (λ g e. andThen (many short k s e) (λ l i. ok (g ∷ l) i))
+-- by the code's tests
+module _ (before last : ℕ) where
+  pub end-low : last % 64 ≡ 0 → leb 192 before ≡ plainEnd before last
+  end-low h = rw (eq-eqb (last % 64) 0 h)
 
-pub skip-start : (s : List ℕ) (n at : ℕ) → skipOf (pending 0 n s at) ≡ skipOf (many short n s at)
-skip-start s zero at = refl
-skip-start s (suc n) at = refl
+  pub end-high : (last % 64 ≡ 0 → ⊥) → true ≡ plainEnd before last
+  end-high h = rw (ne-eqb (last % 64) 0 h)
 
--- values do not matter
-skip-map : {A B : Type 0} (f : A → B) (r : Res A) → skipOf (mapRes f r) ≡ skipOf r
-skip-map f (ok a e) = refl
-skip-map f (no n v) = refl
-
-skip-then : {A B : Type 0} (f : A → A) (k : A → ℕ → Res B) (k′ : ℕ → Res B) → ((a : A) (e : ℕ) → skipOf (k a e) ≡ skipOf (k′ e)) → (r : Res A) → skipOf (andThen (mapRes f r) k) ≡ skipOf (andThen r k)
-skip-then f k k′ h (ok a e) = h (f a) e ∙ sym (h a e)
-skip-then f k k′ h (no n v) = refl
-
-module _ (s : List ℕ) (whole : Skip) (run left next : ℕ) (e : skipOf (pending run left s next) ≡ whole) where
-  pub skip-done : left ≤ 0 → At next ≡ whole
-  skip-done h = go left h e
-    where
-      go : (left : ℕ) → left ≤ 0 → skipOf (pending run left s next) ≡ whole → At next ≡ whole
-      go zero h e = e
-      go (suc k) h e = absurd (omega arith)
-
-  stuck : (n : ℕ) (v : List ℕ) → 0 < left → groups 64 (7 - run) s next ≡ no n v → Unknown ≡ whole
-  stuck n v h q = go left h e
-    where
-      go : (left : ℕ) → 0 < left → skipOf (pending run left s next) ≡ whole → Unknown ≡ whole
-      go zero h e = absurd (omega arith)
-      go (suc k) h e = rw q at e
-
-  pub skip-long : 0 < left → 6 < run → Unknown ≡ whole
-  skip-long h b = stuck 11 [] h (groups-none 64 (7 - run) s next (omega arith))
-
-  pub skip-past : 0 < left → length s ≤ next → Unknown ≡ whole
-  skip-past h b = go (ltb run 7) refl
-    where
-      go : (t : Bool) → ltb run 7 ≡ t → Unknown ≡ whole
-      go true q = stuck 1 [] h (groups-past 64 (7 - run) s next (let z = ltb-true run 7 q in omega arith) b)
-      go false q = skip-long h (let z = ltb-false run 7 q in omega arith)
-
-  pub skip-more : (b d k : ℕ) → 0 < left → next < length s → run ≤ 6 → b ≡ getD s next 0 → d ≡ endsAt b → k ≡ runAfter run b → skipOf (pending k (left - d) s (next + 1)) ≡ whole
-  skip-more b d k h l r q i j = rw (i, j) (go left h e (ltb b 128) refl)
-    where
-      go : (left : ℕ) → 0 < left → skipOf (pending run left s next) ≡ whole → (t : Bool) → ltb b 128 ≡ t → skipOf (pending (cond t 0 (run + 1)) (left - cond t 1 0) s (next + 1)) ≡ whole
-      go zero h e t z = absurd (omega arith)
-      go (suc n) h e true z =
-          let u = groups-last 64 (7 - run) s next b (omega arith) l q (ltb-true b 128 z) in
-          rw sub-one (skip-start s n (next + 1) ∙ sym (skip-map (λ x. lastGroup 64 b ∷ x) (many short n s (next + 1))) ∙ (rw u at e))
-      go (suc n) h e false z =
-          let u = loop-more 64 s (groups 64 (7 - run) s next) 0 1 (7 - run) next (above-none (groups 64 (7 - run) s next)) b (omega arith) l q (ltb-false b 128 z) in
-          let v : 7 - run - 1 ≡ 7 - (run + 1) = omega arith in
-          let w : suc n - 0 ≡ suc n = omega arith in
-          rw (w, ← v) (sym (skip-then (above (0 + 1 * (b % 128)) (1 * 128)) (λ g e. andThen (many short n s e) (λ l i. ok (g ∷ l) i)) (λ e. many short n s e) (λ g e. skip-map (λ x. g ∷ x) (many short n s e)) (groups 64 (7 - run - 1) s (next + 1))) ∙ (rw u) ∙ e)
-
-pub ended-fits : (b e left : ℕ) → e ≡ endsAt b → 0 < left → e ≤ left
-ended-fits b e left q h = rw q (go (ltb b 128))
+first-plain : (a : ℕ) → a < 128 → not (eqb a 64) ≡ plainSigned (a % 64) (a / 64) 1
+first-plain a l = go (eqb a 64) refl (eqb (a % 64) 0) refl
   where
-    go : (t : Bool) → cond t 1 0 ≤ left
-    go true = omega arith
-    go false = omega arith
+    go : (t : Bool) → eqb a 64 ≡ t → (u : Bool) → eqb (a % 64) 0 ≡ u → not t ≡ cond u (eqb (a / 64) 0) true
+    go true q true z = let h = eqb-true a 64 q in rw (ne-eqb (a / 64) 0 (λ k. omega arith))
+    go true q false z = absurd (let h = eqb-true a 64 q in eqb-false (a % 64) 0 z (omega arith))
+    go false q true z = let h = eqb-true (a % 64) 0 z in let n = eqb-false a 64 q in rw (eq-eqb (a / 64) 0 (omega arith))
+    go false q false z = refl
 
-module _ (b run : ℕ) where
-  pub ends-yes : b < 128 → 1 ≡ endsAt b
-  ends-yes h = rw (lt-ltb b 128 h)
+-- the last two bytes tell: twice the value v has the weight w if their data are 64 or more
+end-plain : (b l v w : ℕ) → 128 ≤ b → b < 256 → (64 ≤ b % 128 + 128 * (l % 64) → w ≤ 2 * v) → (b % 128 + 128 * (l % 64) < 64 → 2 * v < w) → plainEnd b l ≡ leb w (2 * v)
+end-plain b l v w high fits more less = go (eqb (l % 64) 0) refl (leb 192 b) refl
+  where
+    go : (t : Bool) → eqb (l % 64) 0 ≡ t → (u : Bool) → leb 192 b ≡ u → cond t u true ≡ leb w (2 * v)
+    go true q true z = let h = leb-true 192 b z in sym (le-leb w (2 * v) (more (omega arith)))
+    go true q false z = let h = leb-false 192 b z in let k = eqb-true (l % 64) 0 q in sym (lt-leb w (2 * v) (less (omega arith)))
+    go false q u z = let k = eqb-false (l % 64) 0 q in sym (le-leb w (2 * v) (more (omega arith)))
 
-  pub ends-no : 128 ≤ b → 0 ≡ endsAt b
-  ends-no h = rw (le-ltb b 128 h)
+-- one number, by its bytes
+module _ (s : List ℕ) (at : ℕ) (r : at + 3 ≤ length s) where
+  pub one-byte : getD s at 0 < 128 → At (not (eqb (getD s at 0) 64)) (at + 1) ≡ skipOne (short s at)
+  unfolding short groups
+  one-byte h = simp (lt-ltb at (length s) (omega arith), lt-ltb _ _ h) (rw (first-plain (getD s at 0) h))
 
-  pub run-yes : b < 128 → 0 ≡ runAfter run b
-  run-yes h = rw (lt-ltb b 128 h)
+  module _ (h : 128 ≤ getD s at 0) where
+    pub two-bytes : (p : Bool) → ((i : ℕ) → Fits w8 (getD s i 0)) → getD s (at + 1) 0 < 128 → p ≡ plainEnd (getD s at 0) (getD s (at + 1) 0) → At p (at + 2) ≡ skipOne (short s at)
+    unfolding short groups
+    two-bytes p k l q =
+        let z : at + 2 ≡ at + 1 + 1 = omega arith in
+        simp (lt-ltb at (length s) (omega arith), le-ltb _ _ h, lt-ltb (at + 1) (length s) (omega arith), lt-ltb _ _ l)
+        (rw (q, z, end-plain (getD s at 0) (getD s (at + 1) 0) (getD s at 0 % 128 + 128 * (getD s (at + 1) 0 % 64)) 128 h (omega (arith, k at)) (λ t. omega arith) (λ t. omega arith)))
 
-  pub run-no : 128 ≤ b → run + 1 ≡ runAfter run b
-  run-no h = rw (le-ltb b 128 h)
+    module _ (l : 128 ≤ getD s (at + 1) 0) where
+      pub three-bytes : (p : Bool) → ((i : ℕ) → Fits w8 (getD s i 0)) → getD s (at + 2) 0 < 128 → p ≡ plainEnd (getD s (at + 1) 0) (getD s (at + 2) 0) → At p (at + 3) ≡ skipOne (short s at)
+      unfolding short groups
+      three-bytes p k o q =
+          let z : at + 1 + 1 ≡ at + 2 = omega arith in
+          let y : at + 3 ≡ at + 2 + 1 = omega arith in
+          let b = getD s (at + 1) 0 in
+          let x : getD s at 0 % 128 < 128 = omega arith in
+          simp (lt-ltb at (length s) (omega arith), le-ltb _ _ h, lt-ltb (at + 1) (length s) (omega arith), le-ltb _ _ l, z, lt-ltb (at + 2) (length s) (omega arith), lt-ltb _ _ o)
+          (rw (q, y, end-plain b (getD s (at + 2) 0) (getD s at 0 % 128 + 128 * (b % 128 + 128 * (getD s (at + 2) 0 % 64))) 16384 l (omega (arith, k (at + 1))) (λ t. omega arith) (λ t. omega arith)))
 
-pub ruleset skips = (needs, ended-fits, ends-yes, ends-no, run-yes, run-no, skip-start, skip-more, skip-done, skip-long, skip-past)
+      pub more-bytes : 128 ≤ getD s (at + 2) 0 → Unknown ≡ skipOne (short s at)
+      unfolding short groups
+      more-bytes o =
+          let z : at + 1 + 1 ≡ at + 2 = omega arith in
+          simp (lt-ltb at (length s) (omega arith), le-ltb _ _ h, lt-ltb (at + 1) (length s) (omega arith), le-ltb _ _ l, z, lt-ltb (at + 2) (length s) (omega arith), le-ltb _ _ o)
+
+-- at most k bytes
+groups-end : (m k : ℕ) (s : List ℕ) (at : ℕ) (g : Groups) (e : ℕ) → groups m k s at ≡ ok g e → e ≤ at + k
+unfolding groups
+groups-end m zero s at g e h = no-ok h
+groups-end m (suc k) s at g e h =
+    let u = split (byte s at) (λ b x. cond (ltb b 128) (ok (lastGroup m b) x) (andThen (groups m k s x) (λ g y. ok (below b g) y))) g e h in
+    let z = passes (ltb at (length s)) (u .first) in
+    go (u .val) (u .mid) z (λ g e h. groups-end m k s (u .mid) g e h) (ltb (u .val) 128) (u .second)
+  where
+    passes : {b x : ℕ} (t : Bool) → cond t (ok (getD s at 0) (at + 1)) (no 1 []) ≡ ok b x → at + 1 ≡ x
+    passes true q = ok-at q
+    passes false q = no-ok q
+
+    go : (b x : ℕ) → at + 1 ≡ x → ((g : Groups) (e : ℕ) → groups m k s x ≡ ok g e → e ≤ x + k) → (t : Bool) → cond t (ok (lastGroup m b) x) (andThen (groups m k s x) (λ g y. ok (below b g) y)) ≡ ok g e → e ≤ at + suc k
+    go b x p ih true q = let z = ok-at q in omega arith
+    go b x p ih false q =
+        let v = split (groups m k s x) (λ g y. ok (below b g) y) g e q in
+        let z = ok-at (v .second) in
+        omega (arith, ih (v .val) (v .mid) (v .first))
+
+short-end : (s : List ℕ) (at : ℕ) (v : Noted ℤ) (e : ℕ) → short s at ≡ ok v e → e ≤ at + 3
+unfolding short
+short-end s at v e h =
+    let u = split (groups 64 3 s at) (λ g x. ok (noted (signedOf (g .magnitude) (g .sign)) (plainSigned (g .magnitude) (g .sign) (g .weight))) x) v e h in
+    omega (arith, groups-end 64 3 s at (u .val) (u .mid) (u .first), ok-at (u .second))
+
+-- the loop
+pub plain-snoc : {A : Type 0} (xs : List (Noted A)) (v : Noted A) → allPlain (xs ++ (v ∷ [])) ≡ allPlain xs && v .plain
+plain-snoc [] v = and-true (v .plain)
+plain-snoc (x ∷ xs) v = rw (plain-snoc xs v, and-assoc)
+
+module _ (s : List ℕ) (next : ℕ) (g : Skip) (q : g ≡ skipOne (short s next)) (p : Bool) (after : ℕ) (h : g ≡ At p after) where
+  one-passed : mapRes (λ v. v .plain) (short s next) ≡ ok p after
+  one-passed = go (short s next) (sym h ∙ q)
+    where
+      go : (r : Res (Noted ℤ)) → At p after ≡ skipOne r → mapRes (λ v. v .plain) r ≡ ok p after
+      go (ok v e) z = cc
+      go (no n v) z = absurd (let y : _≡_ {A = ℕ} 0 1 = cc in omega arith)
+
+  pub skip-near : after ≤ next + 3
+  skip-near =
+      let u = split (short s next) (λ v x. ok (v .plain) x) p after one-passed in
+      omega (arith, short-end s next (u .val) (u .mid) (u .first), ok-at (u .second))
+
+  pub skip-more : (i at : ℕ) (b : Bool) → mapRes allPlain (many short i s at) ≡ ok b next → mapRes allPlain (many short (i + 1) s at) ≡ ok (b && p) after
+  skip-more i at b e = fold-more short s allPlain (λ v. v .plain) _&&_ plain-snoc i at e one-passed
+
+pub skip-room : (s : List ℕ) (at n : ℕ) → length s < at + 3 * n → Unknown ≡ skipOf s at n
+skip-room s at n h = rw (lt-leb (at + 3 * n) (length s) h)
+
+pub skip-done : (s : List ℕ) (at n i next : ℕ) (b : Bool) → at + 3 * n ≤ length s → mapRes allPlain (many short i s at) ≡ ok b next → i ≤ n → n ≤ i → At b next ≡ skipOf s at n
+skip-done s at n i next b h e c d =
+    let k : i ≡ n = omega arith in
+    rw (le-leb (at + 3 * n) (length s) h) (go (many short n s at) (rw k at e))
+  where
+    go : (r : Res (List (Noted ℤ))) → mapRes allPlain r ≡ ok b next → At b next ≡ skipAll r
+    go (ok l e) z = cc
+    go (no n v) z = no-ok z
+
+pub skip-stop : (s : List ℕ) (at n i next : ℕ) (b : Bool) (g : Skip) → mapRes allPlain (many short i s at) ≡ ok b next → g ≡ skipOne (short s next) → g ≡ Unknown → i < n → Unknown ≡ skipOf s at n
+skip-stop s at n i next b g e q h c = go (short s next) refl (sym h ∙ q)
+  where
+    either : (t : Bool) (r : Res (List (Noted ℤ))) → Unknown ≡ skipAll r → Unknown ≡ cond t (skipAll r) Unknown
+    either true r z = z
+    either false r z = refl
+
+    go : (r : Res (Noted ℤ)) → short s next ≡ r → Unknown ≡ skipOne r → Unknown ≡ skipOf s at n
+    go (ok v x) d z = absurd (let y : _≡_ {A = ℕ} 0 1 = cc in omega arith)
+    go (no k v) d z = either (leb (at + 3 * n) (length s)) (many short n s at) (rw (view-no short s allPlain (λ v. v .plain) i n at e (ap (mapRes (λ v. v .plain)) d) c))
+
+pub ruleset skips = (needs, end-low, end-high, one-byte, two-bytes, three-bytes, more-bytes)
 
 -- a short number is a coordinate
 one-more : (m k : ℕ) (s : List ℕ) (at : ℕ) (g : Groups) (e : ℕ) → groups m k s at ≡ ok g e → groups m (suc k) s at ≡ ok g e
@@ -111,37 +163,36 @@ one-more m (suc k) s at g e h =
         let v = split (groups m k s x) (λ g y. ok (below b g) y) g e q in
         rw (ih (v .val) (v .mid) (v .first)) (v .second)
 
+more : (m k : ℕ) (s : List ℕ) (at : ℕ) (g : Groups) (e d : ℕ) → groups m k s at ≡ ok g e → groups m (k + d) s at ≡ ok g e
+more m k s at g e zero h = let z : k + 0 ≡ k = omega arith in rw z h
+more m k s at g e (suc d) h = let z : k + suc d ≡ suc (k + d) = omega arith in rw z (one-more m (k + d) s at g e (more m k s at g e d h))
+
 abs-signed : (m : ℕ) (t : Bool) → natAbs (cond t (pos m) (negℤ (pos m))) ≡ m
 abs-signed m true = refl
 abs-signed zero false = refl
 abs-signed (suc m) false = refl
 
-short-coordinate : (s : List ℕ) (at : ℕ) (g : Groups) (e : ℕ) → short s at ≡ ok g e → coordinate s at ≡ ok (signedOf (g .magnitude) (g .sign)) e
-unfolding coordinate signed
-short-coordinate s at g e h =
-    let b : g .magnitude < 2 ^ 49 = groups-small 64 (lit< tt) (lit≤ tt) 7 .holds s at g e h in
-    let w = one-more 64 8 s at g e (one-more 64 7 s at g e h) in
+short-coordinate : (s : List ℕ) (at : ℕ) (v : Noted ℤ) (e : ℕ) → short s at ≡ ok v e → notedCoordinate s at ≡ ok v e
+unfolding short notedCoordinate notedSigned
+short-coordinate s at v e h =
+    let u = split (groups 64 3 s at) (λ g x. ok (noted (signedOf (g .magnitude) (g .sign)) (plainSigned (g .magnitude) (g .sign) (g .weight))) x) v e h in
+    let g = u .val in
+    let b : g .magnitude < 2 ^ 21 = groups-small 64 (lit< tt) (lit≤ tt) 3 .holds s at g (u .mid) (u .first) in
     let k : natAbs (signedOf (g .magnitude) (g .sign)) ≤ 2 ^ 53 = rw (abs-signed (g .magnitude) (eqb (g .sign) 0)) (omega arith) in
-    rw (w, le-leb (natAbs (signedOf (g .magnitude) (g .sign))) (2 ^ 53) k)
+    rw (more 64 3 s at g (u .mid) 6 (u .first), le-leb (natAbs (signedOf (g .magnitude) (g .sign))) (2 ^ 53) k) (u .second)
 
--- n coordinates that end at e
-pub record Passed (s : List ℕ) (n at e : ℕ) : Type 0 where
-  pub list : List ℤ
-  pub is : many coordinate n s at ≡ ok list e
-
-many-short : (s : List ℕ) (n at : ℕ) (l : List Groups) (e : ℕ) → many short n s at ≡ ok l e → Passed s n at e
-many-short s zero at l e h = record { list = []; is = ap (λ (x : ℕ). ok [] x) (ok-at h) }
+many-short : (s : List ℕ) (n at : ℕ) (l : List (Noted ℤ)) (e : ℕ) → many short n s at ≡ ok l e → many notedCoordinate n s at ≡ ok l e
+many-short s zero at l e h = h
 many-short s (suc n) at l e h =
     let u = split (short s at) (λ g x. andThen (many short n s x) (λ r i. ok (g ∷ r) i)) l e h in
     let v = split (many short n s (u .mid)) (λ r i. ok (u .val ∷ r) i) l e (u .second) in
-    let w = many-short s n (u .mid) (v .val) (v .mid) (v .first) in
-    let c = short-coordinate s at (u .val) (u .mid) (u .first) in
-    let z = signedOf (u .val .magnitude) (u .val .sign) in
-    record { list = z ∷ w .list; is = rw (c, w .is) (ap (λ (x : ℕ). ok (z ∷ w .list) x) (ok-at (v .second))) }
+    rw (short-coordinate s at (u .val) (u .mid) (u .first), many-short s n (u .mid) (v .val) (v .mid) (v .first)) (v .second)
 
-pub skipped : (s : List ℕ) (n at e : ℕ) (g : Skip) → g ≡ skipOf (many short n s at) → g ≡ At e → Passed s n at e
-skipped s n at e g q h = go (many short n s at) refl (sym h ∙ q)
+-- n coordinates that end at e, and whether all are plain
+pub skipped : (s : List ℕ) (n at e : ℕ) (p : Bool) (g : Skip) → g ≡ skipOf s at n → g ≡ At p e → mapRes allPlain (many notedCoordinate n s at) ≡ ok p e
+skipped s n at e p g q h = go (leb (at + 3 * n) (length s)) (many short n s at) refl (sym h ∙ q)
   where
-    go : (r : Res (List Groups)) → many short n s at ≡ r → At e ≡ skipOf r → Passed s n at e
-    go (ok l x) d f = let z : x ≡ e = cc in many-short s n at l e (rw z at d)
-    go (no i v) d f = absurd (let z : _≡_ {A = ℕ} 0 1 = cc in omega arith)
+    go : (t : Bool) (r : Res (List (Noted ℤ))) → many short n s at ≡ r → At p e ≡ cond t (skipAll r) Unknown → mapRes allPlain (many notedCoordinate n s at) ≡ ok p e
+    go true (ok l x) d f = rw (many-short s n at l x d) cc
+    go true (no i v) d f = absurd (let z : _≡_ {A = ℕ} 0 1 = cc in omega arith)
+    go false r d f = absurd (let z : _≡_ {A = ℕ} 0 1 = cc in omega arith)

@@ -1,26 +1,36 @@
--- Document 01, utils.rs: signed numbers. Those of at most 7 bytes are coordinates, whatever they hold, and are passed over by their
--- last bytes alone.
-use Prim.Native.Nat.{ℕ, _+_}
-use mathlib.Core.Bool.{cond}
-use lib.Dec.{ltb}
-use Rattle.parsing.specs.Parse.{Res, ok, no, Parser}
-use Rattle.utils.specs.Vbe.{Groups, groups}
+-- Document 01, utils.rs: signed numbers. Those of at most 3 bytes are coordinates, whatever they hold, and are passed over without
+-- decoding them.
+use Prim.Native.Nat.{ℕ, _+_, _*_, _%_}
+use mathlib.Core.Bool.{Bool, true, cond}
+use mathlib.Core.List.{List}
+use lib.Dec.{leb, eqb}
+use lib.IntN.{ℤ}
+use lib.ListN.{length}
+use Rattle.parsing.specs.Parse.{Res, ok, no, Parser, _>>=_, return, many}
+use Rattle.utils.specs.Vbe.{Noted, noted, allPlain, groups, signedOf, plainSigned}
 use Rattle.coordinates.specs.declared.Skip.{Skip}
 use Rattle.coordinates.specs.declared.Skip.the-variants.{At, Unknown}
 
--- a signed number of at most 7 bytes
-abbrev pub short : Parser Groups
-short = groups 64 7
+-- a signed number of at most 3 bytes
+unfoldable pub short : Parser (Noted ℤ)
+short = do
+  g ← groups 64 3
+  return (noted (signedOf (g .magnitude) (g .sign)) (plainSigned (g .magnitude) (g .sign) (g .weight)))
 
--- where a read ends, if it is not refused
-abbrev pub skipOf : {A : Type 0} → Res A → Skip
-skipOf (ok a e) = At e
-skipOf (no n v) = Unknown
+-- n of them: whether all were plain, and where they end
+abbrev pub skipAll : Res (List (Noted ℤ)) → Skip
+skipAll (ok l e) = At (allPlain l) e
+skipAll (no n v) = Unknown
 
--- Of private functions, which need not be believed: 1 at a number's last byte
-abbrev pub endsAt : ℕ → ℕ
-endsAt b = cond (ltb b 128) 1 0
+-- where the map has bytes for n of the longest
+abbrev pub skipOf : List ℕ → (at n : ℕ) → Skip
+skipOf m at n = cond (leb (at + 3 * n) (length m)) (skipAll (many short n m at)) Unknown
 
--- and the bytes of a number that has not ended
-abbrev pub runAfter : ℕ → ℕ → ℕ
-runAfter run b = cond (ltb b 128) 0 (run + 1)
+-- Of private functions, which need not be believed: one number
+abbrev pub skipOne : Res (Noted ℤ) → Skip
+skipOne (ok v e) = At (v .plain) e
+skipOne (no n v) = Unknown
+
+-- and by the last two bytes of a longer one, whether it was plain
+abbrev pub plainEnd : (before last : ℕ) → Bool
+plainEnd before last = cond (eqb (last % 64) 0) (leb 192 before) true

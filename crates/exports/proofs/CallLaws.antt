@@ -3,7 +3,7 @@ use Prim.Native.Nat.{ℕ}
 use lib.IntN.{ℤ}
 use mathlib.Core.Path.{_≡_, refl, subst}
 use mathlib.Core.List.{List}
-use mir.Syntax.{w32}
+use mir.Syntax.{w32, w64}
 use mir.Val.{SFits, toZ, ofZ}
 use mir.Facts.{toZ-ofZ}
 use Rattle.byte_source.specs.Answers.{spanRes}
@@ -16,6 +16,7 @@ use Rattle.types.specs.declared.Grid.{Grid}
 use Rattle.types.specs.declared.TagRange.{TagRange}
 use Rattle.tag_table.specs.Tables.{kindsBy}
 use Rattle.tile_layout.specs.declared.TileLayout.{TileLayout}
+use Rattle.selection.specs.declared.Selection.{Selection}
 use Rattle.visit.specs.declared.Stream.{Stream}
 use Rattle.visit.specs.declared.NextStep.{NextStep}
 use Rattle.visit.specs.declared.Accepted.{Accepted}
@@ -24,7 +25,7 @@ use Rattle.types.specs.declared.IntervalTable.{IntervalTable}
 use Rattle.wire.specs.Wire.{Wire, Crosses}
 use Rattle.index_wire.specs.Index.{tagWire}
 use Rattle.stream_wire.specs.Streams.{nextWire, acceptWire, declineWire}
-use Rattle.exports.specs.Calls.{gridIn, TagIs, NextOf, AcceptOf, DeclineOf}
+use Rattle.exports.specs.Calls.{gridIn, windowIn, TagIs, NextOf, SelectedOf, AcceptOf, DeclineOf}
 
 -- an answer for which the inner contract holds, as it was written
 pub crosses : {A : Type 0} (encode : A → Wire) (Is : A → Type 0) (a : A) (w : Wire) → Is a → w ≡ encode a → Crosses encode Is w
@@ -42,6 +43,11 @@ table-crosses encode Of t t′ x w e i q = crosses encode (Of t′) x w (subst (
 pub next-crosses : (m letters : List ℕ) (s s′ : Stream) (l l′ : TileLayout) (a : NextStep) (before w : Wire) → s ≡ s′ → l ≡ l′ → NextOf m letters l s a → w ≡ nextWire before a → Crosses (nextWire before) (NextOf m letters l′ s′) w
 next-crosses m letters s s′ l l′ a before w e h i q = crosses (nextWire before) (NextOf m letters l′ s′) a w (subst (λ x. NextOf m letters l′ x a) e (subst (λ x. NextOf m letters x s a) h i)) q
 
+pub selected-crosses : (m letters classes : List ℕ) (s s′ : Stream) (c c′ : Selection) (l l′ : TileLayout) (a : NextStep) (before w : Wire) → s ≡ s′ → c ≡ c′ → l ≡ l′ → SelectedOf m letters classes l c s a → w ≡ nextWire before a → Crosses (nextWire before) (SelectedOf m letters classes l′ c′ s′) w
+selected-crosses m letters classes s s′ c c′ l l′ a before w e g h i q =
+    crosses (nextWire before) (SelectedOf m letters classes l′ c′ s′) a w
+    (subst (λ x. SelectedOf m letters classes l′ c′ x a) e (subst (λ x. SelectedOf m letters classes l′ x s a) g (subst (λ x. SelectedOf m letters classes x c s a) h i))) q
+
 pub accept-crosses : (m : List ℕ) (s s′ : Stream) (lent left : LentLists) (a : Accepted) (before w : Wire) → s ≡ s′ → AcceptOf m s lent left a → w ≡ acceptWire before a → Crosses (acceptWire before) (AcceptOf m s′ lent left) w
 accept-crosses m s s′ lent left a before w e i q = crosses (acceptWire before) (AcceptOf m s′ lent left) a w (subst (λ x. AcceptOf m x lent left a) e i) q
 
@@ -51,6 +57,10 @@ decline-crosses s s′ a before w e i q = crosses (declineWire before) (DeclineO
 -- numbers that are passed at their width are passed as they are
 pub passed-pair : (x y : ℤ) → SFits w32 x → SFits w32 y → _≡_ {A = ℤ × ℤ} (toZ w32 (ofZ w32 x), toZ w32 (ofZ w32 y)) (x, y)
 passed-pair x y f g = rw (toZ-ofZ {w = w32} f, toZ-ofZ {w = w32} g) refl
+
+-- a window whose numbers are stored as they are
+pub stored-window : (a b c d : ℤ) → SFits w64 a → SFits w64 b → SFits w64 c → SFits w64 d → windowIn (toZ w64 (ofZ w64 a)) (toZ w64 (ofZ w64 b)) (toZ w64 (ofZ w64 c)) (toZ w64 (ofZ w64 d)) ≡ windowIn a b c d
+stored-window a b c d fa fb fc fd = rw (toZ-ofZ {w = w64} fa, toZ-ofZ {w = w64} fb, toZ-ofZ {w = w64} fc, toZ-ofZ {w = w64} fd) refl
 
 -- a grid whose numbers are stored as they are
 module _ (a b c d : ℤ) (fa : SFits w32 a) (fb : SFits w32 b) (fc : SFits w32 c) (fd : SFits w32 d) where

@@ -3,6 +3,7 @@ use Prim.Native.Nat.{ℕ}
 use lib.IntN.{ℤ}
 use mathlib.Core.Path.{_≡_}
 use mathlib.Core.List.{List}
+use lib.ListN.{length}
 use Rattle.byte_source.specs.Answers.{spanRes}
 use Rattle.format.specs.Index.{tileCount, tileIndexOf, tileIndexEntry}
 use Rattle.format.specs.Header.{opened}
@@ -16,9 +17,13 @@ use Rattle.opening.specs.declared.ListedRead.{ListedRead}
 use Rattle.format.specs.BodyLists.{bodyLists}
 use Rattle.format.specs.Tile.{kindAt, body}
 use Rattle.agreement.specs.Stream.{onNext, onAccept, onDecline}
+use Rattle.agreement.specs.TileFormat.{wholeBody, noteBody}
 use Rattle.tile_layout.specs.TileLayout.{kindsOf, formatOf}
 use Rattle.tile_layout.specs.declared.TileLayout.{TileLayout}
 use Rattle.visit.specs.Visit.{stateOf, openTile, openRes, shownStep, NextIs, acceptStep, declineStep}
+use Rattle.selection.specs.Selected.{selectedNext}
+use Rattle.selection.specs.Selects.{selected}
+use Rattle.selection.specs.declared.Selection.{Selection}
 use Rattle.visit.specs.declared.Stream.{Stream}
 use Rattle.visit.specs.declared.NextStep.{NextStep}
 use Rattle.visit.specs.declared.Accepted.{Accepted}
@@ -40,10 +45,20 @@ use Rattle.types.specs.declared.IntervalTable.{IntervalTable}
 use Rattle.zoom_intervals.specs.Rows.{rowRes, subFileRes}
 use Rattle.zoom_intervals.specs.declared.IntervalAnswer.{IntervalAnswer}
 use Rattle.zoom_intervals.specs.declared.SubFileAnswer.{SubFileAnswer}
+use Rattle.showing.specs.Showing.{checkedRes, checked, After}
+use Rattle.showing.specs.declared.Checked.{Checked}
 use Rattle.index_wire.specs.Index.{Named}
+use Rattle.window.specs.Window.{windowCount, windowTile}
+use Rattle.window.specs.Answers.{rectangleOf, windowCountRes, windowTileRes}
+use Rattle.window.specs.declared.Window.{Window}
+use Rattle.window.specs.declared.WindowCountRead.{WindowCountRead}
+use Rattle.window.specs.declared.WindowTileRead.{WindowTileRead}
 
 abbrev pub gridIn : (xMin yMin xMax yMax : ℤ) → Grid
 gridIn a b c d = record { «x_min» = a; «y_min» = b; «x_max» = c; «y_max» = d }
+
+abbrev pub windowIn : (left top right bottom : ℤ) → Window
+windowIn a b c d = record { left = a; top = b; right = c; bottom = d }
 
 -- the header, and what opening leaves of the lent lists
 abbrev pub OpenOf : (m : List ℕ) → (lent left : TagLists) → ListedRead → Type 0
@@ -61,8 +76,11 @@ pub record TagIs (starts letters : List ℕ) (t : TagRange) (k : ℕ) (m : List 
 abbrev pub NextOf : (m letters : List ℕ) → TileLayout → Stream → NextStep → Type 0
 NextOf m letters l s a = NextIs (shownStep (onNext (formatOf (kindsOf l letters)) m (stateOf s))) a
 
+abbrev pub SelectedOf : (m letters classes : List ℕ) → TileLayout → Selection → Stream → NextStep → Type 0
+SelectedOf m letters classes l c s a = NextIs (shownStep (selectedNext (formatOf (kindsOf l letters)) m (selected c classes) (stateOf s))) a
+
 abbrev pub AcceptOf : (m : List ℕ) → Stream → (lent left : LentLists) → Accepted → Type 0
-AcceptOf m s lent left a = acceptStep a (left .counts) (left .latitudes) (left .longitudes) ≡ shownStep (onAccept body bodyLists m (stateOf s) lent)
+AcceptOf m s lent left a = acceptStep a (left .counts) (left .latitudes) (left .longitudes) ≡ shownStep (onAccept body bodyLists wholeBody noteBody m (stateOf s) lent)
 
 abbrev pub DeclineOf : Stream → Declined → Type 0
 DeclineOf s a = declineStep a ≡ shownStep (onDecline (stateOf s))
@@ -84,6 +102,13 @@ IndexOf x y i g a = indexRes a ≡ tileIndexOf (intervalFound i) (gridOf g) x y
 abbrev pub EntryOf : (m : List ℕ) → (number : ℕ) → TileLayout → IntervalRead → Grid → EntryRead → Type 0
 EntryOf m t l i g a = entryRes a ≡ heldRes (tileIndexEntry (l .debug) (intervalFound i) (gridOf g) t m)
 
+-- the tiles that a window touches
+abbrev pub WindowCountOf : Window → Grid → WindowCountRead → Type 0
+WindowCountOf w g a = windowCountRes a ≡ windowCount (gridOf g) (rectangleOf w)
+
+abbrev pub WindowTileOf : (k : ℕ) → Window → Grid → WindowTileRead → Type 0
+WindowTileOf k w g a = windowTileRes a ≡ windowTile (gridOf g) (rectangleOf w) k
+
 -- a tile's stream, the collected tile, and a feature of it
 abbrev pub StreamOf : (m : List ℕ) → (subFile number zoom : ℕ) → TileLayout → IntervalRead → Grid → OpenRead → Type 0
 StreamOf m s t zoom l i g a = openRes a ≡ openTile l (intervalFound i) s (gridOf g) t zoom m
@@ -101,3 +126,8 @@ TileOf m letters t lent left l i g a = CollectIs (collectTile (kindsOf l letters
 
 abbrev pub FeatureOf : (m starts letters : List ℕ) → (number k : ℕ) → (lent left : FetchLists) → TileLayout → IntervalRead → Grid → Fetch → Type 0
 FeatureOf m starts letters t k lent left l i g a = FeatureIs (fetchTile l starts letters (intervalFound i) (gridOf g) t k m) lent a left
+
+-- showing rules that are checked, and what the check leaves of the lent table
+pub record RulesOf (tags : ℕ) (rules lent left : List ℕ) (a : Checked) : Type 0 where
+  pub answer : checkedRes a ≡ checked tags rules (length lent)
+  pub table : After (checkedRes a) rules lent left

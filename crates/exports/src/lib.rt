@@ -5,6 +5,7 @@
 use types::Grid;
 use types::TagRange;
 use utils::Degrees;
+use window::Window;
 ghost use mathlib.Core.Path.{_≡_};
 ghost use mathlib.Core.List.{[], _∷_};
 ghost use Rattle.parsing.specs.Parse.{mapRes};
@@ -17,10 +18,14 @@ ghost use Rattle.way_data.specs.Reply.{lent, reply, readWayData};
 ghost use Rattle.fetch_way.specs.FetchWay.{lent as lentAll};
 ghost use Rattle.wire.specs.Wire.{wire, lending, Crosses};
 ghost use Rattle.index_wire.specs.Index.{countWire, indexWire, subFileWire, intervalWire, intervalIn, entryWire, tagWire, textWire, columnWire, longitudeWire, wayDataWire, dataWrittenWire};
+ghost use Rattle.window.specs.Window.{sharesCell};
+ghost use Rattle.window_wire.specs.Windows.{windowCountWire, windowTileWire};
 ghost use Rattle.header_wire.specs.Header.{headerWire, layoutIn, intervalsIn};
-ghost use Rattle.stream_wire.specs.Streams.{streamIn, openedWire, nextWire, acceptWire, declineWire};
+ghost use Rattle.stream_wire.specs.Streams.{streamIn, selectionIn, openedWire, nextWire, acceptWire, declineWire};
 ghost use Rattle.feature_wire.specs.Features.{tileWire, fetchWire};
-ghost use Rattle.exports.specs.Calls.{gridIn, OpenOf, tagsFrom, lentRows, TagIs, RowOf, SubFileOf, CountOf, IndexOf, EntryOf, StreamOf, NextOf, AcceptOf, DeclineOf, TileOf, FeatureOf};
+ghost use Rattle.showing.specs.Showing.{shown};
+ghost use Rattle.showing_wire.specs.Rules.{checkedWire, shownWire};
+ghost use Rattle.exports.specs.Calls.{gridIn, windowIn, OpenOf, tagsFrom, lentRows, TagIs, RowOf, SubFileOf, CountOf, IndexOf, EntryOf, WindowCountOf, WindowTileOf, StreamOf, NextOf, SelectedOf, AcceptOf, DeclineOf, TileOf, FeatureOf, RulesOf};
 
 // The header but for its intervals, in 34 words and six degrees, and what tiles and sub files need of it, in seven words. The start and the
 // letter of each point tag and then of each way tag go to the fronts of two lists, which other calls take.
@@ -199,7 +204,79 @@ pub extern "C" fn mapsforge_longitude(
     index_wire::put_longitude(got, words, longitude)
 }
 
-// A stream of a tile: its state, in seven words.
+// How many tiles of the grid a rectangle of sub tiles touches.
+#[no_mangle]
+pub extern "C" fn mapsforge_window_count(
+    x_min: i32,
+    y_min: i32,
+    x_max: i32,
+    y_max: i32,
+    left: i64,
+    top: i64,
+    right: i64,
+    bottom: i64,
+    words: &mut [u64; 7],
+) -> u64
+    ensures { λ r. ⌜ Crosses (windowCountWire (lending (now (words .entry) ∷ []) [] [])) (WindowCountOf (windowIn left top right bottom) (gridIn «x_min» «y_min» «x_max» «y_max»)) (wire r (now (words .exit) ∷ []) [] []) ⌝ }
+{
+    let grid = Grid {
+        x_min,
+        y_min,
+        x_max,
+        y_max,
+    };
+    let window = Window {
+        left,
+        top,
+        right,
+        bottom,
+    };
+    let got = window::window_count(grid, window);
+    window_wire::put_window_count(got, words)
+}
+
+// Tile k of those, row by row from the top, left to right: its number, its touched cells, its column and row.
+#[no_mangle]
+pub extern "C" fn mapsforge_window_tile(
+    x_min: i32,
+    y_min: i32,
+    x_max: i32,
+    y_max: i32,
+    left: i64,
+    top: i64,
+    right: i64,
+    bottom: i64,
+    k: u64,
+    words: &mut [u64; 9],
+    column_row: &mut [i64; 2],
+) -> u64
+    ensures { λ r. ⌜ Crosses (windowTileWire (lending (now (words .entry) ∷ []) (now («column_row» .entry)) [])) (WindowTileOf k (windowIn left top right bottom) (gridIn «x_min» «y_min» «x_max» «y_max»)) (wire r (now (words .exit) ∷ []) (now («column_row» .exit)) []) ⌝ }
+{
+    let grid = Grid {
+        x_min,
+        y_min,
+        x_max,
+        y_max,
+    };
+    let window = Window {
+        left,
+        top,
+        right,
+        bottom,
+    };
+    let got = window::window_tile(grid, window, k);
+    window_wire::put_window_tile(got, words, column_row)
+}
+
+// Whether a way's bitmap and a tile's mask share a cell: if not, the way is declined. This call refuses nothing, and answers outright.
+#[no_mangle]
+pub extern "C" fn mapsforge_shares_cell(bitmap: u16, mask: u16) -> bool
+    ensures { λ r. ⌜ r ≡ sharesCell bitmap mask ⌝ }
+{
+    window::shares_cell(bitmap, mask)
+}
+
+// A stream of a tile: its state, in eight words.
 #[no_mangle]
 pub extern "C" fn mapsforge_stream_open(
     map: &[u8],
@@ -212,7 +289,7 @@ pub extern "C" fn mapsforge_stream_open(
     y_max: i32,
     tile: usize,
     zoom: u8,
-    state: &mut [u64; 7],
+    state: &mut [u64; 8],
     words: &mut [u64; 6],
 ) -> u64
     ensures { λ r. ⌜ Crosses (openedWire (lending (now (words .entry) ∷ now (state .entry) ∷ []) [] [])) (StreamOf (now (map .entry)) «sub_file» tile zoom (layoutIn (now (layout .entry))) (intervalIn (now (interval .entry))) (gridIn «x_min» «y_min» «x_max» «y_max»)) (wire r (now (words .exit) ∷ now (state .exit) ∷ []) [] []) ⌝ }
@@ -235,8 +312,8 @@ pub extern "C" fn mapsforge_stream_next(
     map: &[u8],
     layout: &[u64; 7],
     letters: &[u8],
-    state: &mut [u64; 7],
-    words: &mut [u64; 21],
+    state: &mut [u64; 8],
+    words: &mut [u64; 22],
     signed_words: &mut [i64; 2],
     degrees: &mut [f64; 2],
     ids: &mut [u64; 15],
@@ -249,15 +326,39 @@ pub extern "C" fn mapsforge_stream_next(
     stream_wire::put_next(step, state, words, signed_words, degrees, ids)
 }
 
+// The same with every way declined that the window and the rules do not select: `select` says which of them count, with the window's mask and the
+// zoom, and `classes` is a table that a check of rules filled.
+#[no_mangle]
+pub extern "C" fn mapsforge_stream_next_selected(
+    map: &[u8],
+    layout: &[u64; 7],
+    letters: &[u8],
+    select: &[u64; 4],
+    classes: &[u8],
+    state: &mut [u64; 8],
+    words: &mut [u64; 22],
+    signed_words: &mut [i64; 2],
+    degrees: &mut [f64; 2],
+    ids: &mut [u64; 15],
+) -> u64
+    ensures { λ r. ⌜ Crosses (nextWire (lending (now (words .entry) ∷ now (ids .entry) ∷ now (state .entry) ∷ []) (now («signed_words» .entry)) (now (degrees .entry)))) (SelectedOf (now (map .entry)) (now (letters .entry)) (now (classes .entry)) (layoutIn (now (layout .entry))) (selectionIn (now (select .entry))) (streamIn (now (state .entry)))) (wire r (now (words .exit) ∷ now (ids .exit) ∷ now (state .exit) ∷ []) (now («signed_words» .exit)) (now (degrees .exit))) ⌝ }
+{
+    let tiles = header_wire::layout_in(*layout);
+    let which = stream_wire::selection_in(*select);
+    let stream = stream_wire::stream_in(*state);
+    let step = selection::next_selected(map, tiles, letters, stream, which, classes);
+    stream_wire::put_next(step, state, words, signed_words, degrees, ids)
+}
+
 // The waiting way's body; its node counts, latitudes and longitudes go to the fronts of the lists.
 #[no_mangle]
 pub extern "C" fn mapsforge_stream_accept(
     map: &[u8],
-    state: &mut [u64; 7],
+    state: &mut [u64; 8],
     node_counts: &mut [u64],
     latitudes: &mut [f64],
     longitudes: &mut [f64],
-    words: &mut [u64; 18],
+    words: &mut [u64; 19],
     degrees: &mut [f64; 2],
 ) -> u64
     ensures { λ r. ⌜ Crosses (acceptWire (lending (now (words .entry) ∷ now (state .entry) ∷ []) [] (now (degrees .entry)))) (AcceptOf (now (map .entry)) (streamIn (now (state .entry))) (lent (now («node_counts» .entry)) (now (latitudes .entry)) (now (longitudes .entry))) (lent (now («node_counts» .exit)) (now (latitudes .exit)) (now (longitudes .exit)))) (wire r (now (words .exit) ∷ now (state .exit) ∷ []) [] (now (degrees .exit))) ⌝ }
@@ -269,7 +370,7 @@ pub extern "C" fn mapsforge_stream_accept(
 
 // Past the waiting way, by its stored size.
 #[no_mangle]
-pub extern "C" fn mapsforge_stream_decline(state: &mut [u64; 7], words: &mut [u64; 6]) -> u64
+pub extern "C" fn mapsforge_stream_decline(state: &mut [u64; 8], words: &mut [u64; 6]) -> u64
     ensures { λ r. ⌜ Crosses (declineWire (lending (now (words .entry) ∷ now (state .entry) ∷ []) [] [])) (DeclineOf (streamIn (now (state .entry)))) (wire r (now (words .exit) ∷ now (state .exit) ∷ []) [] []) ⌝ }
 {
     let step = visit::decline(stream_wire::stream_in(*state));
@@ -288,7 +389,7 @@ pub extern "C" fn mapsforge_collect(
     x_max: i32,
     y_max: i32,
     tile: usize,
-    words: &mut [u64; 14],
+    words: &mut [u64; 15],
     points: &mut [u64; 256],
     ways: &mut [u64; 256],
 ) -> u64
@@ -326,7 +427,7 @@ pub extern "C" fn mapsforge_fetch(
     initial_latitudes: &mut [f64],
     initial_longitudes: &mut [f64],
     buffer: &mut [u8],
-    words: &mut [u64; 35],
+    words: &mut [u64; 37],
     signed_words: &mut [i64; 2],
     degrees: &mut [f64; 2],
     ids: &mut [u64; 15],
@@ -367,7 +468,7 @@ pub extern "C" fn mapsforge_measure_way_data(
     map: &[u8],
     at: usize,
     data_blocks: u64,
-    words: &mut [u64; 9],
+    words: &mut [u64; 10],
 ) -> u64
     ensures { λ r. ⌜ Crosses (wayDataWire (lending (now (words .entry) ∷ []) [] [])) (λ a. wayDataRes a ≡ mapRes waySizes (wayData «data_blocks» (now (map .entry)) at)) (wire r (now (words .exit) ∷ []) [] []) ⌝ }
 {
@@ -385,7 +486,7 @@ pub extern "C" fn mapsforge_read_way_data(
     node_counts: &mut [u64],
     latitudes: &mut [f64],
     longitudes: &mut [f64],
-    words: &mut [u64; 9],
+    words: &mut [u64; 10],
 ) -> u64
     ensures { λ r. ⌜ Crosses (dataWrittenWire (lending (now (words .entry) ∷ []) [] [])) (λ a. reply a (now («node_counts» .exit)) (now (latitudes .exit)) (now (longitudes .exit)) ≡ readWayData «double_delta» (wayData «data_blocks» (now (map .entry)) at) (now («node_counts» .entry)) (now (latitudes .entry)) (now (longitudes .entry))) (wire r (now (words .exit) ∷ []) [] []) ⌝ }
 {
@@ -399,4 +500,32 @@ pub extern "C" fn mapsforge_read_way_data(
         longitudes,
     );
     index_wire::put_data_written(got, words)
+}
+
+// Checks showing rules, each of four bytes, for a map with so many way tags, and fills the table with the class of each tag and zoom.
+#[no_mangle]
+pub extern "C" fn mapsforge_check_rules(
+    rules: &[u8],
+    way_tags: u16,
+    classes: &mut [u8],
+    words: &mut [u64; 6],
+) -> u64
+    ensures { λ r. ⌜ Crosses (checkedWire (lending (now (words .entry) ∷ []) [] [])) (RulesOf «way_tags» (now (rules .entry)) (now (classes .entry)) (now (classes .exit))) (wire r (now (words .exit) ∷ []) [] []) ⌝ }
+{
+    let got = showing::check_rules(rules, way_tags, classes);
+    showing_wire::put_checked(got, words)
+}
+
+// Whether a way with these tag ids is accepted at a zoom, by a table that a check of rules filled.
+#[no_mangle]
+pub extern "C" fn mapsforge_shows(
+    classes: &[u8],
+    zoom: u8,
+    ids: &[u64],
+    words: &mut [u64; 7],
+) -> u64
+    ensures { λ r. ⌜ Crosses (shownWire (lending (now (words .entry) ∷ []) [] [])) (λ b. b ≡ shown (now (classes .entry)) zoom (now (ids .entry))) (wire r (now (words .exit) ∷ []) [] []) ⌝ }
+{
+    let got = showing::shows(classes, zoom, ids);
+    showing_wire::put_shown(got, words)
 }

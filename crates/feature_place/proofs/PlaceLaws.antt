@@ -36,12 +36,15 @@ use Rattle.tile_place.specs.declared.PlaceRead.{PlaceRead}
 use Rattle.tile_place.specs.declared.PlaceRead.the-variants as place-read
 use Rattle.tile_place.proofs.PlaceLaws.{located-ordered}
 use Rattle.agreement.specs.Format.{Format, Laws}
-use Rattle.agreement.specs.Collected.{Way, way, allExact, StoredTile, collect}
+use Rattle.agreement.specs.Collected.{Way, way, StoredTile, collect, plainPoints}
 use Rattle.agreement.proofs.Chain.{Chain, stop, link}
 use Rattle.agreement.proofs.TileAgrees.{way-good, way-strict, collected}
 use Rattle.agreement.proofs.TileFormatLaws.{tile-laws, head-cut}
 use Rattle.tile_layout.specs.TileLayout.{TileKinds, formatOf}
-use Rattle.tile_walk.specs.TileWalk.{waysRes, waysRefusal, exactWays}
+use Rattle.tile_walk.specs.TileWalk.{pointsRes, pointsRefusal, plainOf, waysRes, waysRefusal, saidOfAll, saidWays}
+use Rattle.tile_walk.specs.declared.PointsRead.{PointsRead}
+use Rattle.tile_walk.specs.declared.PointsRead.the-variants as points-read
+use Rattle.tile_walk.specs.declared.WaysSaid.{WaysSaid}
 use Rattle.tile_walk.specs.declared.WaysRead.{WaysRead}
 use Rattle.tile_walk.specs.declared.WaysRead.the-variants as ways-read
 use Rattle.tile.specs.Tile.{shownTile, tileRes, collectTile, TileIs}
@@ -60,32 +63,32 @@ tile-refused g e h = taken tileRefusal h refl
 pub ruleset refusals = (needs, feature-refused, tile-refused)
 
 -- behind n points
-module _ (l : TileKinds) (m : List ℕ) (at n : ℕ) (g : End) (q : endRes n g ≡ mapRes length (many (point (l .debug) (l .points)) n m at)) where
+module _ (l : TileKinds) (m : List ℕ) (at n : ℕ) (g : PointsRead) (q : pointsRes g ≡ plainOf l m n at) where
   abbrev points : Res (List Point)
   points = many (point (l .debug) (l .points)) n m at
 
-  pub points-stop : (x y : Refusal) → g ≡ end.Refused x → y ≡ endRefusal g → refused y ≡ pointPlace l m at n
-  points-stop x y h w = ap refused (w ∙ ap endRefusal h) ∙ view-stop length points (λ _ e. answer (pointAt e)) (sym q ∙ ap (endRes n) h)
+  pub points-stop : (x y : Refusal) → g ≡ points-read.Refused x → y ≡ pointsRefusal g → refused y ≡ pointPlace l m at n
+  points-stop x y h w = ap refused (w ∙ ap pointsRefusal h) ∙ view-stop (plainPoints (formatOf l)) points (λ _ e. answer (pointAt e)) (sym q ∙ ap pointsRes h)
 
-  pub points-end : (k : ℕ) → g ≡ end.At k → answer (pointAt k) ≡ pointPlace l m at n
-  points-end k h = go points (ap (endRes n) (sym h) ∙ q)
+  pub points-end : (b : Bool) (k : ℕ) → g ≡ points-read.Value b k → answer (pointAt k) ≡ pointPlace l m at n
+  points-end b k h = go points (ap pointsRes (sym h) ∙ q)
     where
-      go : (r : Res (List Point)) → ok n k ≡ mapRes length r → answer (pointAt k) ≡ andThen r (λ _ e. answer (pointAt e))
+      go : (r : Res (List Point)) → ok b k ≡ mapRes (plainPoints (formatOf l)) r → answer (pointAt k) ≡ andThen r (λ _ e. answer (pointAt e))
       go (ok ps e) d = ap (λ a. answer (pointAt a)) (ok-at d)
       go (no k v) d = no-ok (sym d)
 
 -- behind n ways
-module _ (l : TileKinds) (m : List ℕ) (at n : ℕ) (g : WaysRead) (q : waysRes g ≡ exactWays l m n at) where
+module _ (l : TileKinds) (m : List ℕ) (at n : ℕ) (g : WaysRead) (q : waysRes g ≡ saidWays l m n at) where
   abbrev ways : Res (List (Way (formatOf l)))
   ways = many (way (formatOf l)) n m at
 
   pub ways-stop : (x y : Refusal) → g ≡ ways-read.Refused x → y ≡ waysRefusal g → refused y ≡ wayPlace l m at n
-  ways-stop x y h w = ap refused (w ∙ ap waysRefusal h) ∙ view-stop allExact ways (λ _ e. answer (wayAt e)) (sym q ∙ ap waysRes h)
+  ways-stop x y h w = ap refused (w ∙ ap waysRefusal h) ∙ view-stop (saidOfAll l) ways (λ _ e. answer (wayAt e)) (sym q ∙ ap waysRes h)
 
-  pub ways-end : (b : Bool) (k : ℕ) → g ≡ ways-read.Value b k → answer (wayAt k) ≡ wayPlace l m at n
+  pub ways-end : (b : WaysSaid) (k : ℕ) → g ≡ ways-read.Value b k → answer (wayAt k) ≡ wayPlace l m at n
   ways-end b k h = go ways (ap waysRes (sym h) ∙ q)
     where
-      go : (r : Res (List (Way (formatOf l)))) → ok b k ≡ mapRes allExact r → answer (wayAt k) ≡ andThen r (λ _ e. answer (wayAt e))
+      go : (r : Res (List (Way (formatOf l)))) → ok b k ≡ mapRes (saidOfAll l) r → answer (wayAt k) ≡ andThen r (λ _ e. answer (wayAt e))
       go (ok ps e) d = ap (λ a. answer (wayAt a)) (ok-at d)
       go (no k v) d = no-ok (sym d)
 

@@ -5,6 +5,7 @@ use tile::TileAnswer;
 use tile_head::TileHeadRead;
 use tile_layout::TileLayout;
 use tile_place::PlaceRead;
+use tile_walk::PointsRead;
 use tile_walk::WaysRead;
 use types::End;
 use types::Grid;
@@ -44,9 +45,9 @@ fn tile_refusal(answer: TileAnswer) -> Refusal
 fn point_place(map: &[u8], at: usize, n: u64, layout: TileLayout, letters: &[u8]) -> FeaturePlace
     ensures { λ r. ⌜ featurePlaceRes r ≡ pointPlace (kindsOf layout (now (letters .entry))) (now (map .entry)) at n ⌝ }
 {
-    let end = tile_walk::pass_points(map, at, n, layout, letters);
-    let End::At(next) = end else {
-        return FeaturePlace::Refused(types::end_refusal(end));
+    let got = tile_walk::measure_points(map, at, n, layout, letters);
+    let PointsRead::Value(_, next) = got else {
+        return FeaturePlace::Refused(tile_walk::points_refusal(got));
     };
     FeaturePlace::Point(next)
 }

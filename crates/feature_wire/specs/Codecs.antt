@@ -40,22 +40,23 @@ summaryIn w = record {
   ways = word w 0 12;
   rows = word w 0 9;
   exact = truth (word w 0 13);
+  plain = truth (word w 0 14);
 }
 
 abbrev pub tileIn : Wire → SummaryRead
 tileIn w = settle summary.Refused (summary.Value (summaryIn w)) w
 
-summary-with : (t : TileSummary) (s s′ : OptionalSpan) (b b′ : Bool) → s ≡ s′ → b ≡ b′ → _≡_ {A = SummaryRead} (summary.Value (record { signature = s; «first_way_offset» = t .«first_way_offset»; points = t .points; ways = t .ways; rows = t .rows; exact = b })) (summary.Value (record { signature = s′; «first_way_offset» = t .«first_way_offset»; points = t .points; ways = t .ways; rows = t .rows; exact = b′ }))
-summary-with t s s′ b b′ q1 q2 = rw (q1, q2) refl
+summary-with : (t : TileSummary) (s s′ : OptionalSpan) (b b′ a a′ : Bool) → s ≡ s′ → b ≡ b′ → a ≡ a′ → _≡_ {A = SummaryRead} (summary.Value (record { signature = s; «first_way_offset» = t .«first_way_offset»; points = t .points; ways = t .ways; rows = t .rows; exact = b; plain = a })) (summary.Value (record { signature = s′; «first_way_offset» = t .«first_way_offset»; points = t .points; ways = t .ways; rows = t .rows; exact = b′; plain = a′ }))
+summary-with t s s′ b b′ a a′ q1 q2 q3 = rw (q1, q2, q3) refl
 
-tile-spread : (w : Wire) (r : SummaryRead) → tileIn (tileWire (spreadWire (14 ∷ []) 0 0 w) r) ≡ r
-tile-spread w (summary.Value t) = summary-with t _ _ _ _ (span-back (t .signature)) (truth-back (t .exact))
+tile-spread : (w : Wire) (r : SummaryRead) → tileIn (tileWire (spreadWire (15 ∷ []) 0 0 w) r) ≡ r
+tile-spread w (summary.Value t) = summary-with t _ _ _ _ _ _ (span-back (t .signature)) (truth-back (t .exact)) (truth-back (t .plain))
 tile-spread w (summary.Refused r) = settled summary.Refused _ _ _ r
 
-pub tile-back : (w : Wire) → Lent (14 ∷ []) 0 0 w → (r : SummaryRead) → tileIn (tileWire w r) ≡ r
-tile-back w h r = spread-out (14 ∷ []) 0 0 w h (λ (v : Wire). tileIn (tileWire v r) ≡ r) (tile-spread w r)
+pub tile-back : (w : Wire) → Lent (15 ∷ []) 0 0 w → (r : SummaryRead) → tileIn (tileWire w r) ≡ r
+tile-back w h r = spread-out (15 ∷ []) 0 0 w h (λ (v : Wire). tileIn (tileWire v r) ≡ r) (tile-spread w r)
 
-abbrev pub tileCodec : (w : Wire) → Lent (14 ∷ []) 0 0 w → Codec (tileWire w)
+abbrev pub tileCodec : (w : Wire) → Lent (15 ∷ []) 0 0 w → Codec (tileWire w)
 tileCodec w h = record { decode = tileIn; back = tile-back w h }
 
 -- its rows, so many from the fronts of two lists
@@ -123,6 +124,7 @@ poiIn w = record {
   «tag_ids» = record { ids = listOf w 1; count = word w 0 7 };
   texts = textsIn w;
   elevation = metresIn (word w 0 29) (signedAt w 1);
+  plain = truth (word w 0 35);
 }
 
 abbrev pub lineIn : Wire → FetchedWay
@@ -136,6 +138,8 @@ lineIn w = record {
   «double_delta» = truth (word w 0 31);
   blocks = word w 0 32;
   nodes = word w 0 33;
+  plain = truth (word w 0 35);
+  «head_plain» = truth (word w 0 36);
 }
 
 abbrev pub fetchIn : Wire → Given
@@ -152,19 +156,19 @@ texts-back : (t : FeatureTexts) → _≡_ {A = FeatureTexts} (record {
 }) t
 texts-back t = texts-with _ _ _ _ _ _ _ _ (tags-back (t .tags)) (text-back (t .name)) (text-back (t .«house_number»)) (text-back (t .reference))
 
-poi-with : (p : FetchedPoi) (s s′ : OptionalSpan) (t t′ : FeatureTexts) (e e′ : OptionalElevation) → s ≡ s′ → t ≡ t′ → e ≡ e′ → _≡_ {A = Given} (aPoi (record { signature = s; position = p .position; layer = p .layer; «tag_ids» = p .«tag_ids»; texts = t; elevation = e })) (aPoi (record { signature = s′; position = p .position; layer = p .layer; «tag_ids» = p .«tag_ids»; texts = t′; elevation = e′ }))
-poi-with p s s′ t t′ e e′ q1 q2 q3 = rw (q1, q2, q3) refl
+poi-with : (p : FetchedPoi) (s s′ : OptionalSpan) (t t′ : FeatureTexts) (e e′ : OptionalElevation) (b b′ : Bool) → s ≡ s′ → t ≡ t′ → e ≡ e′ → b ≡ b′ → _≡_ {A = Given} (aPoi (record { signature = s; position = p .position; layer = p .layer; «tag_ids» = p .«tag_ids»; texts = t; elevation = e; plain = b })) (aPoi (record { signature = s′; position = p .position; layer = p .layer; «tag_ids» = p .«tag_ids»; texts = t′; elevation = e′; plain = b′ }))
+poi-with p s s′ t t′ e e′ b b′ q1 q2 q3 q4 = rw (q1, q2, q3, q4) refl
 
-line-with : (y : FetchedWay) (s s′ : OptionalSpan) (t t′ : FeatureTexts) (p p′ : OptionalPosition) (b b′ : Bool) → s ≡ s′ → t ≡ t′ → p ≡ p′ → b ≡ b′ → _≡_ {A = Given} (aLine (record { signature = s; bitmap = y .bitmap; layer = y .layer; «tag_ids» = y .«tag_ids»; texts = t; «label_position» = p; «double_delta» = b; blocks = y .blocks; nodes = y .nodes })) (aLine (record { signature = s′; bitmap = y .bitmap; layer = y .layer; «tag_ids» = y .«tag_ids»; texts = t′; «label_position» = p′; «double_delta» = b′; blocks = y .blocks; nodes = y .nodes }))
-line-with y s s′ t t′ p p′ b b′ q1 q2 q3 q4 = rw (q1, q2, q3, q4) refl
+line-with : (y : FetchedWay) (s s′ : OptionalSpan) (t t′ : FeatureTexts) (p p′ : OptionalPosition) (b b′ a a′ h h′ : Bool) → s ≡ s′ → t ≡ t′ → p ≡ p′ → b ≡ b′ → a ≡ a′ → h ≡ h′ → _≡_ {A = Given} (aLine (record { signature = s; bitmap = y .bitmap; layer = y .layer; «tag_ids» = y .«tag_ids»; texts = t; «label_position» = p; «double_delta» = b; blocks = y .blocks; nodes = y .nodes; plain = a; «head_plain» = h })) (aLine (record { signature = s′; bitmap = y .bitmap; layer = y .layer; «tag_ids» = y .«tag_ids»; texts = t′; «label_position» = p′; «double_delta» = b′; blocks = y .blocks; nodes = y .nodes; plain = a′; «head_plain» = h′ }))
+line-with y s s′ t t′ p p′ b b′ a a′ h h′ q1 q2 q3 q4 q5 q6 = rw (q1, q2, q3, q4, q5, q6) refl
 
-fetch-spread : (w : Wire) (a : FetchAnswer) (p : FetchedPoi) (y : FetchedWay) → fetchIn (fetchWith a p y (spreadWire (35 ∷ 15 ∷ 75 ∷ []) 2 2 w)) ≡ givenOf a p y
-fetch-spread w fetch-answer.Point p y = poi-with p _ _ _ _ _ _ (span-back (p .signature)) (texts-back (p .texts)) (metres-back (p .elevation))
-fetch-spread w fetch-answer.Way p y = line-with y _ _ _ _ _ _ _ _ (span-back (y .signature)) (texts-back (y .texts)) (place-back (y .«label_position»)) (truth-back (y .«double_delta»))
+fetch-spread : (w : Wire) (a : FetchAnswer) (p : FetchedPoi) (y : FetchedWay) → fetchIn (fetchWith a p y (spreadWire (37 ∷ 15 ∷ 75 ∷ []) 2 2 w)) ≡ givenOf a p y
+fetch-spread w fetch-answer.Point p y = poi-with p _ _ _ _ _ _ _ _ (span-back (p .signature)) (texts-back (p .texts)) (metres-back (p .elevation)) (truth-back (p .plain))
+fetch-spread w fetch-answer.Way p y = line-with y _ _ _ _ _ _ _ _ _ _ _ _ (span-back (y .signature)) (texts-back (y .texts)) (place-back (y .«label_position»)) (truth-back (y .«double_delta»)) (truth-back (y .plain)) (truth-back (y .«head_plain»))
 fetch-spread w (fetch-answer.Refused r) p y = settled-lent noFeature _ _ _ _ _ _ _ _ r
 
-pub fetch-back : (w : Wire) → Lent (35 ∷ 15 ∷ 75 ∷ []) 2 2 w → (f : Fetch) → fetchIn (fetchWire w f) ≡ given f
-fetch-back w h f = spread-out (35 ∷ 15 ∷ 75 ∷ []) 2 2 w h (λ (v : Wire). fetchIn (fetchWire v f) ≡ given f) (fetch-spread w (f .answer) (f .poi) (f .way))
+pub fetch-back : (w : Wire) → Lent (37 ∷ 15 ∷ 75 ∷ []) 2 2 w → (f : Fetch) → fetchIn (fetchWire w f) ≡ given f
+fetch-back w h f = spread-out (37 ∷ 15 ∷ 75 ∷ []) 2 2 w h (λ (v : Wire). fetchIn (fetchWire v f) ≡ given f) (fetch-spread w (f .answer) (f .poi) (f .way))
 
-abbrev pub fetchDecoder : (w : Wire) → Lent (35 ∷ 15 ∷ 75 ∷ []) 2 2 w → Decoder (fetchWire w) given
+abbrev pub fetchDecoder : (w : Wire) → Lent (37 ∷ 15 ∷ 75 ∷ []) 2 2 w → Decoder (fetchWire w) given
 fetchDecoder w h = record { decode = fetchIn; back = fetch-back w h }

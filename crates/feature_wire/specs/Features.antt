@@ -26,7 +26,7 @@ spanBefore s l = spanWords s .present ∷ spanWords s .start ∷ spanWords s .si
 
 -- collecting: words from 6 on; the rows go to two lent lists (`CollectIs` of crate tile)
 abbrev pub putSummary : TileSummary → Wire → Wire
-putSummary s w = put 0 6 (spanBefore (s .signature) (s .rows ∷ s .«first_way_offset» ∷ s .points ∷ s .ways ∷ cond (s .exact) 1 0 ∷ [])) w
+putSummary s w = put 0 6 (spanBefore (s .signature) (s .rows ∷ s .«first_way_offset» ∷ s .points ∷ s .ways ∷ cond (s .exact) 1 0 ∷ cond (s .plain) 1 0 ∷ [])) w
 
 abbrev pub tileWire : (before : Wire) → SummaryRead → Wire
 tileWire w (summary.Value s) = numbered 0 (putSummary s w)
@@ -58,13 +58,13 @@ tagWords (t ∷ l) = t .len ∷ t .tag .«key_len» ∷ t .tag .«value_len» �
 
 abbrev pub putPoint : FetchedPoi → Wire → Wire
 putPoint p w =
-    put 0 6 (0 ∷ p .«tag_ids» .count ∷ spanBefore (p .signature) (textsBefore (p .texts) (metreWords (p .elevation) .present ∷ [])))
+    put 0 35 (cond (p .plain) 1 0 ∷ []) (put 0 6 (0 ∷ p .«tag_ids» .count ∷ spanBefore (p .signature) (textsBefore (p .texts) (metreWords (p .elevation) .present ∷ [])))
     (putAll 1 (p .«tag_ids» .ids) (putAll 2 (tagWords (p .texts .tags))
-    (putSigned 0 (p .layer ∷ metreWords (p .elevation) .metres ∷ []) (putDegrees 0 (p .position .latitude ∷ p .position .longitude ∷ []) w))))
+    (putSigned 0 (p .layer ∷ metreWords (p .elevation) .metres ∷ []) (putDegrees 0 (p .position .latitude ∷ p .position .longitude ∷ []) w)))))
 
 abbrev pub putWay : FetchedWay → Wire → Wire
 putWay y w =
-    put 0 30 (y .bitmap ∷ cond (y .«double_delta») 1 0 ∷ y .blocks ∷ y .nodes ∷ placeWords (y .«label_position») .present ∷ [])
+    put 0 30 (y .bitmap ∷ cond (y .«double_delta») 1 0 ∷ y .blocks ∷ y .nodes ∷ placeWords (y .«label_position») .present ∷ cond (y .plain) 1 0 ∷ cond (y .«head_plain») 1 0 ∷ [])
     (put 0 6 (1 ∷ y .«tag_ids» .count ∷ spanBefore (y .signature) (textsBefore (y .texts) []))
     (putAll 1 (y .«tag_ids» .ids) (putAll 2 (tagWords (y .texts .tags))
     (putSigned 0 (y .layer ∷ []) (putDegrees 0 (placeWords (y .«label_position») .latitude ∷ placeWords (y .«label_position») .longitude ∷ []) w)))))

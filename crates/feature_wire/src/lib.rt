@@ -17,12 +17,13 @@ ghost use Rattle.wire.specs.Elevation.{metreWords};
 ghost use Rattle.feature_wire.specs.Features.{putSummary, tileWire, textWords, textsBefore, tagWords, putPoint, putWay, fetchWire};
 
 // What is said of a collected tile.
-fn put_summary(summary: TileSummary, words: &mut [u64; 14])
+fn put_summary(summary: TileSummary, words: &mut [u64; 15])
     ensures { λ r. ⌜ wire 0 (now (words .exit) ∷ []) [] [] ≡ putSummary summary (lending (now (words .entry) ∷ []) [] []) ⌝ }
 {
     let stored = summary.signature;
     let signature = wire::span_words(stored);
     let exact = wire::bit(summary.exact);
+    let plain = wire::bit(summary.plain);
     words[6] = signature.present;
     words[7] = signature.start;
     words[8] = signature.size;
@@ -31,9 +32,10 @@ fn put_summary(summary: TileSummary, words: &mut [u64; 14])
     words[11] = summary.points;
     words[12] = summary.ways;
     words[13] = exact;
+    words[14] = plain;
 }
 
-pub fn put_tile(read: SummaryRead, words: &mut [u64; 14]) -> u64
+pub fn put_tile(read: SummaryRead, words: &mut [u64; 15]) -> u64
     ensures { λ r. ⌜ wire r (now (words .exit) ∷ []) [] [] ≡ tileWire (lending (now (words .entry) ∷ []) [] []) read ⌝ }
 {
     match read {
@@ -81,7 +83,7 @@ fn text_words(text: OptionalText) -> TextWords
 }
 
 // Name, house number and reference.
-fn put_texts(texts: FeatureTexts, words: &mut [u64; 35])
+fn put_texts(texts: FeatureTexts, words: &mut [u64; 37])
     ensures { λ r. ⌜ now (words .exit) ≡ sets (now (words .entry)) 11 (textsBefore texts []) ⌝ }
 {
     let stored = texts.name;
@@ -144,7 +146,7 @@ fn put_signs(poi: FetchedPoi, signed_words: &mut [i64; 2])
 
 fn put_point(
     poi: FetchedPoi,
-    words: &mut [u64; 35],
+    words: &mut [u64; 37],
     signed_words: &mut [i64; 2],
     degrees: &mut [f64; 2],
     ids: &mut [u64; 15],
@@ -159,6 +161,7 @@ fn put_point(
     let position = poi.position;
     let of = poi.tag_ids;
     let texts = poi.texts;
+    let plain = wire::bit(poi.plain);
     words[6] = 0;
     words[7] = of.count as u64;
     words[8] = signature.present;
@@ -166,6 +169,7 @@ fn put_point(
     words[10] = signature.size;
     put_texts(texts, words);
     words[29] = elevation.present;
+    words[35] = plain;
     put_signs(poi, signed_words);
     degrees[0] = position.latitude;
     degrees[1] = position.longitude;
@@ -185,7 +189,7 @@ fn put_layer(way: FetchedWay, signed_words: &mut [i64; 2])
 // What a fetched way has besides its nodes.
 fn put_way(
     way: FetchedWay,
-    words: &mut [u64; 35],
+    words: &mut [u64; 37],
     signed_words: &mut [i64; 2],
     degrees: &mut [f64; 2],
     ids: &mut [u64; 15],
@@ -198,6 +202,8 @@ fn put_way(
     let stored = way.label_position;
     let label = wire::place_words(stored);
     let double_delta = wire::bit(way.double_delta);
+    let plain = wire::bit(way.plain);
+    let head_plain = wire::bit(way.head_plain);
     let of = way.tag_ids;
     let texts = way.texts;
     words[6] = 1;
@@ -211,6 +217,8 @@ fn put_way(
     words[32] = way.blocks;
     words[33] = way.nodes;
     words[34] = label.present;
+    words[35] = plain;
+    words[36] = head_plain;
     put_layer(way, signed_words);
     degrees[0] = label.latitude;
     degrees[1] = label.longitude;
@@ -222,7 +230,7 @@ fn put_way(
 
 pub fn put_fetch(
     fetch: Fetch,
-    words: &mut [u64; 35],
+    words: &mut [u64; 37],
     signed_words: &mut [i64; 2],
     degrees: &mut [f64; 2],
     ids: &mut [u64; 15],

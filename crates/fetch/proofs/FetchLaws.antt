@@ -24,6 +24,7 @@ use Rattle.types.specs.declared.End.{End}
 use Rattle.types.specs.declared.End.the-variants as end
 use Rattle.types.specs.declared.TagRange.{TagRange}
 use Rattle.tag_table.specs.Tables.{kindsBy}
+use Rattle.agreement.specs.TileFormat.{tileEnd}
 use Rattle.agreement.specs.Format.{Format}
 use Rattle.agreement.specs.Collected as collected
 use Rattle.agreement.specs.Collected.{Way, way, StoredTile, storedTile, collect}
@@ -201,7 +202,7 @@ module _ {A : Type 0} (p : Parser A) (m : List ℕ) where
       record { before = a ∷ s .before; at = s .at; value = s .value; end = s .end; reached = rw (h, s .reached) refl; read = s .read; kth = s .kth }
 
 -- in a tile that collects, a read from where feature k stands gives what the fetch gives
-module _ (l : TileLayout) (starts letters : List ℕ) (H : Parser TileHead) (m : List ℕ) (i : ℕ) (t : StoredTile (formatOf (kindsOf l letters))) (z : ℕ) (c : collect H (formatOf (kindsOf l letters)) m i ≡ ok t z) (e : formatOf (kindsOf l letters) .End) (k : ℕ) where
+module _ (l : TileLayout) (starts letters : List ℕ) (H : Parser TileHead) (m : List ℕ) (i : ℕ) (t : StoredTile (formatOf (kindsOf l letters))) (z : ℕ) (c : collect H (formatOf (kindsOf l letters)) m i ≡ ok t z) (e : TileHead → formatOf (kindsOf l letters) .End) (k : ℕ) where
   abbrev F : Format
   F = formatOf (kindsOf l letters)
 
@@ -257,8 +258,8 @@ module _ (l : TileLayout) (starts letters : List ℕ) (i : Maybe Interval) (grid
     where
       collects : (a : Located) (r : Res (StoredTile (formatOf (kindsOf l letters)))) → collect (locatedHead (l .debug) a) (formatOf (kindsOf l letters)) m (tileAt a) ≡ r
           → answered (andThen (andThen r (λ t _. placeIn (formatOf (kindsOf l letters)) t k m)) (λ p _. readAt l starts letters p m))
-          ≡ andThen r (λ t _. given l starts letters m (collected.fetch (storedTile t (record { subFile = 0; water = a .entry .water })) k))
-      collects a (ok t z) c = place-gives l starts letters (locatedHead (l .debug) a) m (tileAt a) t z c (record { subFile = 0; water = a .entry .water }) k
+          ≡ andThen r (λ t _. given l starts letters m (collected.fetch (storedTile t (tileEnd 0 (a .entry .water))) k))
+      collects a (ok t z) c = place-gives l starts letters (locatedHead (l .debug) a) m (tileAt a) t z c (tileEnd 0 (a .entry .water)) k
       collects a (no n v) c = refl
 
       located : (r : Res Located) → answered (andThen (andThen r (λ a _. andThen (collect (locatedHead (l .debug) a) (formatOf (kindsOf l letters)) m (tileAt a)) (λ t _. placeIn (formatOf (kindsOf l letters)) t k m))) (λ p _. readAt l starts letters p m)) ≡ andThen r (λ a _. fetchAt l starts letters k a m)

@@ -17,7 +17,7 @@ use Rattle.types.specs.declared.End.{End}
 use Rattle.types.specs.declared.End.the-variants as end
 use Rattle.tag_table.specs.Tables.{kindsBy}
 use Rattle.tag.specs.declared.Kind.{Kind}
-use Rattle.agreement.specs.TileFormat.{tileFormat}
+use Rattle.agreement.specs.TileFormat.{tileEnd, tileFormat}
 use Rattle.agreement.specs.Collected as collected
 use Rattle.agreement.specs.Collected.{storedCollection, storedTile, collect}
 use Rattle.tile_layout.specs.TileLayout.{kindsOf, formatOf}
@@ -61,7 +61,7 @@ given l starts letters m f =
 abbrev pub fetchAt : TileLayout → (starts letters : List ℕ) → (k : ℕ) → Located → List ℕ → Res (Fetched Feature)
 fetchAt l starts letters k a m =
     andThen (collect (locatedHead (l .debug) a) (formatOf (kindsOf l letters)) m (tileAt a)) (λ t _.
-    given l starts letters m (collected.fetch (storedTile t (record { subFile = 0; water = a .entry .water })) k))
+    given l starts letters m (collected.fetch (storedTile t (tileEnd 0 (a .entry .water))) k))
 
 -- refused as collecting is (sub file, grid, tile, its entry and the next one, interval, the tile's bytes), then 17
 unfoldable pub fetchTile : TileLayout → (starts letters : List ℕ) → Maybe Interval → Grid → (number k : ℕ) → List ℕ → Res (Fetched Feature)

@@ -40,6 +40,7 @@ poiWith p t = record {
   «tag_ids» = p .«tag_ids»;
   texts = t;
   elevation = p .elevation;
+  plain = p .plain;
 }
 
 -- where a fetch is refused

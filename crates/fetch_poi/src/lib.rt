@@ -37,6 +37,7 @@ pub fn empty_poi() -> FetchedPoi
         },
         texts: feature_tags::no_texts(),
         elevation: OptionalElevation::Absent,
+        plain: false,
     }
 }
 
@@ -77,6 +78,7 @@ fn poi_with(poi: Poi, texts: FeatureTexts) -> FetchedPoi
         tag_ids,
         texts,
         elevation,
+        plain: poi.plain,
     }
 }
 

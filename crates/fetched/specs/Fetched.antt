@@ -113,6 +113,7 @@ poiRecord nameOf p = record {
   «tag_ids» = tagIds (p .tagged .ids);
   texts = featureTexts nameOf (p .tagged .ids) (p .name) (p .houseNumber) none;
   elevation = optionalElevation (p .elevation);
+  plain = p .plain;
 }
 
 -- a point has no lists
@@ -138,6 +139,8 @@ wayRecord nameOf h b = record {
   «double_delta» = doubleDelta (b .fields);
   blocks = length (concat (b .dataBlocks));
   nodes = nodeCount (concat (b .dataBlocks));
+  plain = h .plain && b .plain;
+  «head_plain» = h .plain;
 }
 
 abbrev pub wayLists : (ℕ → List ℕ) → Head → Body → FetchLists

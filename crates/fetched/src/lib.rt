@@ -27,7 +27,7 @@ pub struct FeatureTexts {
     pub reference: OptionalText,
 }
 
-// A fetched point. Its signature is a raw part of the map.
+// A fetched point. Its signature is a raw part of the map. `plain`: whether every number of it was.
 pub struct FetchedPoi {
     pub signature: OptionalSpan,
     pub position: Position,
@@ -35,9 +35,11 @@ pub struct FetchedPoi {
     pub texts: FeatureTexts,
     pub elevation: OptionalElevation,
     pub layer: i8,
+    pub plain: bool,
 }
 
-// A fetched way. `blocks` and `nodes` count what stands in the lent lists.
+// A fetched way. `blocks` and `nodes` count what stands in the lent lists. `plain`: whether every number of it was; `head_plain`: of its
+// head, as a stream's next says.
 pub struct FetchedWay {
     pub signature: OptionalSpan,
     pub tag_ids: TagIds,
@@ -48,6 +50,8 @@ pub struct FetchedWay {
     pub bitmap: u16,
     pub layer: i8,
     pub double_delta: bool,
+    pub plain: bool,
+    pub head_plain: bool,
 }
 
 // Where a feature that is fetched ends, or why there is none.

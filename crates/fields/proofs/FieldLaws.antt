@@ -1,26 +1,30 @@
 -- Fields of points and ways, in definitions that go on from them.
 use Prim.Native.Nat.{ℕ}
 use mathlib.Core.Path.{_≡_, refl, sym, ap, _∙_}
-use mathlib.Core.Bool.{Bool, true, false}
+use mathlib.Core.Bool.{Bool, true, false, _&&_}
 use mathlib.Core.List.{List}
 use borrow.Author.Needs.{needs}
 use borrow.Author.Tests.{not-true, not-false}
 use Rattle.parsing.specs.Parse.{Res, ok, no, Parser, Part, Maybe, none, some, andThen, mapRes, optional, part}
 use Rattle.parsing.proofs.Steps.{step, then-then}
+use Rattle.parsing.proofs.Views.{viewed}
 use Rattle.error.specs.Refusals.{refused}
 use Rattle.error.specs.declared.Refusal.{Refusal}
 use Rattle.byte_source.specs.declared.Span.{Span}
 use Rattle.byte_source.specs.Answers.{spanBytes, spanRes, spanRefusal}
 use Rattle.byte_source.specs.declared.SpanRead.{SpanRead}
 use Rattle.byte_source.specs.declared.SpanRead.the-variants as bytes
-use Rattle.byte_source.proofs.ReadLaws.{Taken, ViewPasses, view-passes, ViewStops, view-stops, stop, taken, byte-ok, byte-no}
+use Rattle.byte_source.proofs.ReadLaws.{Taken, ViewStops, view-stops, stop, taken, byte-ok, byte-no}
 use Rattle.text.specs.Utf8.{valid}
-use Rattle.utils.specs.Vbe.{text, coordinate}
-use Rattle.utils.specs.Answers.{microRes, microRefusal}
-use Rattle.utils.specs.declared.Microdegrees.{Microdegrees}
+use Rattle.utils.specs.Vbe.{Noted, noted, text, notedText, notedCoordinate}
+use Rattle.utils.specs.Answers.{microRes, microRefusal, textRes, textRefusal}
+use Rattle.utils.specs.declared.Coordinate.{Coordinate}
+use Rattle.utils.specs.declared.Text.{Text}
+use Rattle.utils.specs.declared.TextRead.{TextRead}
+use Rattle.utils.specs.declared.TextRead.the-variants as text-read
 use Rattle.utils.specs.declared.MicroRead.{MicroRead}
 use Rattle.utils.specs.declared.MicroRead.the-variants as micro
-use Rattle.format.specs.Tile.{debugSignature}
+use Rattle.format.specs.Tile.{debugSignature, maybeValue, maybePlain}
 use Rattle.format.specs.WayData.{Node, node}
 use Rattle.types.specs.Types.{optionalSpan, maybePart, nodePosition, positionOf}
 use Rattle.types.specs.declared.Position.{Position}
@@ -31,19 +35,26 @@ use Rattle.types.specs.declared.End.{End}
 use Rattle.types.proofs.TypeLaws as types
 use Rattle.types.proofs.TypeLaws.{part-back}
 use Rattle.types.proofs.BesideLaws.{beside-same, beside-after}
-use Rattle.fields.specs.Fields.{optionalSpanRes, optionalSpanRefusal, positionRes, positionRefusal, streamedSpan}
+use Rattle.fields.specs.Fields.{optionalSpanRes, optionalSpanRefusal, maybeNoted, notedSpanRes, notedSpanRefusal, positionRes, positionRefusal, notedPosition, streamedSpan}
 use Rattle.fields.specs.declared.OptionalSpanRead.{OptionalSpanRead}
 use Rattle.fields.specs.declared.OptionalSpanRead.the-variants as span
+use Rattle.fields.specs.declared.NotedSpan.{NotedSpan}
+use Rattle.fields.specs.declared.NotedSpanRead.{NotedSpanRead}
+use Rattle.fields.specs.declared.NotedSpanRead.the-variants as noted-span
+use Rattle.fields.specs.declared.NotedPosition.{NotedPosition}
 use Rattle.fields.specs.declared.PositionRead.{PositionRead}
 use Rattle.fields.specs.declared.PositionRead.the-variants as position
 
 pub optional-span-refused : Taken optionalSpanRefusal span.Refused
 optional-span-refused g e h = taken optionalSpanRefusal h refl
 
+pub noted-span-refused : Taken notedSpanRefusal noted-span.Refused
+noted-span-refused g e h = taken notedSpanRefusal h refl
+
 pub position-refused : Taken positionRefusal position.Refused
 position-refused g e h = taken positionRefusal h refl
 
-pub ruleset refusals = (types.refusals, optional-span-refused, position-refused)
+pub ruleset refusals = (types.refusals, optional-span-refused, noted-span-refused, position-refused)
 
 -- a field that a flag announces, by the flag: as it is, and in a definition that goes on from it
 module _ {A : Type 0} (p : Parser A) (m : List ℕ) (at : ℕ) (c : Bool) (x : Res (Maybe A)) where
@@ -79,11 +90,24 @@ module _ {B : Type 0} (m : List ℕ) (g : OptionalSpanRead) (r : Res (Maybe Part
   pub optional-span-no : (e′ e : Refusal) → optionalSpanRes m g ≡ r → g ≡ span.Refused e → e′ ≡ optionalSpanRefusal g → refused e′ ≡ andThen r f
   optional-span-no e′ e q h p = stop (optionalSpanRes m) optionalSpanRefusal r f q h p refl refl
 
-pub position-ok : {B : Type 0} → ViewPasses B positionRes nodePosition position.Value
-position-ok = view-passes _ positionRes nodePosition position.Value (λ v n. refl)
+-- the same of what is noted: known by what is handed out, and by the flag
+module _ {B : Type 0} (m : List ℕ) (g : NotedSpanRead) (r : Res (Maybe (Noted Part))) (f : Maybe (Noted Part) → ℕ → Res B) where
+  pub noted-span-ok : (v : NotedSpan) (n : ℕ) (x : Res B) → notedSpanRes m g ≡ mapRes maybeNoted r → g ≡ noted-span.Value v n → ((a : Maybe (Noted Part)) → v .span ≡ optionalSpan (maybeValue a) → v .plain ≡ maybePlain a → x ≡ f a n) → x ≡ andThen r f
+  noted-span-ok v n x q h p =
+      viewed maybeNoted r f (sym q ∙ ap (notedSpanRes m) h)
+      (λ a e. p a (sym (part-back m (v .span)) ∙ ap (λ (z : Noted (Maybe Part)). optionalSpan (z .value)) e) (ap (λ (z : Noted (Maybe Part)). z .plain) e))
 
-pub position-no : {B : Type 0} → ViewStops B positionRes nodePosition positionRefusal position.Refused
-position-no = view-stops _ positionRes nodePosition positionRefusal position.Refused (λ e. refl) (λ e. refl)
+  pub noted-span-no : (e′ e : Refusal) → notedSpanRes m g ≡ mapRes maybeNoted r → g ≡ noted-span.Refused e → e′ ≡ notedSpanRefusal g → refused e′ ≡ andThen r f
+  noted-span-no e′ e q h p = view-stops B (notedSpanRes m) maybeNoted notedSpanRefusal noted-span.Refused (λ e. refl) (λ e. refl) g e′ e r f q h p
+
+module _ {B : Type 0} (g : PositionRead) (r : Res (Noted Node)) (f : Noted Node → ℕ → Res B) where
+  pub position-ok : (v : NotedPosition) (n : ℕ) (x : Res B) → positionRes g ≡ mapRes notedPosition r → g ≡ position.Value v n → ((a : Noted Node) → v .position ≡ nodePosition (a .value) → v .plain ≡ a .plain → x ≡ f a n) → x ≡ andThen r f
+  position-ok v n x q h p =
+      viewed notedPosition r f (sym q ∙ ap positionRes h)
+      (λ a e. p a (ap (λ (z : Noted Position). z .value) e) (ap (λ (z : Noted Position). z .plain) e))
+
+pub position-no : {B : Type 0} → ViewStops B positionRes notedPosition positionRefusal position.Refused
+position-no = view-stops _ positionRes notedPosition positionRefusal position.Refused (λ e. refl) (λ e. refl)
 
 -- in front of a read whose value stands beside its end
 module _ {A C : Type 0} (view : A → C) (empty w : C) (z : End) where
@@ -91,47 +115,57 @@ module _ {A C : Type 0} (view : A → C) (empty w : C) (z : End) where
   optional-span-then m g v n r f q h p =
       beside-same view empty (andThen r f) (f (maybePart m v) n) w z (p (maybePart m v) (sym (part-back m v))) (step (optionalSpanRes m) r f q h refl)
 
-  pub position-then : (g : PositionRead) (v : Position) (n : ℕ) (r : Res Node) (f : Node → ℕ → Res A) → positionRes g ≡ mapRes nodePosition r → g ≡ position.Value v n → ((a : Node) → v ≡ nodePosition a → Beside view empty (f a n) w z) → Beside view empty (andThen r f) w z
-  position-then g v n r f q h p = beside-after view empty (andThen r f) nodePosition r f v n w z (sym q ∙ ap positionRes h) p refl
+  pub position-then : (g : PositionRead) (v : NotedPosition) (n : ℕ) (r : Res (Noted Node)) (f : Noted Node → ℕ → Res A) → positionRes g ≡ mapRes notedPosition r → g ≡ position.Value v n → ((a : Noted Node) → v .position ≡ nodePosition (a .value) → v .plain ≡ a .plain → Beside view empty (f a n) w z) → Beside view empty (andThen r f) w z
+  position-then g v n r f q h p =
+      beside-after view empty (andThen r f) notedPosition r f (noted (v .position) (v .plain)) n w z (sym q ∙ ap positionRes h)
+      (λ a e. p a (ap (λ (z : Noted Position). z .value) e) (ap (λ (z : Noted Position). z .plain) e)) refl
 
-pub ruleset reads = (types.reads, optional-span-ok, optional-span-no, position-ok, position-no)
+pub ruleset reads = (types.reads, optional-span-ok, optional-span-no, noted-span-ok, noted-span-no, position-ok, position-no)
 
 -- flags, and the fields that they announce: so many reads that only these laws are tried
-pub ruleset announced = (needs, then-then, byte-ok, byte-no, optional-span-ok, optional-span-no)
+pub ruleset announced = (needs, then-then, byte-ok, byte-no, noted-span-ok, noted-span-no)
 
 pub ruleset flagged = (reads, not-true, not-false, optional-yes, optional-no, optional-on, optional-off)
 
 -- what this crate reads, by the answers: the searches are here, where little is known
-module _ (m : List ℕ) (at : ℕ) (f : Bool) (o : f ≡ true) (g : SpanRead) where
-  module _ (q : spanRes m g ≡ text m at) where
-    pub no-text : (x y : Refusal) → g ≡ bytes.Refused x → y ≡ spanRefusal g → refused y ≡ optional f text m at
-    no-text x y h w = search flagged
+module _ (m : List ℕ) (at : ℕ) (f : Bool) (o : f ≡ true) where
+  module _ (g : TextRead) (q : textRes m g ≡ notedText m at) where
+    pub no-noted-text : (x y : Refusal) → g ≡ text-read.Refused x → y ≡ textRefusal g → refused y ≡ mapRes maybeNoted (optional f notedText m at)
+    no-noted-text x y h w = search flagged
 
-    pub some-text : (s : Span) (n : ℕ) → g ≡ bytes.Value s n → ok (maybePart m (At s)) n ≡ optional f text m at
-    some-text s n h = search flagged
+    pub some-noted-text : (t : Text) (n : ℕ) → g ≡ text-read.Value t n → ok (noted (maybePart m (At (t .span))) (t .plain)) n ≡ mapRes maybeNoted (optional f notedText m at)
+    some-noted-text t n h = search flagged
 
-  module _ (q : spanRes m g ≡ part 32 m at) where
-    pub no-signature : (x y : Refusal) → g ≡ bytes.Refused x → y ≡ spanRefusal g → refused y ≡ debugSignature f m at
-    unfolding debugSignature
-    no-signature x y h w = search flagged
+  module _ (g : SpanRead) where
+    module _ (q : spanRes m g ≡ text m at) where
+      pub no-text : (x y : Refusal) → g ≡ bytes.Refused x → y ≡ spanRefusal g → refused y ≡ optional f text m at
+      no-text x y h w = search flagged
 
-    pub some-signature : (s : Span) (n : ℕ) → g ≡ bytes.Value s n → ok (maybePart m (At s)) n ≡ debugSignature f m at
-    unfolding debugSignature
-    some-signature s n h = search flagged
+      pub some-text : (s : Span) (n : ℕ) → g ≡ bytes.Value s n → ok (maybePart m (At s)) n ≡ optional f text m at
+      some-text s n h = search flagged
 
-module _ (m : List ℕ) (at : ℕ) (g : MicroRead) (q : microRes g ≡ coordinate m at) where
-  pub no-latitude : (x y : Refusal) → g ≡ micro.Refused x → y ≡ microRefusal g → refused y ≡ mapRes nodePosition (node m at)
+    module _ (q : spanRes m g ≡ part 32 m at) where
+      pub no-signature : (x y : Refusal) → g ≡ bytes.Refused x → y ≡ spanRefusal g → refused y ≡ debugSignature f m at
+      unfolding debugSignature
+      no-signature x y h w = search flagged
+
+      pub some-signature : (s : Span) (n : ℕ) → g ≡ bytes.Value s n → ok (maybePart m (At s)) n ≡ debugSignature f m at
+      unfolding debugSignature
+      some-signature s n h = search flagged
+
+module _ (m : List ℕ) (at : ℕ) (g : MicroRead) (q : microRes g ≡ notedCoordinate m at) where
+  pub no-latitude : (x y : Refusal) → g ≡ micro.Refused x → y ≡ microRefusal g → refused y ≡ mapRes notedPosition (node m at)
   unfolding node
   no-latitude x y h w = search flagged
 
-  module _ (a : Microdegrees) (i : ℕ) (h : g ≡ micro.Value a i) (b : MicroRead) (d : microRes b ≡ coordinate m i) where
-    pub no-longitude : (x y : Refusal) → b ≡ micro.Refused x → y ≡ microRefusal b → refused y ≡ mapRes nodePosition (node m at)
+  module _ (a : Coordinate) (i : ℕ) (h : g ≡ micro.Value a i) (b : MicroRead) (d : microRes b ≡ notedCoordinate m i) where
+    pub no-longitude : (x y : Refusal) → b ≡ micro.Refused x → y ≡ microRefusal b → refused y ≡ mapRes notedPosition (node m at)
     unfolding node
     no-longitude x y k w = search flagged
 
-    pub whole-position : (o : Microdegrees) (n : ℕ) (p : Position) → b ≡ micro.Value o n → p ≡ positionOf (a .0) (o .0) → ok p n ≡ mapRes nodePosition (node m at)
+    pub whole-position : (o : Coordinate) (n : ℕ) (p : Position) (c : Bool) → b ≡ micro.Value o n → p ≡ positionOf (a .value .0) (o .value .0) → c ≡ (a .plain && o .plain) → ok (noted p c) n ≡ mapRes notedPosition (node m at)
     unfolding node
-    whole-position o n p k w = search flagged
+    whole-position o n p c k w z = rw (w, z) (search flagged)
 
 -- a text as it is streamed
 module _ (m : List ℕ) (o : OptionalSpan) where

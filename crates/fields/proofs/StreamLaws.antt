@@ -8,8 +8,9 @@ use lib.ListN.{length, take, drop}
 use Rattle.parsing.specs.Parse.{ok, no, Parser, bind, return, fail, pick, chunk, Part, part, Maybe, none, some, optional}
 use Rattle.parsing.specs.Good.{split, ok-val, no-ok}
 use Rattle.text.specs.Utf8.{valid}
-use Rattle.utils.specs.Vbe.{unsigned, text}
+use Rattle.utils.specs.Vbe.{noted, notedUnsigned, notedText, text}
 use Rattle.format.specs.Streamed.{streamedMaybe}
+use Rattle.format.specs.Tile.{maybeValue}
 use Rattle.types.specs.Types.{optionalSpan}
 use Rattle.types.specs.declared.OptionalSpan.the-variants.{At}
 use Rattle.fields.specs.Fields.{streamedSpan}
@@ -63,14 +64,20 @@ part-within m n = record {
       subst (PartOf m) (ok-val (s .second)) (record { bytes = chunk-bytes m n i (s .val) (s .mid) (s .first) });
 }
 
+pub noted-within : (m : List ℕ) → Gives m notedText (λ t. PartOf m (t .value))
+unfolding notedText
+noted-within m =
+    gives-bind m (any m notedUnsigned)
+    (λ n _. gives-pick m (leb (n .value) (2 ^ 20)) (gives-bind m (part-within m (n .value)) (λ p h. gives-return m (noted p (n .plain)) _ h)) (gives-fail m 9 [] _))
+
 pub text-within : (m : List ℕ) → Gives m text (PartOf m)
 unfolding text
-text-within m = gives-bind m (any m unsigned) (λ n _. gives-pick m (leb n (2 ^ 20)) (part-within m n) (gives-fail m 9 [] (PartOf m)))
+text-within m = gives-bind m (noted-within m) (λ t h. gives-return m (t .value) (PartOf m) h)
 
-pub optional-within : (m : List ℕ) (c : Bool) → Gives m (optional c text) (Within m)
+pub optional-within : (m : List ℕ) (c : Bool) → Gives m (optional c notedText) (λ q. Within m (maybeValue q))
 unfolding optional
-optional-within m true = gives-bind m (text-within m) (λ p h. gives-return m (some p) (Within m) (stored h))
-optional-within m false = gives-return m none (Within m) absent
+optional-within m true = gives-bind m (noted-within m) (λ t h. gives-return m (some t) _ (stored h))
+optional-within m false = gives-return m none _ absent
 
 pub streamed-view : (m : List ℕ) (q : Maybe Part) → Within m q → streamedSpan m (optionalSpan q) ≡ optionalSpan (streamedMaybe q)
 streamed-view m none absent = refl

@@ -5,21 +5,38 @@ use error::Refusal;
 use types::OptionalSpan;
 use types::Position;
 use utils::MicroRead;
+use utils::TextRead;
 ghost use mathlib.Core.Path.{_≡_};
 ghost use Rattle.parsing.specs.Parse.{mapRes, optional};
-ghost use Rattle.utils.specs.Vbe.{text};
+ghost use Rattle.utils.specs.Vbe.{text, notedText};
 ghost use Rattle.format.specs.WayData.{node};
 ghost use Rattle.format.specs.Tile.{debugSignature};
-ghost use Rattle.types.specs.Types.{nodePosition};
-ghost use Rattle.fields.specs.Fields.{optionalSpanRes, optionalSpanRefusal, positionRes, positionRefusal, streamedSpan};
+ghost use Rattle.fields.specs.Fields.{optionalSpanRes, optionalSpanRefusal, notedSpanRes, notedSpanRefusal, maybeNoted, positionRes, positionRefusal, notedPosition, streamedSpan};
 
 pub enum OptionalSpanRead {
     Value(OptionalSpan, usize),
     Refused(Refusal),
 }
 
+// A text that a flag announces, and whether the encoding of its length was plain; without the text there is no number that is not.
+pub struct NotedSpan {
+    pub span: OptionalSpan,
+    pub plain: bool,
+}
+
+pub enum NotedSpanRead {
+    Value(NotedSpan, usize),
+    Refused(Refusal),
+}
+
+// A position, and whether the encodings of both coordinates were plain.
+pub struct NotedPosition {
+    pub position: Position,
+    pub plain: bool,
+}
+
 pub enum PositionRead {
-    Value(Position, usize),
+    Value(NotedPosition, usize),
     Refused(Refusal),
 }
 
@@ -29,6 +46,15 @@ pub fn optional_span_refusal(got: OptionalSpanRead) -> Refusal
     match got {
         OptionalSpanRead::Refused(r) => r,
         OptionalSpanRead::Value(_, _) => Refusal::Source,
+    }
+}
+
+pub fn noted_span_refusal(got: NotedSpanRead) -> Refusal
+    ensures { λ r. ⌜ r ≡ notedSpanRefusal got ⌝ }
+{
+    match got {
+        NotedSpanRead::Refused(r) => r,
+        NotedSpanRead::Value(_, _) => Refusal::Source,
     }
 }
 
@@ -55,7 +81,7 @@ pub fn read_signature(map: &[u8], at: usize, debug: bool) -> OptionalSpanRead
     OptionalSpanRead::Value(OptionalSpan::At(span), next)
 }
 
-// A text that a flag announces.
+// A text that a flag announces, alone.
 pub fn read_optional_text(map: &[u8], at: usize, flag: bool) -> OptionalSpanRead
     ensures { λ r. ⌜ optionalSpanRes (now (map .entry)) r ≡ optional flag text (now (map .entry)) at ⌝ }
 {
@@ -69,9 +95,36 @@ pub fn read_optional_text(map: &[u8], at: usize, flag: bool) -> OptionalSpanRead
     OptionalSpanRead::Value(OptionalSpan::At(span), next)
 }
 
+// A text that a flag announces, with whether it was plain.
+pub fn read_noted_text(map: &[u8], at: usize, flag: bool) -> NotedSpanRead
+    ensures { λ r. ⌜ notedSpanRes (now (map .entry)) r ≡ mapRes maybeNoted (optional flag notedText (now (map .entry)) at) ⌝ }
+{
+    if !flag {
+        return NotedSpanRead::Value(
+            NotedSpan {
+                span: OptionalSpan::Absent,
+                plain: true,
+            },
+            at,
+        );
+    }
+    let got = utils::read_text(map, at);
+    let TextRead::Value(text, next) = got else {
+        return NotedSpanRead::Refused(utils::text_refusal(got));
+    };
+    let span = text.span;
+    NotedSpanRead::Value(
+        NotedSpan {
+            span: OptionalSpan::At(span),
+            plain: text.plain,
+        },
+        next,
+    )
+}
+
 // Latitude, then longitude, in degrees.
 pub fn read_position(map: &[u8], at: usize) -> PositionRead
-    ensures { λ r. ⌜ positionRes r ≡ mapRes nodePosition (node (now (map .entry)) at) ⌝ }
+    ensures { λ r. ⌜ positionRes r ≡ mapRes notedPosition (node (now (map .entry)) at) ⌝ }
 {
     let got = utils::read_microdegrees(map, at);
     let MicroRead::Value(latitude, at) = got else {
@@ -81,7 +134,15 @@ pub fn read_position(map: &[u8], at: usize) -> PositionRead
     let MicroRead::Value(longitude, at) = got else {
         return PositionRead::Refused(utils::micro_refusal(got));
     };
-    PositionRead::Value(types::position_of(latitude, longitude), at)
+    let y = latitude.value;
+    let x = longitude.value;
+    PositionRead::Value(
+        NotedPosition {
+            position: types::position_of(y, x),
+            plain: types::both(latitude.plain, longitude.plain),
+        },
+        at,
+    )
 }
 
 // A text as it is streamed: a part of the map, empty if it is not valid UTF-8.

@@ -7,7 +7,7 @@ use mathlib.Core.List.{List, [], _∷_}
 use lib.IntN.{ℤ, pos, negsuc}
 use Rattle.parsing.specs.Parse.{ok, no, part}
 use Rattle.byte_source.specs.BigEndian.{bigEndianOf, bigEndian}
-use Rattle.utils.specs.Vbe.{groups, unsigned, signed, coordinate, text}
+use Rattle.utils.specs.Vbe.{groups, noted, notedUnsigned, notedSigned, notedCoordinate, notedText, unsigned, signed, coordinate, text}
 use Rattle.text.specs.Utf8.{follow, sequenceBy, sequencesFrom, allChars, valid, codesOf, codePoints, bytesOfAll, replaced}
 use Rattle.text.specs.Hash.{hashFrom, hash}
 use Rattle.tag.specs.Tag.{equalsAt, keyOf, valueOf as tagValue, letterAfter, kind}
@@ -19,6 +19,9 @@ pub data Figure : Type 0 where
   -- these bytes are this number, and there are so many of them
   an-unsigned : List ℕ → ℕ → ℕ → Figure
   a-signed : List ℕ → ℤ → ℕ → Figure
+  -- and whether it is plain (request 6 of document 02)
+  noted-unsigned : List ℕ → ℕ → Bool → ℕ → Figure
+  noted-signed : List ℕ → ℤ → Bool → ℕ → Figure
   -- these bytes are refused with this number
   no-unsigned : List ℕ → ℕ → Figure
   no-coordinate : List ℕ → ℕ → Figure
@@ -37,6 +40,8 @@ pub data Figure : Type 0 where
 abbrev pub Holds : Figure → Type 0
 Holds (an-unsigned s v n) = unsigned s 0 ≡ ok v n
 Holds (a-signed s v n) = signed s 0 ≡ ok v n
+Holds (noted-unsigned s v p n) = notedUnsigned s 0 ≡ ok (noted v p) n
+Holds (noted-signed s v p n) = notedSigned s 0 ≡ ok (noted v p) n
 Holds (no-unsigned s r) = unsigned s 0 ≡ no r []
 Holds (no-coordinate s r) = coordinate s 0 ≡ no r []
 Holds (no-text s r) = text s 0 ≡ no r []
@@ -62,6 +67,16 @@ figures =
     ∷ a-signed (0x41 ∷ []) (negsuc 0) 1
     ∷ a-signed (0xC0 ∷ 0x00 ∷ []) (pos 64) 2
     ∷ a-signed (0xC0 ∷ 0x40 ∷ []) (negsuc 63) 2
+    ∷ noted-unsigned (0x00 ∷ []) 0 true 1
+    ∷ noted-unsigned (0x80 ∷ 0x00 ∷ []) 0 false 2
+    ∷ noted-unsigned (0x80 ∷ 0x01 ∷ []) 128 true 2
+    ∷ noted-signed (0x40 ∷ []) (pos 0) false 1
+    ∷ noted-signed (0x41 ∷ []) (negsuc 0) true 1
+    ∷ noted-signed (0x80 ∷ 0x00 ∷ []) (pos 0) false 2
+    ∷ noted-signed (0xBF ∷ 0x00 ∷ []) (pos 63) false 2
+    ∷ noted-signed (0x81 ∷ 0x40 ∷ []) (negsuc 0) false 2
+    ∷ noted-signed (0xC0 ∷ 0x00 ∷ []) (pos 64) true 2
+    ∷ noted-signed (0xC0 ∷ 0x40 ∷ []) (negsuc 63) true 2
     ∷ no-unsigned [] 1
     ∷ no-unsigned (0x80 ∷ 0x80 ∷ 0x80 ∷ 0x80 ∷ 0x80 ∷ 0x80 ∷ 0x80 ∷ 0x80 ∷ 0x80 ∷ []) 11
     ∷ no-coordinate (0x81 ∷ 0x80 ∷ 0x80 ∷ 0x80 ∷ 0x80 ∷ 0x80 ∷ 0x80 ∷ 0x10 ∷ []) 12
@@ -84,7 +99,7 @@ figures =
     ∷ []
 
 pub figures-hold : AllHold figures
-unfolding groups unsigned signed coordinate text part follow sequenceBy sequencesFrom allChars codesOf bytesOfAll hashFrom equalsAt letterAfter bigEndianOf bigEndian entry
+unfolding groups notedUnsigned notedSigned notedCoordinate notedText unsigned signed coordinate text part follow sequenceBy sequencesFrom allChars codesOf bytesOfAll hashFrom equalsAt letterAfter bigEndianOf bigEndian entry
 figures-hold =
     refl and refl and refl and refl and refl and refl and refl and refl and refl and refl and refl and refl and refl and refl
-    and refl and refl and refl and refl and refl and refl and refl and refl and refl and refl and refl and refl and done
+    and refl and refl and refl and refl and refl and refl and refl and refl and refl and refl and refl and refl and refl and refl and refl and refl and refl and refl and refl and refl and refl and refl and done

@@ -62,6 +62,6 @@ unfolding locate locateIn located locatedEntry nextOffset entry gridTiles bigEnd
 reversed = refl
 
 -- an empty tile has a zero row for each level, and no signature in a debug map
-no-bytes : markedHead true true 2 [] 0 ≡ ok (record { signature = none; table = record { points = 0; ways = 0 } ∷ record { points = 0; ways = 0 } ∷ []; offset = 0 }) 0
+no-bytes : markedHead true true 2 [] 0 ≡ ok (record { signature = none; table = record { points = 0; ways = 0 } ∷ record { points = 0; ways = 0 } ∷ []; offset = 0; plain = true }) 0
 unfolding markedHead
 no-bytes = refl

@@ -12,6 +12,7 @@ use Rattle.parsing.specs.Good.{split, ok-val, ok-at, no-ok}
 use Rattle.parsing.proofs.Loops.{many-count}
 use Rattle.byte_source.specs.BigEndian.{bigEndian, bigEndian-good}
 use Rattle.utils.specs.Vbe.{unsigned, text}
+use Rattle.utils.proofs.VbeLaws.{text-is}
 use Rattle.parsing.proofs.Lists.{nth-past}
 use Rattle.format.specs.Header.{Header, Tags, tags, front, options, intervals, intervals-good, tables, header, debug, signatures, opened}
 use Rattle.format.specs.TagTable.{tableOf, tagText, named}
@@ -75,9 +76,8 @@ part-end n m i p e h =
     (sym (ok-at (s .second)) ∙ chunk-end n m i (s .val) (s .mid) (s .first))
 
 pub text-end : (m : List ℕ) (i : ℕ) (p : Part) (e : ℕ) → text m i ≡ ok p e → e ≡ p .start + p .size
-unfolding text
 text-end m i p e h =
-    let s = split (unsigned m i) (λ n x. cond (leb n (2 ^ 20)) (part n m x) (no 9 [])) p e h in
+    let s = split (unsigned m i) (λ n x. cond (leb n (2 ^ 20)) (part n m x) (no 9 [])) p e (sym (text-is m i) ∙ h) in
     kept (leb (s .val) (2 ^ 20)) (s .val) (s .mid) (s .second)
   where
     kept : (c : Bool) (n x : ℕ) → cond c (part n m x) (no 9 []) ≡ ok p e → e ≡ p .start + p .size

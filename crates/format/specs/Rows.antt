@@ -1,12 +1,13 @@
 -- The rows of a zoom table: format document, "Tile header" ("zoom table"); document 01, blocks.rs, refusal 13, and "The stream and the
 -- collected tile" ("Zoom is clamped into the interval; rows up to it count").
 use Prim.Native.Nat.{ℕ, suc, _-_, max, min}
-use mathlib.Core.Bool.{Bool}
+use mathlib.Core.Bool.{Bool, true}
 use mathlib.Core.List.{List, []}
 use lib.Dec.{leb}
 use lib.ListN.{replicate}
 use Rattle.parsing.specs.Parse.{Parser, return, fail, pick, many, none}
 use Rattle.parsing.specs.Good.{Good, goods, total}
+use Rattle.utils.specs.Vbe.{Noted}
 use Rattle.format.specs.Tile.{Row, row, zoomTable, zoomTable-good, TileHead, tileHead, tileHead-good}
 use Rattle.format.specs.Index.{Located}
 
@@ -15,16 +16,16 @@ abbrev pub rowsOfInterval : ℕ → ℕ → ℕ
 rowsOfInterval low high = suc (high - low)
 
 -- with 1 for a map that ends in it, as numbers are read; the table itself has 20
-unfoldable pub numbersOfTable : ℕ → ℕ → Parser (List Row)
+unfoldable pub numbersOfTable : ℕ → ℕ → Parser (List (Noted Row))
 numbersOfTable low high = pick (leb low high) (many row (rowsOfInterval low high)) (fail 13 [])
 
-unfoldable pub intervalTable : ℕ → ℕ → Parser (List Row)
+unfoldable pub intervalTable : ℕ → ℕ → Parser (List (Noted Row))
 intervalTable low high = pick (leb low high) (zoomTable (rowsOfInterval low high)) (fail 13 [])
 
--- a tile that its index marks empty has no bytes, not even a signature (request 5 of document 02): it counts nothing, and its first-way
--- offset is 0
+-- a tile that its index marks empty has no bytes, not even a signature (request 5 of document 02): it counts nothing, its first-way
+-- offset is 0, and it has no number that is not plain
 abbrev pub emptyHead : (rows : ℕ) → TileHead
-emptyHead rows = record { signature = none; table = replicate rows (record { points = 0; ways = 0 }); offset = 0 }
+emptyHead rows = record { signature = none; table = replicate rows (record { points = 0; ways = 0 }); offset = 0; plain = true }
 
 unfoldable pub markedHead : (empty debug : Bool) → (rows : ℕ) → Parser TileHead
 markedHead empty debug rows = pick empty (return (emptyHead rows)) (tileHead debug rows)

@@ -20,4 +20,5 @@ streamedPoint p = record {
   name = streamedMaybe (p .name);
   houseNumber = streamedMaybe (p .houseNumber);
   elevation = p .elevation;
+  plain = p .plain;
 }

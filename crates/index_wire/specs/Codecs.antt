@@ -2,6 +2,7 @@
 -- way. (Of a tag whose text is refused, the kind does not cross.)
 use Prim.Native.Nat.{ℕ, _%_, _<_}
 use native.Mathlib.Omega.{arith}
+use mathlib.Core.Bool.{Bool}
 use mathlib.Core.Path.{_≡_, refl, ap}
 use mathlib.Core.List.{[], _∷_}
 use lib.ListN.{getD}
@@ -193,27 +194,27 @@ abbrev pub longitudeCodec : (w : Wire) → Lent (6 ∷ []) 0 1 w → Codec (long
 longitudeCodec w h = record { decode = longitudeIn; back = longitude-back w h }
 
 abbrev pub wayDataIn : Wire → WayDataRead
-wayDataIn w = settle way-data.Refused (way-data.Value (record { blocks = word w 0 6; nodes = word w 0 7 }) (word w 0 8)) w
+wayDataIn w = settle way-data.Refused (way-data.Value (record { blocks = word w 0 6; nodes = word w 0 7; plain = truth (word w 0 9) }) (word w 0 8)) w
 
-pub wayData-back : (w : Wire) → Lent (9 ∷ []) 0 0 w → (a : WayDataRead) → wayDataIn (wayDataWire w a) ≡ a
-wayData-back w h a = spread-out (9 ∷ []) 0 0 w h (λ v. wayDataIn (wayDataWire v a) ≡ a) (go a)
+pub wayData-back : (w : Wire) → Lent (10 ∷ []) 0 0 w → (a : WayDataRead) → wayDataIn (wayDataWire w a) ≡ a
+wayData-back w h a = spread-out (10 ∷ []) 0 0 w h (λ v. wayDataIn (wayDataWire v a) ≡ a) (go a)
   where
-    go : (a : WayDataRead) → wayDataIn (wayDataWire (spreadWire (9 ∷ []) 0 0 w) a) ≡ a
-    go (way-data.Value s e) = refl
+    go : (a : WayDataRead) → wayDataIn (wayDataWire (spreadWire (10 ∷ []) 0 0 w) a) ≡ a
+    go (way-data.Value s e) = ap (λ (b : Bool). way-data.Value (record { blocks = s .blocks; nodes = s .nodes; plain = b }) e) (truth-back (s .plain))
     go (way-data.Refused r) = settled way-data.Refused _ _ _ r
 
-abbrev pub wayDataCodec : (w : Wire) → Lent (9 ∷ []) 0 0 w → Codec (wayDataWire w)
+abbrev pub wayDataCodec : (w : Wire) → Lent (10 ∷ []) 0 0 w → Codec (wayDataWire w)
 wayDataCodec w h = record { decode = wayDataIn; back = wayData-back w h }
 
 abbrev pub dataWrittenIn : Wire → WayDataWritten
-dataWrittenIn w = settleLent data-written.Refused (data-written.Value (record { blocks = word w 0 6; nodes = word w 0 7 }) (word w 0 8)) w
+dataWrittenIn w = settleLent data-written.Refused (data-written.Value (record { blocks = word w 0 6; nodes = word w 0 7; plain = truth (word w 0 9) }) (word w 0 8)) w
 
-pub dataWritten-back : (w : Wire) → Lent (9 ∷ []) 0 0 w → (a : WayDataWritten) → dataWrittenIn (dataWrittenWire w a) ≡ a
-dataWritten-back w h a = spread-out (9 ∷ []) 0 0 w h (λ v. dataWrittenIn (dataWrittenWire v a) ≡ a) (go a)
+pub dataWritten-back : (w : Wire) → Lent (10 ∷ []) 0 0 w → (a : WayDataWritten) → dataWrittenIn (dataWrittenWire w a) ≡ a
+dataWritten-back w h a = spread-out (10 ∷ []) 0 0 w h (λ v. dataWrittenIn (dataWrittenWire v a) ≡ a) (go a)
   where
-    go : (a : WayDataWritten) → dataWrittenIn (dataWrittenWire (spreadWire (9 ∷ []) 0 0 w) a) ≡ a
-    go (data-written.Value s e) = refl
+    go : (a : WayDataWritten) → dataWrittenIn (dataWrittenWire (spreadWire (10 ∷ []) 0 0 w) a) ≡ a
+    go (data-written.Value s e) = ap (λ (b : Bool). data-written.Value (record { blocks = s .blocks; nodes = s .nodes; plain = b }) e) (truth-back (s .plain))
     go (data-written.Refused r) = settled-lent data-written.Refused _ _ _ _ _ _ _ _ r
 
-abbrev pub dataWrittenCodec : (w : Wire) → Lent (9 ∷ []) 0 0 w → Codec (dataWrittenWire w)
+abbrev pub dataWrittenCodec : (w : Wire) → Lent (10 ∷ []) 0 0 w → Codec (dataWrittenWire w)
 dataWrittenCodec w h = record { decode = dataWrittenIn; back = dataWritten-back w h }

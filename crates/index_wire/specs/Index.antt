@@ -114,7 +114,7 @@ longitudeWire w (longitude.Refused r) = putRefusal r w
 
 -- the numbers of blocks and nodes of a way's data, and the place behind them
 abbrev pub putSizes : Sizes → (end : ℕ) → Wire → Wire
-putSizes s e w = numbered 0 (put 0 6 (s .blocks ∷ s .nodes ∷ e ∷ []) w)
+putSizes s e w = numbered 0 (put 0 6 (s .blocks ∷ s .nodes ∷ e ∷ cond (s .plain) 1 0 ∷ []) w)
 
 abbrev pub wayDataWire : (before : Wire) → WayDataRead → Wire
 wayDataWire w (way-data.Value s e) = putSizes s e w

@@ -190,16 +190,18 @@ pub fn put_longitude(got: LongitudeRead, words: &mut [u64; 6], longitude: &mut [
 }
 
 // The numbers of blocks and nodes of a way's data, and the place behind them.
-fn put_sizes(sizes: Sizes, end: usize, words: &mut [u64; 9]) -> u64
+fn put_sizes(sizes: Sizes, end: usize, words: &mut [u64; 10]) -> u64
     ensures { λ r. ⌜ wire r (now (words .exit) ∷ []) [] [] ≡ putSizes sizes end (lending (now (words .entry) ∷ []) [] []) ⌝ }
 {
+    let plain = wire::bit(sizes.plain);
     words[6] = sizes.blocks;
     words[7] = sizes.nodes;
     words[8] = end as u64;
+    words[9] = plain;
     0
 }
 
-pub fn put_way_data(got: WayDataRead, words: &mut [u64; 9]) -> u64
+pub fn put_way_data(got: WayDataRead, words: &mut [u64; 10]) -> u64
     ensures { λ r. ⌜ wire r (now (words .exit) ∷ []) [] [] ≡ wayDataWire (lending (now (words .entry) ∷ []) [] []) got ⌝ }
 {
     match got {
@@ -209,7 +211,7 @@ pub fn put_way_data(got: WayDataRead, words: &mut [u64; 9]) -> u64
 }
 
 // The same of data that was written.
-pub fn put_data_written(got: WayDataWritten, words: &mut [u64; 9]) -> u64
+pub fn put_data_written(got: WayDataWritten, words: &mut [u64; 10]) -> u64
     ensures { λ r. ⌜ wire r (now (words .exit) ∷ []) [] [] ≡ dataWrittenWire (lending (now (words .entry) ∷ []) [] []) got ⌝ }
 {
     match got {

@@ -11,6 +11,7 @@ use tag::Kind;
 use tag::Tag;
 use utils::MicroRead;
 use utils::SignedRead;
+use utils::TextRead;
 
 fn byte(got: ByteRead) -> Words {
     match got {
@@ -54,15 +55,16 @@ fn int(got: IntRead) -> Words {
 
 fn signed(got: SignedRead) -> Words {
     match got {
-        SignedRead::Value(v, at) => with_sign(v, at),
+        SignedRead::Value(v, at) => with_sign(v.value, at),
         SignedRead::Refused(r) => questions::refusal_words(r),
     }
 }
 
 fn micro(got: MicroRead) -> Words {
-    let MicroRead::Value(m, at) = got else {
+    let MicroRead::Value(coordinate, at) = got else {
         return questions::refusal_words(utils::micro_refusal(got));
     };
+    let m = coordinate.value;
     let degrees = utils::microdegrees_to_degrees(m);
     questions::two(report::float_bits(degrees.0), at as u64)
 }
@@ -110,9 +112,10 @@ fn value(input: &[u8]) -> Words {
     }
     let letter = input[0];
     let got = tag::skip_inline_value(&input[1..], 0, kind_of(letter));
-    let SpanRead::Value(span, at) = got else {
-        return questions::refusal_words(byte_source::span_refusal(got));
+    let TextRead::Value(stored, at) = got else {
+        return questions::refusal_words(utils::text_refusal(got));
     };
+    let span = stored.span;
     questions::three(span.start as u64, span.size as u64, at as u64)
 }
 
@@ -135,7 +138,7 @@ pub(crate) fn answer(letter: u8, input: &[u8]) -> Words {
         b'c' => int(byte_source::read_i32_be(input, 0)),
         b'd' => word(byte_source::read_u32_be(input, 0)),
         b'e' => number(byte_source::read_u64_be(input, 0)),
-        b'u' => number(utils::read_vbe_u_int(input, 0)),
+        b'u' => number(utils::read_number(input, 0)),
         b's' => signed(utils::read_vbe_s_int(input, 0)),
         b'm' => micro(utils::read_microdegrees(input, 0)),
         _ => text_answer(letter, input),

@@ -7,9 +7,9 @@ use Rattle.format.specs.Tile.{Point, Head, Body}
 use Rattle.way_data.specs.Reply.{lent}
 use Rattle.tile_layout.specs.TileLayout.{TileKinds, formatOf}
 use Rattle.agreement.specs.Calls.{Answer, Call, next, accept, decline, Step, run, plain}
-use Rattle.agreement.specs.Stream.{State, stream}
+use Rattle.agreement.specs.Stream.{stream}
 use Rattle.agreement.specs.TileFormat as tile
-use Rattle.visit.specs.Visit.{stateOf, ShownAnswer, shown, shownStep, nextAnswer, acceptStep, declineStep}
+use Rattle.visit.specs.Visit.{TileState, stateOf, ShownAnswer, shown, shownStep, nextAnswer, acceptStep, declineStep}
 use Rattle.visit.specs.declared.Stream.{Stream}
 use Rattle.map_agreement.specs.Called.{Called, no-call, call-next, call-accept, call-decline}
 
@@ -19,10 +19,10 @@ shownReplies [] = []
 shownReplies (r ∷ rs) = record { answer = shown (r .answer); lists = r .lists } ∷ shownReplies rs
 
 abbrev ShownStep : Type 0
-ShownStep = Step ShownAnswer (State tile.TileEnd)
+ShownStep = Step ShownAnswer (TileState)
 
 -- one step, and the rest
-joined : (m : List ℕ) (l : TileKinds) (ds : List Call) (qs : List (Reply ShownAnswer)) (x : Step (Answer Point Head Body tile.TileEnd) (State tile.TileEnd)) (y : ShownStep)
+joined : (m : List ℕ) (l : TileKinds) (ds : List Call) (qs : List (Reply ShownAnswer)) (x : Step (Answer Point Head Body tile.TileEnd) (TileState)) (y : ShownStep)
     → y ≡ shownStep x → qs ≡ shownReplies (run (stream (formatOf l) m) (y .left) ds)
     → y .reply ∷ qs ≡ shownReplies (x .reply ∷ run (stream (formatOf l) m) (x .left) ds)
 joined m l ds qs x y e q =

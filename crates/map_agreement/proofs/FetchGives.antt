@@ -12,7 +12,7 @@ use Rattle.format.specs.Index.{answer}
 use Rattle.format.specs.TagTable.{named}
 use Rattle.format.specs.TagLists.{listedText}
 use Rattle.types.specs.declared.TagRange.{TagRange}
-use Rattle.format.specs.Tile.{Point, Head, Body}
+use Rattle.format.specs.Tile.{TileHead, Point, Head, Body}
 use Rattle.tag.specs.declared.Kind.{Kind}
 use Rattle.agreement.specs.Collected as collected
 use Rattle.agreement.specs.Collected.{Way, StoredTile, storedCollection, storedTile, fetch}
@@ -54,6 +54,7 @@ module _ (f g : ℕ → List ℕ) (q : (i : ℕ) → f i ≡ g i) where
           «tag_ids» = r .«tag_ids»;
           texts = record { tags = filledTexts l; name = r .texts .name; «house_number» = r .texts .«house_number»; reference = r .texts .reference };
           elevation = r .elevation;
+          plain = r .plain;
         };
         values = record {
           lists = poiLists f p .lists;
@@ -81,6 +82,8 @@ module _ (f g : ℕ → List ℕ) (q : (i : ℕ) → f i ≡ g i) where
           «double_delta» = r .«double_delta»;
           blocks = r .blocks;
           nodes = r .nodes;
+          plain = r .plain;
+          «head_plain» = r .«head_plain»;
         };
         values = record {
           lists = v .lists;
@@ -112,7 +115,7 @@ module _ (debug : Bool) (p w : List Kind) (poiNames wayNames : List Part) (poiNa
   a-way (x ∷ l) zero = ap (λ y. answer (fetchedAs aWay y)) (way-same wayName (listedName wayNames) b (x .head) (x .body))
   a-way (x ∷ l) (suc k) = a-way l k
 
-  pub fetch-gives : (t : StoredTile (tileFormat debug p w)) (z : TileEnd) (k : ℕ) → gives (fetch (storedTile t z) k) ≡ fetchGives (fetch (collectedTile S t z) k)
+  pub fetch-gives : (t : StoredTile (tileFormat debug p w)) (z : TileHead → TileEnd) (k : ℕ) → gives (fetch (storedTile t z) k) ≡ fetchGives (fetch (collectedTile S t z) k)
   fetch-gives t z k = go (ltb k (length (t .points))) ∙ ap tested (sym (length-map (t .points) (S .collectedPoint)))
     where
       ways : List (S .collection .Way)

@@ -33,11 +33,11 @@ use Rattle.tile_layout.specs.TileLayout.{formatOf}
 use Rattle.agreement.specs.Collected.{StoredTile, collect}
 use Rattle.agreement.specs.MapLayout.{MapLayout, rowsAt}
 use Rattle.agreement.specs.MapLayout as layout
-use Rattle.agreement.specs.Stream.{State, stream, openStream}
+use Rattle.agreement.specs.Stream.{stream, openStream}
 use Rattle.agreement.specs.View.{streamedReplies}
-use Rattle.agreement.specs.TileFormat.{TileEnd, tileFormat}
+use Rattle.agreement.specs.TileFormat.{TileEnd, tileEnd, tileFormat}
 use Rattle.agreement.specs.Demand3.{MapAgrees, freshTile}
-use Rattle.visit.specs.Visit.{stateOf, openTile, openRes, ShownAnswer, shown}
+use Rattle.visit.specs.Visit.{TileState, stateOf, openTile, openRes, ShownAnswer, shown}
 use Rattle.visit.specs.declared.Stream.{Stream}
 use Rattle.visit.specs.declared.OpenRead.{OpenRead}
 use Rattle.visit.specs.declared.OpenRead.the-variants as open-read
@@ -119,7 +119,7 @@ open-same h e lent a b s t p q =
     ∙ ap (λ x. record { header = b .header; end = x }) (p .ends ∙ sym (q .ends))
 
 -- a stream that opens is not refused
-pub never-refused : (q : OpenRead) {a : State TileEnd} → openRes q ≡ answer a → Opens q
+pub never-refused : (q : OpenRead) {a : TileState} → openRes q ≡ answer a → Opens q
 never-refused (open-read.Stream st) d = opens st
 never-refused (open-read.Refused r) d = no-ok d
 
@@ -178,7 +178,7 @@ module _ (s : ℕ) (grid : Grid) (number : ℕ) (h : Header) (lent : TagLists) w
       abbrev pub fetchesAt : (k : ℕ) (p w : List Kind) → Res (Fetched fetch.Feature)
       fetchesAt k p w =
           andThen (collect (C .tileHead h l) (tileFormat (debug h) p w) m (C .tileAt h l)) (λ t _.
-          fetch.givenBy (debug h) p w (startedName (tags .starts) (lay .«poi_tags») m) (startedName (tags .starts) (lay .«way_tags») m) (collected.fetch (collected.storedTile t (record { subFile = s; water = l .entry .water })) k))
+          fetch.givenBy (debug h) p w (startedName (tags .starts) (lay .«poi_tags») m) (startedName (tags .starts) (lay .«way_tags») m) (collected.fetch (collected.storedTile t (tileEnd s (l .entry .water))) k))
 
       pub fetched-as : (k : ℕ) → fetch.fetchTile lay (tags .starts) (tags .letters) found grid number k m ≡ fetchesAt k poiKinds wayKinds
       unfolding fetch.fetchTile
@@ -187,17 +187,17 @@ module _ (s : ℕ) (grid : Grid) (number : ℕ) (h : Header) (lent : TagLists) w
           ∙ ap (λ p. fetchesAt k p wayLetters) (kinds .poi)
           ∙ ap (λ w. fetchesAt k poiKinds w) (kinds .way)
 
-      abbrev opensAt : (low high zoom : ℕ) → Res (State TileEnd)
+      abbrev opensAt : (low high zoom : ℕ) → Res (TileState)
       opensAt low high zoom = answered (openStream (C .tileHead h l) (rowsUpto low high zoom) (C .end h l) m (C .tileAt h l))
 
       -- opening a stream, by the header's value
       pub opened-as : (zoom : ℕ) → openTile lay found s grid number zoom m ≡ answered (layout.openTile C h zoom m)
       unfolding openTile
       opened-as zoom =
-          ap (λ r. andThen {B = State TileEnd} r (λ l _. answered (openStream (C .tileHead h l) (rowsUpto (l .interval .min) (l .interval .max) zoom) (C .end h l) m (C .tileAt h l)))) (located-as ∙ ap answered en)
+          ap (λ r. andThen {B = TileState} r (λ l _. answered (openStream (C .tileHead h l) (rowsUpto (l .interval .min) (l .interval .max) zoom) (C .end h l) m (C .tileAt h l)))) (located-as ∙ ap answered en)
           ∙ ap (λ a. opensAt a (l .interval .max) zoom) low-is
           ∙ ap (λ a. opensAt (lowest s grid number h) a zoom) high-is
-          ∙ ap (λ r. answered (andThen {B = State TileEnd} r (λ n _. openStream (C .tileHead h n) (rowsAt C h zoom) (C .end h n) m (C .tileAt h n)))) (sym en)
+          ∙ ap (λ r. answered (andThen {B = TileState} r (λ n _. openStream (C .tileHead h n) (rowsAt C h zoom) (C .end h n) m (C .tileAt h n)))) (sym en)
 
       -- the entry's water mark, as `tile_index_entry` answers it
       pub entry-is : (r : EntryRead) → entryRes r ≡ heldRes (index.tileIndexEntry (lay .debug) found grid number m) → r ≡ entry-read.Entry (heldEntry (l .entry))
@@ -208,7 +208,7 @@ module _ (s : ℕ) (grid : Grid) (number : ℕ) (h : Header) (lent : TagLists) w
       fresh-opens : openTile lay found s grid number zoom m ≡ answer (freshTile C h n t zoom)
       fresh-opens = opened-as n (a .map .entryEnd) (a .map .entry) zoom ∙ ap answered (a .opens)
 
-      abbrev machine : (p w : List Kind) → State TileEnd → List (Reply ShownAnswer)
+      abbrev machine : (p w : List Kind) → TileState → List (Reply ShownAnswer)
       machine p w x = shownReplies (run (stream (tileFormat (debug h) p w) m) x cs)
 
       says-book : machine poiKinds wayKinds (freshTile C h n t zoom) ≡ bookAt s grid number h n t zoom cs

@@ -16,10 +16,10 @@ use Rattle.fields.proofs.StreamLaws.{Within, absent, stored}
 use Rattle.poi.proofs.StreamLaws.{point-within}
 use Rattle.agreement.specs.Calls.{Answer, Call, next, accept, decline, gotBody, run}
 use Rattle.agreement.specs.Format.{Format}
-use Rattle.agreement.specs.Stream.{State, idle, waits, stream, onPoint, onHead, onBody}
-use Rattle.agreement.specs.TileFormat.{TileEnd, tileFormat}
+use Rattle.agreement.specs.Stream.{idle, waits, stream, onPoint, onHead, onBody}
+use Rattle.agreement.specs.TileFormat.{TileEnd, wholeBody, noteBody, tileFormat}
 use Rattle.agreement.proofs.Remaining.{lentReply}
-use Rattle.visit.specs.Visit.{shown}
+use Rattle.visit.specs.Visit.{TileState, shown}
 use Rattle.visit.proofs.AcceptLaws.{body-within}
 use Rattle.map_agreement.specs.Texts.{foundTexts, storedTexts, textsFound, textsStored}
 use Rattle.map_agreement.proofs.Chain.{shownReplies}
@@ -51,30 +51,30 @@ module _ (debug : Bool) (p w : List Kind) (m : List ℕ) where
   on-head v i y z (ok h e) = record { spelled = refl }
   on-head v i y z (no k x) = record { spelled = refl }
 
-  on-body : (v y b : ℕ) (z : TileEnd) (l : LentLists) (r : Res Body) → body m b ≡ r → Spelled (let a = deliver (λ d. d) bodyLists r l in onBody v y b z (a .lists) (a .answer) .reply .answer)
-  on-body v y b z l (ok d e) h = go (fits (bodyLists d) l)
+  on-body : (v y b : ℕ) (k : Bool) (z : TileEnd) (l : LentLists) (r : Res Body) → body m b ≡ r → Spelled (let a = deliver (λ d. d) bodyLists r l in onBody wholeBody noteBody v y b k z (a .lists) (a .answer) .reply .answer)
+  on-body v y b k z l (ok d e) h = go (fits (bodyLists d) l)
     where
-      spelled-body : Spelled (gotBody d)
+      spelled-body : Spelled (gotBody (wholeBody k d))
       spelled-body =
           let t = body-within m .holds b d e h in
           record { spelled = rw (found m (d .fields .name) (t .name), found m (d .fields .houseNumber) (t .houseNumber), found m (d .fields .reference) (t .reference)) }
 
-      go : (c : Bool) → Spelled (let a = lentReply d e (bodyLists d) l c in onBody v y b z (a .lists) (a .answer) .reply .answer)
+      go : (c : Bool) → Spelled (let a = lentReply d e (bodyLists d) l c in onBody wholeBody noteBody v y b k z (a .lists) (a .answer) .reply .answer)
       go true = spelled-body
       go false = record { spelled = refl }
-  on-body v y b z l (no k x) h = record { spelled = refl }
+  on-body v y b k z l (no n x) h = record { spelled = refl }
 
-  one-call : (s : State TileEnd) (c : Call) → Spelled (stream F m s c .reply .answer)
+  one-call : (s : TileState) (c : Call) → Spelled (stream F m s c .reply .answer)
   one-call (idle (suc n) v i y z) next = on-point n v i y z (point debug p m i) refl
   one-call (idle zero (suc v) i y z) next = on-head v i y z (F .head m y)
   one-call (idle zero zero i y z) next = record { spelled = refl }
   one-call (idle n v i y z) (accept l) = record { spelled = refl }
   one-call (idle n v i y z) decline = record { spelled = refl }
-  one-call (waits v y b z) next = record { spelled = refl }
-  one-call (waits v y b z) (accept l) = on-body v y b z l (body m b) refl
-  one-call (waits v y b z) decline = record { spelled = refl }
+  one-call (waits v y b k z) next = record { spelled = refl }
+  one-call (waits v y b k z) (accept l) = on-body v y b k z l (body m b) refl
+  one-call (waits v y b k z) decline = record { spelled = refl }
 
-  pub texts-found : (cs : List Call) (s : State TileEnd) → textsFound m (shownReplies (run (stream F m) s cs)) ≡ textsStored (run (stream F m) s cs)
+  pub texts-found : (cs : List Call) (s : TileState) → textsFound m (shownReplies (run (stream F m) s cs)) ≡ textsStored (run (stream F m) s cs)
   texts-found [] s = refl
   texts-found (c ∷ cs) s =
       ap (λ x. x ∷ textsFound m (shownReplies (run (stream F m) (stream F m s c .left) cs))) (one-call s c .spelled)

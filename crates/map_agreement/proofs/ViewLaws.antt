@@ -13,4 +13,7 @@ tile-view debug poiKinds wayKinds poiNames wayNames = record {
   head = λ w. refl;
   body = λ w. refl;
   lists = λ w. refl;
+  notePoint = λ p z. refl;
+  noteHead = λ h z. refl;
+  noteBody = λ b z. refl;
 }

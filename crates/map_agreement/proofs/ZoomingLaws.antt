@@ -11,7 +11,7 @@ use Rattle.format.specs.Header.{Interval}
 use Rattle.format.specs.Index.{answer, answered, Grid, Located, locate, tileAt}
 use Rattle.format.specs.Lent.{LentLists, Reply}
 use Rattle.format.specs.Rows.{rowsUpto, locatedHead}
-use Rattle.format.specs.Tile.{Point, Head, Body}
+use Rattle.format.specs.Tile.{TileHead, Point, Head, Body}
 use Rattle.tagged.specs.declared.TagIds.{TagIds}
 use Rattle.poi.specs.declared.Poi.{Poi}
 use Rattle.tile_layout.specs.TileLayout.{TileKinds, kindsOf, formatOf}
@@ -19,13 +19,14 @@ use Rattle.tile_layout.specs.declared.TileLayout.{TileLayout}
 use Rattle.agreement.specs.Calls.{next, accept, decline, Answer, gotPoint, gotHead, gotBody, declined, ended, refused, Step, run, noLists, lending}
 use Rattle.agreement.specs.Format.{Format}
 use Rattle.agreement.specs.Heads.{pointsUpTo, waysUpTo}
-use Rattle.agreement.specs.Stream.{State, stream, openStream}
-use Rattle.agreement.specs.TileFormat.{TileEnd}
+use Rattle.agreement.specs.Stream.{stream, openStream}
+use Rattle.agreement.specs.TileFormat.{TileEnd, tileEnd}
 use Rattle.agreement.proofs.TileFormatLaws.{tile-laws, head-counts}
 use Rattle.zooming.specs.Zooming.{Delivered, byHead, whole, EndsWell, at-end, on-point, on-declined, on-accepted, OnlyAdds}
 use Rattle.zooming.proofs.Zooming.{zooming-in}
-use Rattle.zooming.proofs.TileZooming.{tile-advances, lower-zoom}
-use Rattle.visit.specs.Visit.{stateOf, openTile, openRes, shownPoint, shownHead, shownBody, ShownAnswer, shown}
+use Rattle.zooming.specs.TileEnds.{PlainToo}
+use Rattle.zooming.proofs.TileZooming.{tile-advances, tile-grows, lower-zoom}
+use Rattle.visit.specs.Visit.{TileState, stateOf, openTile, openRes, shownPoint, shownHead, shownBody, ShownAnswer, shown}
 use Rattle.visit.specs.declared.Stream.{Stream}
 use Rattle.visit.specs.declared.OpenRead.the-variants as open-read
 use Rattle.visit.specs.declared.StreamedHead.{StreamedHead}
@@ -90,7 +91,7 @@ ended-of (refused n v) y e = never cc
 
 -- the first of the replies, and the rest
 abbrev StoredStep : Type 0
-StoredStep = Step (Answer Point Head Body TileEnd) (State TileEnd)
+StoredStep = Step (Answer Point Head Body TileEnd) (TileState)
 
 record First (a : ShownAnswer) (k : LentLists) (rs : List (Reply ShownAnswer)) (x : StoredStep) (qs : List (Reply ShownAnswer)) : Type 0 where
   answer : a ≡ shown (x .reply .answer)
@@ -127,7 +128,7 @@ module _ (m : List ℕ) (l : TileKinds) (rule : (bitmap : ℕ) → TagIds → Bo
   stored _ h = rule (shownHead h .bitmap) (shownHead h .«tag_ids»)
 
   -- the machine's stream that a program saw
-  record Streamed (k : ℕ) (s : State TileEnd) (ps : List Poi) (ws : List SeenWay) (z : TileEnd) : Type 0 where
+  record Streamed (k : ℕ) (s : TileState) (ps : List Poi) (ws : List SeenWay) (z : TileEnd) : Type 0 where
     lent : List LentLists
     points : List Point
     ways : List (Delivered Head Body)
@@ -139,10 +140,10 @@ module _ (m : List ℕ) (l : TileKinds) (rule : (bitmap : ℕ) → TagIds → Bo
   no-points [] e = refl
   no-points (p ∷ ps) e = never cc
 
-  only-ways : {k : ℕ} {s : State TileEnd} {ws : List SeenWay} {z : TileEnd} → (r : Streamed k s [] ws z) → EndsWell F m stored k s (r .lent) [] (r .ways) z
+  only-ways : {k : ℕ} {s : TileState} {ws : List SeenWay} {z : TileEnd} → (r : Streamed k s [] ws z) → EndsWell F m stored k s (r .lent) [] (r .ways) z
   only-ways {k} {s} {ws} {z} r = subst (λ ps. EndsWell F m stored k s (r .lent) ps (r .ways) z) (no-points (r .points) (r .points-shown)) (r .ends)
 
-  streamed-ways : (k : ℕ) (s : State TileEnd) (z : TileEnd) {ls : List LentLists} {ws : List SeenWay} → Decides rule ls ws
+  streamed-ways : (k : ℕ) (s : TileState) (z : TileEnd) {ls : List LentLists} {ws : List SeenWay} → Decides rule ls ws
       → repliesOfWays ws z ≡ shownReplies (run (stream F m) s (callsOfWays ws)) → Streamed k s [] ws z
   streamed-ways k s z no-way e =
       let x = stream F m s next in
@@ -186,7 +187,7 @@ module _ (m : List ℕ) (l : TileKinds) (rule : (bitmap : ℕ) → TagIds → Bo
             ∙ ap (λ u. whole h k₀ b k₁ ∷ u) (r .ways-shown);
       }
 
-  streamed-points : (s : State TileEnd) (z : TileEnd) (ps : List Poi) {ls : List LentLists} {ws : List SeenWay} → Decides rule ls ws
+  streamed-points : (s : TileState) (z : TileEnd) (ps : List Poi) {ls : List LentLists} {ws : List SeenWay} → Decides rule ls ws
       → repliesOf ps ws z ≡ shownReplies (run (stream F m) s (callsOf ps ws)) → Streamed 0 s ps ws z
   streamed-points s z [] d e = streamed-ways 0 s z d e
   streamed-points s z (p ∷ ps) d e =
@@ -204,7 +205,7 @@ module _ (m : List ℕ) (l : TileKinds) (rule : (bitmap : ℕ) → TagIds → Bo
       }
 
   -- and back: what is shown of a stream that ends well
-  shown-all : {k : ℕ} {s : State TileEnd} {ls : List LentLists} {ps : List Point} {ws : List (Delivered Head Body)} {z : TileEnd} → EndsWell F m stored k s ls ps ws z
+  shown-all : {k : ℕ} {s : TileState} {ls : List LentLists} {ps : List Point} {ws : List (Delivered Head Body)} {z : TileEnd} → EndsWell F m stored k s ls ps ws z
       → shownReplies (run (stream F m) s (callsOf (map shownPoint ps) (map seen ws))) ≡ repliesOf (map shownPoint ps) (map seen ws) z
   shown-all (at-end h) = rw h
   shown-all (on-point h r) = rw (h, shown-all r)
@@ -226,8 +227,8 @@ module _ (m : List ℕ) (l : TileLayout) (letters : List ℕ) (i : Maybe Interva
     abbrev upto : ℕ → ℕ
     upto zoom = rowsUpto (place .interval .min) (place .interval .max) zoom
 
-    abbrev end : TileEnd
-    end = record { subFile = subFile; water = place .entry .water }
+    abbrev end : TileHead → TileEnd
+    end = tileEnd subFile (place .entry .water)
 
     opened-at : (zoom : ℕ) → openTile l i subFile grid number zoom m ≡ answered (openStream (locatedHead (l .debug) place) (upto zoom) end m (tileAt place))
     unfolding openTile
@@ -239,9 +240,9 @@ module _ (m : List ℕ) (l : TileLayout) (letters : List ℕ) (i : Maybe Interva
         streamed-points m (kindsOf l letters) rule (stateOf (saw .stream)) z points (saw .decides)
         (called-run m (kindsOf l letters) (saw .stream) (callsOf points ways) (repliesOf points ways z) (saw .calls))
 
-    adds : OnlyAdds (locatedHead (l .debug) place) (formatOf (kindsOf l letters)) m (stored m (kindsOf l letters) rule) (tileAt place) end (upto zoom) (was .lent) (was .points) (was .ways) z
+    adds : OnlyAdds (locatedHead (l .debug) place) (formatOf (kindsOf l letters)) PlainToo m (stored m (kindsOf l letters) rule) (tileAt place) end (upto zoom) (was .lent) (was .points) (was .ways) z
     adds =
-        zooming-in (locatedHead (l .debug) place) (head-counts (place .empty) (l .debug) _) (formatOf (kindsOf l letters)) (tile-laws _ _ _) (tile-advances _ _ _) m (saw .small) (stored m (kindsOf l letters) rule) (tileAt place) end (upto zoom)
+        zooming-in (locatedHead (l .debug) place) (head-counts (place .empty) (l .debug) _) (formatOf (kindsOf l letters)) (tile-laws _ _ _) (tile-advances _ _ _) m (saw .small) (stored m (kindsOf l letters) rule) (tileAt place) end (tile-grows _ _ _) (upto zoom)
         (answered-read _ _ (sym (opened-at zoom) ∙ sym (saw .opens)) .read) (was .ends)
 
     module _ (zoom′ : ℕ) (le : zoom′ ≤ zoom) where
@@ -264,11 +265,13 @@ module _ (m : List ℕ) (l : TileLayout) (letters : List ℕ) (i : Maybe Interva
           record {
             opens = λ r e. never-refused r (e ∙ o);
             decides = decides-first rule wayCount (saw .decides);
+            said = f .said;
+            plain-too = f .grows;
             replies = λ s e rs c.
                 called-run m (kindsOf l letters) s (callsOf (take pointCount points) (take wayCount ways)) rs c
                 ∙ ap (λ x. shownReplies (run (stream (formatOf (kindsOf l letters)) m) x (callsOf (take pointCount points) (take wayCount ways)))) (ok-val (e ∙ o))
-                ∙ subst (λ ws. shownReplies (run (stream (formatOf (kindsOf l letters)) m) (f .start) (callsOf (take pointCount points) ws)) ≡ repliesOf (take pointCount points) ws z) first-ways
-                (subst (λ ps. shownReplies (run (stream (formatOf (kindsOf l letters)) m) (f .start) (callsOf ps (map seen (take wayCount (was .ways))))) ≡ repliesOf ps (map seen (take wayCount (was .ways))) z) first-points
+                ∙ subst (λ ws. shownReplies (run (stream (formatOf (kindsOf l letters)) m) (f .start) (callsOf (take pointCount points) ws)) ≡ repliesOf (take pointCount points) ws (f .said)) first-ways
+                (subst (λ ps. shownReplies (run (stream (formatOf (kindsOf l letters)) m) (f .start) (callsOf ps (map seen (take wayCount (was .ways))))) ≡ repliesOf ps (map seen (take wayCount (was .ways))) (f .said)) first-points
                 (shown-all m (kindsOf l letters) rule (f .ends)));
             point-count = ap length (sym first-points) ∙ length-map (take pointCount (was .points)) shownPoint ∙ f .point-count;
             way-count = ap length (sym first-ways) ∙ length-map (take wayCount (was .ways)) seen ∙ f .way-count;
@@ -290,7 +293,7 @@ module _ (m : List ℕ) (l : TileLayout) (letters : List ℕ) (i : Maybe Interva
   zooming-says = go (locate (l .debug) i grid number m) refl (saw .opens)
     where
       go : (r : Res Located) → locate (l .debug) i grid number m ≡ r
-          → openRes (open-read.Stream (saw .stream)) ≡ andThen {B = State TileEnd} r (λ a _. answered (openStream (locatedHead (l .debug) a) (rowsUpto (a .interval .min) (a .interval .max) zoom) (record { subFile = subFile; water = a .entry .water }) m (tileAt a)))
+          → openRes (open-read.Stream (saw .stream)) ≡ andThen {B = TileState} r (λ a _. answered (openStream (locatedHead (l .debug) a) (rowsUpto (a .interval .min) (a .interval .max) zoom) (tileEnd subFile (a .entry .water)) m (tileAt a)))
           → ZoomingIn m l letters i subFile grid number zoom rule lists points ways z
       go (ok a e) f q = from-place a e f
       go (no k v) f q = no-ok (sym q)

@@ -12,6 +12,7 @@ use Rattle.way_data.specs.Reply.{lent}
 use Rattle.tile_layout.specs.TileLayout.{TileKinds, formatOf}
 use Rattle.agreement.specs.Calls.{Call, next, accept, decline, noLists}
 use Rattle.agreement.specs.Stream.{onNext, onAccept, onDecline}
+use Rattle.agreement.specs.TileFormat.{wholeBody, noteBody}
 use Rattle.visit.specs.Visit.{stateOf, ShownAnswer, shownStep, nextAnswer, NextIs, acceptAnswer, acceptStep, declineAnswer, declineStep}
 use Rattle.visit.specs.declared.Stream.{Stream}
 use Rattle.visit.specs.declared.NextStep.{NextStep}
@@ -26,7 +27,7 @@ pub data Called (m : List ℕ) (l : TileKinds) : Stream → List Call → List (
       → Called m l (r .stream) cs rs
       → Called m l s (next ∷ cs) (record { answer = nextAnswer (r .answer) (r .poi) (r .head); lists = noLists } ∷ rs)
   call-accept : (r : Accepted) (c₀ c : List ℕ) (la₀ lo₀ la lo : List Float) {s : Stream} {cs : List Call} {rs : List (Reply ShownAnswer)}
-      → acceptStep r c la lo ≡ shownStep (onAccept body bodyLists m (stateOf s) (lent c₀ la₀ lo₀))
+      → acceptStep r c la lo ≡ shownStep (onAccept body bodyLists wholeBody noteBody m (stateOf s) (lent c₀ la₀ lo₀))
       → Called m l (r .stream) cs rs
       → Called m l s (accept (lent c₀ la₀ lo₀) ∷ cs) (record { answer = acceptAnswer (r .answer); lists = lent c la lo } ∷ rs)
   call-decline : (r : Declined) {s : Stream} {cs : List Call} {rs : List (Reply ShownAnswer)}

@@ -11,7 +11,7 @@ use Rattle.format.specs.Kinds.{kindOfText}
 use Rattle.format.specs.Rows.{locatedHead}
 use Rattle.agreement.specs.Format.{Format}
 use Rattle.agreement.specs.MapLayout.{MapLayout}
-use Rattle.agreement.specs.TileFormat.{tileFormat}
+use Rattle.agreement.specs.TileFormat.{tileEnd, tileFormat}
 use Rattle.map_agreement.specs.TileView.{tileView}
 
 abbrev pub ofInterval : {A : Type 0} → A → (Interval → A) → Maybe Interval → A
@@ -49,7 +49,7 @@ module _ (subFile : ℕ) (grid : Grid) (number : ℕ) where
     format = formatIn;
     low = lowest;
     high = highest;
-    end = λ h l. record { subFile = subFile; water = l .entry .water };
+    end = λ h l. tileEnd subFile (l .entry .water);
     view = λ h.
         tileView (debug h) (map kindOfText (h .poiTags .texts)) (map kindOfText (h .wayTags .texts))
         (h .poiTags .texts) (h .wayTags .texts);

@@ -18,7 +18,7 @@ use Rattle.visit.specs.declared.StreamedHead.{StreamedHead}
 use Rattle.visit.specs.declared.StreamedBody.{StreamedBody}
 use Rattle.agreement.specs.Collected.{Collection, Feature, aPoint, aWay, missing}
 use Rattle.agreement.specs.View.{View}
-use Rattle.agreement.specs.TileFormat.{TileEnd, tileFormat}
+use Rattle.agreement.specs.TileFormat.{TileEnd, notePlain, tileFormat}
 
 pub record CollectedPoint : Type 0 where
   pub fetched : Fetched FetchedPoi
@@ -41,6 +41,7 @@ bookPoint p = record {
   name = optionalSpan (streamedMaybe (p .name));
   «house_number» = optionalSpan (streamedMaybe (p .houseNumber));
   elevation = p .fetched .value .elevation;
+  plain = p .fetched .value .plain;
 }
 
 abbrev pub bookHead : CollectedWay → StreamedHead
@@ -48,6 +49,7 @@ bookHead w = record {
   bitmap = w .fetched .value .bitmap;
   layer = w .fetched .value .layer;
   «tag_ids» = w .fetched .value .«tag_ids»;
+  plain = w .fetched .value .«head_plain»;
 }
 
 abbrev pub bookBody : CollectedWay → StreamedBody
@@ -58,6 +60,7 @@ bookBody w = record {
   «label_position» = w .fetched .value .«label_position»;
   blocks = w .fetched .value .blocks;
   nodes = w .fetched .value .nodes;
+  plain = w .fetched .value .plain;
 }
 
 abbrev pub tileCollection : Collection
@@ -72,6 +75,9 @@ tileCollection = record {
   head = bookHead;
   body = bookBody;
   lists = λ w. w .fetched .values .lists;
+  notePoint = λ p z. notePlain (p .plain) z;
+  noteHead = λ h z. notePlain (h .plain) z;
+  noteBody = λ b z. notePlain (b .plain) z;
 }
 
 -- `poiNames` and `wayNames` are the header's tag names; what the stream shows is what the contracts of crate visit say

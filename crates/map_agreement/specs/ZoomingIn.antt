@@ -20,6 +20,7 @@ use Rattle.agreement.specs.Calls.{Call, next, accept, decline, Answer, gotPoint
 use Rattle.agreement.specs.Heads.{pointsUpTo, waysUpTo}
 use Rattle.agreement.specs.TileFormat.{TileEnd}
 use Rattle.zooming.specs.Zooming.{Delivered, byHead, whole}
+use Rattle.zooming.specs.TileEnds.{PlainToo}
 use Rattle.visit.specs.Visit.{openTile, openRes, ShownAnswer}
 use Rattle.visit.specs.declared.Stream.{Stream}
 use Rattle.visit.specs.declared.OpenRead.{OpenRead}
@@ -76,13 +77,16 @@ pub record Saw (m : List ℕ) (l : TileLayout) (letters : List ℕ) (i : Maybe I
 
 -- What it will see at a lower zoom, of which the zoom table counts so many points and ways: the stream opens; the rule decides the first
 -- ways as it did, with the same lists from the first on; and the replies to the calls that it then makes are the first points and the
--- first ways, field for field and list for list, and the same end. There are as many of them as are counted.
+-- first ways, field for field and list for list, and an end of the same sub file and water mark, which says that all was plain if the
+-- richer one does. There are as many of them as are counted.
 pub record WillSee (m : List ℕ) (l : TileLayout) (letters : List ℕ) (i : Maybe Interval) (subFile : ℕ) (grid : Grid) (number zoom pointCount wayCount : ℕ) (rule : (bitmap : ℕ) → TagIds → Bool) (lists : List LentLists) (points : List Poi) (ways : List SeenWay) (z : TileEnd) : Type 0 where
   pub opens : (o : OpenRead) → openRes o ≡ openTile l i subFile grid number zoom m → Opens o
   pub decides : Decides rule lists (take wayCount ways)
+  pub said : TileEnd
+  pub plain-too : PlainToo said z
   pub replies : (s : Stream) → openRes (open-read.Stream s) ≡ openTile l i subFile grid number zoom m
       → (rs : List (Reply ShownAnswer)) → Called m (kindsOf l letters) s (callsOf (take pointCount points) (take wayCount ways)) rs
-      → rs ≡ repliesOf (take pointCount points) (take wayCount ways) z
+      → rs ≡ repliesOf (take pointCount points) (take wayCount ways) said
   pub point-count : length (take pointCount points) ≡ pointCount
   pub way-count : length (take wayCount ways) ≡ wayCount
 

@@ -61,7 +61,7 @@ module _ (stored : Res Told) where
 
 -- where there is no way
 pub no-texts-there : (t : FeatureTexts) → t ≡ noTexts
-    → _≡_ {A = FetchedWay} (record { signature = emptyWay .signature; bitmap = 0; layer = emptyWay .layer; «tag_ids» = emptyWay .«tag_ids»; texts = t; «label_position» = emptyWay .«label_position»; «double_delta» = false; blocks = 0; nodes = 0 }) emptyWay
+    → _≡_ {A = FetchedWay} (record { signature = emptyWay .signature; bitmap = 0; layer = emptyWay .layer; «tag_ids» = emptyWay .«tag_ids»; texts = t; «label_position» = emptyWay .«label_position»; «double_delta» = false; blocks = 0; nodes = 0; plain = false; «head_plain» = false }) emptyWay
 no-texts-there t h = rw h
 
 pub none-made : (w : FetchedWay) (p : TextPlan) (x : LentRefusal) → w ≡ emptyWay → p ≡ noTextPlan → _≡_ {A = MeasuredWay} (record { way = w; texts = p; lists = noListPlan; end = fetch-end.Refused x }) (noWay x)

@@ -78,6 +78,8 @@ wayWith h b t = record {
   «double_delta» = b .«double_delta»;
   blocks = b .blocks;
   nodes = b .nodes;
+  plain = h .plain && b .plain;
+  «head_plain» = h .plain;
 }
 
 -- what is to be written of it
@@ -99,6 +101,8 @@ emptyWay = record {
   «double_delta» = false;
   blocks = 0;
   nodes = 0;
+  plain = false;
+  «head_plain» = false;
 }
 
 abbrev pub emptyParts : TextParts

@@ -49,6 +49,8 @@ pub fn empty_way() -> FetchedWay
         double_delta: false,
         blocks: 0,
         nodes: 0,
+        plain: false,
+        head_plain: false,
     }
 }
 
@@ -115,6 +117,8 @@ fn way_with(head: WayHead, body: WayBody, texts: FeatureTexts) -> FetchedWay
         double_delta: body.double_delta,
         blocks: body.blocks,
         nodes: body.nodes,
+        plain: types::both(head.plain, body.plain),
+        head_plain: head.plain,
     }
 }
 

@@ -4,7 +4,7 @@ use mathlib.Core.Path.{_≡_}
 use mathlib.Core.Bool.{Bool}
 use mathlib.Core.List.{List}
 use Rattle.parsing.specs.Parse.{ok, byte, optional, Part, Maybe}
-use Rattle.utils.specs.Vbe.{signed}
+use Rattle.utils.specs.Vbe.{notedSigned}
 use Rattle.tag.specs.declared.Kind.{Kind}
 use Rattle.format.specs.Header.{bit}
 use Rattle.format.specs.WayData.{node}
@@ -24,7 +24,7 @@ pub record Texts (m : List ℕ) (name houseNumber : Maybe Part) : Type 0 where
 fields-within : (m : List ℕ) → Gives m pointFields (λ f. Texts m (f .name) (f .houseNumber))
 unfolding pointFields
 fields-within m =
-    gives-bind m (any m byte) λ f _. gives-bind m (optional-within m (bit 7 f)) λ n a. gives-bind m (optional-within m (bit 6 f)) λ h b. gives-bind m (any m (optional (bit 5 f) signed)) λ e _. gives-return m _ _ (record { first = a; second = b })
+    gives-bind m (any m byte) λ f _. gives-bind m (optional-within m (bit 7 f)) λ n a. gives-bind m (optional-within m (bit 6 f)) λ h b. gives-bind m (any m (optional (bit 5 f) notedSigned)) λ e _. gives-return m _ _ (record { first = a; second = b })
 
 pub point-within : (m : List ℕ) (debug : Bool) (kinds : List Kind) → Gives m (point debug kinds) (λ p. Texts m (p .name) (p .houseNumber))
 unfolding point

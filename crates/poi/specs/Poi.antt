@@ -1,5 +1,6 @@
 -- A point as it is handed out (document 01, poi.rs), from what is stored.
 use Prim.Native.Nat.{ℕ}
+use mathlib.Core.Bool.{_&&_}
 use mathlib.Core.List.{List}
 use lib.IntN.{ℤ}
 use Rattle.parsing.specs.Parse.{Res, ok, Maybe, none, some}
@@ -8,16 +9,19 @@ use Rattle.error.specs.declared.Refusal.{Refusal}
 use Rattle.error.specs.declared.Refusal.the-variants.{Source}
 use Rattle.format.specs.Elevation.{low32}
 use Rattle.format.specs.Nodes.{zero64}
-use Rattle.format.specs.Tile.{PointFields, Point}
+use Rattle.utils.specs.Vbe.{Noted, noted}
+use Rattle.format.specs.Tile.{PointFields, Point, maybeValue, maybePlain}
 use Rattle.types.specs.Beside.{Beside}
 use Rattle.types.specs.Types.{optionalSpan, nodePosition}
 use Rattle.types.specs.declared.OptionalSpan.the-variants as span
 use Rattle.tagged.specs.TagIds.{tagIds, noTags}
 use Rattle.fields.specs.Fields.{streamedSpan}
+use Rattle.fields.specs.declared.NotedSpan.{NotedSpan}
 use Rattle.poi.specs.declared.OptionalElevation.{OptionalElevation}
 use Rattle.poi.specs.declared.OptionalElevation.the-variants.{Absent, At}
 use Rattle.poi.specs.declared.Poi.{Poi}
 use Rattle.poi.specs.declared.PoiRead.{PoiRead}
+use Rattle.poi.specs.declared.NotedElevation.{NotedElevation}
 use Rattle.poi.specs.declared.ElevationRead.{ElevationRead}
 use Rattle.poi.specs.declared.ElevationRead.the-variants as elevation
 use Rattle.poi.specs.declared.PoiFields.{PoiFields}
@@ -37,6 +41,7 @@ poiOf p = record {
   name = optionalSpan (p .name);
   «house_number» = optionalSpan (p .houseNumber);
   elevation = optionalElevation (p .elevation);
+  plain = p .plain;
 }
 
 -- where a read is refused
@@ -49,6 +54,7 @@ emptyPoi = record {
   name = span.Absent;
   «house_number» = span.Absent;
   elevation = Absent;
+  plain = noTags .plain;
 }
 
 abbrev pub PoiIs : Res Point → PoiRead → Type 0
@@ -64,11 +70,15 @@ streamedPoi m p = record {
   name = streamedSpan m (p .name);
   «house_number» = streamedSpan m (p .«house_number»);
   elevation = p .elevation;
+  plain = p .plain;
 }
 
 -- the answers on the way
-abbrev pub elevationRes : ElevationRead → Res OptionalElevation
-elevationRes (elevation.Value v n) = ok v n
+abbrev pub notedElevation : Maybe (Noted ℤ) → Noted OptionalElevation
+notedElevation x = noted (optionalElevation (maybeValue x)) (maybePlain x)
+
+abbrev pub elevationRes : ElevationRead → Res (Noted OptionalElevation)
+elevationRes (elevation.Value v n) = ok (noted (v .elevation) (v .plain)) n
 elevationRes (elevation.Refused r) = refused r
 
 abbrev pub elevationRefusal : ElevationRead → Refusal
@@ -80,7 +90,11 @@ poiFieldsOf f = record {
   name = optionalSpan (f .name);
   «house_number» = optionalSpan (f .houseNumber);
   elevation = optionalElevation (f .elevation);
+  plain = f .plain;
 }
+
+abbrev pub announced : NotedSpan → NotedSpan → NotedElevation → PoiFields
+announced n h e = record { name = n .span; «house_number» = h .span; elevation = e .elevation; plain = n .plain && h .plain && e .plain }
 
 abbrev pub poiFieldsRes : PoiFieldsRead → Res PoiFields
 poiFieldsRes (fields.Value v n) = ok v n

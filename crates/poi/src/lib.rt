@@ -1,6 +1,9 @@
 // poi.rs: a point of a tile.
 use byte_source::ByteRead;
 use error::Refusal;
+use fields::NotedPosition;
+use fields::NotedSpan;
+use fields::NotedSpanRead;
 use fields::OptionalSpanRead;
 use fields::PositionRead;
 use tagged::TagIds;
@@ -11,13 +14,13 @@ use types::TagRange;
 use utils::SignedRead;
 ghost use mathlib.Core.Path.{_≡_};
 ghost use Rattle.parsing.specs.Parse.{mapRes, optional, Part, Maybe};
-ghost use Rattle.utils.specs.Vbe.{signed};
+ghost use Rattle.utils.specs.Vbe.{Noted, notedSigned};
 ghost use Rattle.format.specs.Elevation.{lowBits, low32};
 ghost use Rattle.format.specs.WayData.{Node};
 ghost use Rattle.format.specs.Tile.{pointFields, behindPosition, point};
 ghost use Rattle.types.specs.Types.{optionalSpan, nodePosition};
 ghost use Rattle.tag_table.specs.Tables.{kindsBy};
-ghost use Rattle.poi.specs.Poi.{elevationRes, elevationRefusal, optionalElevation, poiFieldsRes, poiFieldsRefusal, poiFieldsOf, emptyPoi, PoiIs, streamedPoi};
+ghost use Rattle.poi.specs.Poi.{elevationRes, elevationRefusal, notedElevation, announced, poiFieldsRes, poiFieldsRefusal, poiFieldsOf, emptyPoi, PoiIs, streamedPoi};
 
 // In metres.
 pub enum OptionalElevation {
@@ -25,7 +28,7 @@ pub enum OptionalElevation {
     At(i32),
 }
 
-// A point. Its texts and its signature are raw parts of the map.
+// A point. Its texts and its signature are raw parts of the map. `plain`: whether the encodings of all its numbers were plain.
 pub struct Poi {
     pub signature: OptionalSpan,
     pub position: Position,
@@ -34,6 +37,7 @@ pub struct Poi {
     pub house_number: OptionalSpan,
     pub elevation: OptionalElevation,
     pub layer: i8,
+    pub plain: bool,
 }
 
 pub struct PoiRead {
@@ -41,8 +45,13 @@ pub struct PoiRead {
     pub end: End,
 }
 
+struct NotedElevation {
+    elevation: OptionalElevation,
+    plain: bool,
+}
+
 enum ElevationRead {
-    Value(OptionalElevation, usize),
+    Value(NotedElevation, usize),
     Refused(Refusal),
 }
 
@@ -51,6 +60,7 @@ struct PoiFields {
     name: OptionalSpan,
     house_number: OptionalSpan,
     elevation: OptionalElevation,
+    plain: bool,
 }
 
 enum PoiFieldsRead {
@@ -95,16 +105,43 @@ fn low32(v: i64) -> i32
 }
 
 fn read_elevation(map: &[u8], at: usize, flag: bool) -> ElevationRead
-    ensures { λ r. ⌜ elevationRes r ≡ mapRes optionalElevation (optional flag signed (now (map .entry)) at) ⌝ }
+    ensures { λ r. ⌜ elevationRes r ≡ mapRes notedElevation (optional flag notedSigned (now (map .entry)) at) ⌝ }
 {
     if !flag {
-        return ElevationRead::Value(OptionalElevation::Absent, at);
+        return ElevationRead::Value(
+            NotedElevation {
+                elevation: OptionalElevation::Absent,
+                plain: true,
+            },
+            at,
+        );
     }
     let got = utils::read_vbe_s_int(map, at);
     let SignedRead::Value(v, next) = got else {
         return ElevationRead::Refused(utils::signed_refusal(got));
     };
-    ElevationRead::Value(OptionalElevation::At(low32(v)), next)
+    ElevationRead::Value(
+        NotedElevation {
+            elevation: OptionalElevation::At(low32(v.value)),
+            plain: v.plain,
+        },
+        next,
+    )
+}
+
+// The three fields together.
+fn poi_fields(first: NotedSpan, second: NotedSpan, third: NotedElevation) -> PoiFields
+    ensures { λ r. ⌜ r ≡ announced first second third ⌝ }
+{
+    let name = first.span;
+    let house_number = second.span;
+    let elevation = third.elevation;
+    PoiFields {
+        name,
+        house_number,
+        elevation,
+        plain: types::both(types::both(first.plain, second.plain), third.plain),
+    }
 }
 
 // The flags, and what they announce.
@@ -115,26 +152,19 @@ fn read_poi_fields(map: &[u8], at: usize) -> PoiFieldsRead
     let ByteRead::Value(flags, at) = got else {
         return PoiFieldsRead::Refused(byte_source::byte_refusal(got));
     };
-    let got = fields::read_optional_text(map, at, flags / 128 % 2 == 1);
-    let OptionalSpanRead::Value(name, at) = got else {
-        return PoiFieldsRead::Refused(fields::optional_span_refusal(got));
+    let got = fields::read_noted_text(map, at, flags / 128 % 2 == 1);
+    let NotedSpanRead::Value(name, at) = got else {
+        return PoiFieldsRead::Refused(fields::noted_span_refusal(got));
     };
-    let got = fields::read_optional_text(map, at, flags / 64 % 2 == 1);
-    let OptionalSpanRead::Value(house_number, at) = got else {
-        return PoiFieldsRead::Refused(fields::optional_span_refusal(got));
+    let got = fields::read_noted_text(map, at, flags / 64 % 2 == 1);
+    let NotedSpanRead::Value(house_number, at) = got else {
+        return PoiFieldsRead::Refused(fields::noted_span_refusal(got));
     };
     let got = read_elevation(map, at, flags / 32 % 2 == 1);
     let ElevationRead::Value(elevation, at) = got else {
         return PoiFieldsRead::Refused(elevation_refusal(got));
     };
-    PoiFieldsRead::Value(
-        PoiFields {
-            name,
-            house_number,
-            elevation,
-        },
-        at,
-    )
+    PoiFieldsRead::Value(poi_fields(name, house_number, elevation), at)
 }
 
 // What stands where there is no point.
@@ -155,6 +185,7 @@ pub fn empty_poi() -> Poi
         name: OptionalSpan::Absent,
         house_number: OptionalSpan::Absent,
         elevation: OptionalElevation::Absent,
+        plain: false,
     }
 }
 
@@ -174,9 +205,9 @@ fn read_behind_position(
     letters: &[u8],
     tags: TagRange,
     signature: OptionalSpan,
-    position: Position,
+    position: NotedPosition,
 ) -> PoiRead
-    ensures { λ r. ⌜ ((g : Maybe Part) (p : Node) → signature ≡ optionalSpan g → position ≡ nodePosition p → PoiIs (behindPosition (kindsBy (now (letters .entry)) tags) g p (now (map .entry)) at) r) ⌝ }
+    ensures { λ r. ⌜ ((g : Maybe Part) (p : Noted Node) → signature ≡ optionalSpan g → position .position ≡ nodePosition (p .value) → position .plain ≡ p .plain → PoiIs (behindPosition (kindsBy (now (letters .entry)) tags) g p (now (map .entry)) at) r) ⌝ }
 {
     let got = tagged::read_tagged(map, at, letters, tags);
     let end = got.end;
@@ -191,15 +222,17 @@ fn read_behind_position(
     let name = rest.name;
     let house_number = rest.house_number;
     let elevation = rest.elevation;
+    let place = position.position;
     PoiRead {
         poi: Poi {
             signature,
-            position,
+            position: place,
             layer: got.layer,
             tag_ids,
             name,
             house_number,
             elevation,
+            plain: types::both(types::both(position.plain, got.plain), rest.plain),
         },
         end: End::At(at),
     }
@@ -239,5 +272,6 @@ pub fn streamed_poi(map: &[u8], poi: Poi) -> Poi
         name,
         house_number,
         elevation,
+        plain: poi.plain,
     }
 }

@@ -15,6 +15,8 @@ use Rattle.byte_source.specs.declared.NumberRead.{NumberRead}
 use Rattle.byte_source.specs.declared.NumberRead.the-variants as number
 use Rattle.byte_source.specs.declared.SpanRead.{SpanRead}
 use Rattle.byte_source.specs.declared.SpanRead.the-variants as span
+use Rattle.utils.specs.declared.VbeRead.{VbeRead}
+use Rattle.utils.specs.declared.VbeRead.the-variants as vbe
 use Rattle.utils.specs.declared.SignedRead.{SignedRead}
 use Rattle.utils.specs.declared.SignedRead.the-variants as signed
 use Rattle.utils.specs.declared.MicroRead.{MicroRead}
@@ -50,6 +52,10 @@ numberNext at (number.Refused r) = at
 abbrev pub spanNext : ℕ → SpanRead → ℕ
 spanNext at (span.Value v n) = n
 spanNext at (span.Refused r) = at
+
+abbrev pub vbeNext : ℕ → VbeRead → ℕ
+vbeNext at (vbe.Value v n) = n
+vbeNext at (vbe.Refused r) = at
 
 abbrev pub signedNext : ℕ → SignedRead → ℕ
 signedNext at (signed.Value v n) = n

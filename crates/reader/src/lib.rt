@@ -8,13 +8,14 @@ use byte_source::SpanRead;
 use byte_source::WordRead;
 use utils::MicroRead;
 use utils::SignedRead;
+use utils::VbeRead;
 ghost use mathlib.Core.Path.{_≡_};
 ghost use Rattle.parsing.specs.Parse.{byte};
 ghost use Rattle.byte_source.specs.BigEndian.{bigEndian, int32};
 ghost use Rattle.byte_source.specs.Answers.{byteRes, shortRes, wordRes, intRes, numberRes, spanRes};
-ghost use Rattle.utils.specs.Vbe.{unsigned, signed, coordinate, text};
-ghost use Rattle.utils.specs.Answers.{signedRes, microRes};
-ghost use Rattle.reader.specs.Places.{readAt, movedTo, byteNext, shortNext, wordNext, intNext, numberNext, spanNext, signedNext, microNext};
+ghost use Rattle.utils.specs.Vbe.{notedUnsigned, notedSigned, notedCoordinate, text};
+ghost use Rattle.utils.specs.Answers.{vbeRes, signedRes, microRes};
+ghost use Rattle.reader.specs.Places.{readAt, movedTo, byteNext, shortNext, wordNext, intNext, numberNext, spanNext, vbeNext, signedNext, microNext};
 
 pub struct Reader<'a> {
     pub src: &'a [u8],
@@ -73,6 +74,15 @@ fn span_next(at: usize, got: SpanRead) -> usize
     match got {
         SpanRead::Value(_, next) => next,
         SpanRead::Refused(_) => at,
+    }
+}
+
+fn vbe_next(at: usize, got: VbeRead) -> usize
+    ensures { λ r. ⌜ r ≡ vbeNext at got ⌝ }
+{
+    match got {
+        VbeRead::Value(_, next) => next,
+        VbeRead::Refused(_) => at,
     }
 }
 
@@ -163,18 +173,18 @@ pub fn read_u64_be<'s, 'a>(r: &'s mut Reader<'a>) -> NumberRead
     got
 }
 
-pub fn read_vbe_u_int<'s, 'a>(r: &'s mut Reader<'a>) -> NumberRead
-    ensures { λ a. ⌜ (numberRes a ≡ readAt unsigned (now (r .entry))) × (now (r .exit) ≡ movedTo (now (r .entry)) (numberNext (now (r .entry) .at) a)) ⌝ }
+pub fn read_vbe_u_int<'s, 'a>(r: &'s mut Reader<'a>) -> VbeRead
+    ensures { λ a. ⌜ (vbeRes a ≡ readAt notedUnsigned (now (r .entry))) × (now (r .exit) ≡ movedTo (now (r .entry)) (vbeNext (now (r .entry) .at) a)) ⌝ }
 {
     let at = r.at;
     let got = utils::read_vbe_u_int(r.src, at);
-    let next = number_next(at, got);
+    let next = vbe_next(at, got);
     r.at = next;
     got
 }
 
 pub fn read_vbe_s_int<'s, 'a>(r: &'s mut Reader<'a>) -> SignedRead
-    ensures { λ a. ⌜ (signedRes a ≡ readAt signed (now (r .entry))) × (now (r .exit) ≡ movedTo (now (r .entry)) (signedNext (now (r .entry) .at) a)) ⌝ }
+    ensures { λ a. ⌜ (signedRes a ≡ readAt notedSigned (now (r .entry))) × (now (r .exit) ≡ movedTo (now (r .entry)) (signedNext (now (r .entry) .at) a)) ⌝ }
 {
     let at = r.at;
     let got = utils::read_vbe_s_int(r.src, at);
@@ -184,7 +194,7 @@ pub fn read_vbe_s_int<'s, 'a>(r: &'s mut Reader<'a>) -> SignedRead
 }
 
 pub fn read_microdegrees<'s, 'a>(r: &'s mut Reader<'a>) -> MicroRead
-    ensures { λ a. ⌜ (microRes a ≡ readAt coordinate (now (r .entry))) × (now (r .exit) ≡ movedTo (now (r .entry)) (microNext (now (r .entry) .at) a)) ⌝ }
+    ensures { λ a. ⌜ (microRes a ≡ readAt notedCoordinate (now (r .entry))) × (now (r .exit) ≡ movedTo (now (r .entry)) (microNext (now (r .entry) .at) a)) ⌝ }
 {
     let at = r.at;
     let got = utils::read_microdegrees(r.src, at);
@@ -206,12 +216,12 @@ pub fn read_vbe_u<'s, 'a>(r: &'s mut Reader<'a>) -> SpanRead
 
 // The number at a place, and where the reader then stands. No caller needs a walk: its contract says nothing of a reader.
 pub struct NumberAt {
-    pub got: NumberRead,
+    pub got: VbeRead,
     pub next: usize,
 }
 
 pub fn number_at(src: &[u8], at: usize) -> NumberAt
-    ensures { λ a. ⌜ (numberRes (a .got) ≡ unsigned (now (src .entry)) at) × (a .next ≡ numberNext at (a .got)) ⌝ }
+    ensures { λ a. ⌜ (vbeRes (a .got) ≡ notedUnsigned (now (src .entry)) at) × (a .next ≡ vbeNext at (a .got)) ⌝ }
 {
     let mut r = Reader { src, at };
     let got = read_vbe_u_int(&mut r);

@@ -1,10 +1,11 @@
 -- A stream, and what its calls answer, as words: which ones each answer writes. The others keep their values.
-use Prim.Native.Nat.{ℕ}
+use Prim.Native.Nat.{ℕ, _%_}
 use mathlib.Core.Bool.{cond}
 use mathlib.Core.List.{List, [], _∷_}
 use lib.ListN.{getD}
 use Rattle.types.specs.declared.OptionalSpan.{OptionalSpan}
 use Rattle.poi.specs.declared.Poi.{Poi}
+use Rattle.selection.specs.declared.Selection.{Selection}
 use Rattle.visit.specs.declared.TileEnd.{TileEnd}
 use Rattle.visit.specs.declared.Turn.{Turn}
 use Rattle.visit.specs.declared.Turn.the-variants as turn
@@ -26,21 +27,25 @@ use Rattle.wire.specs.Wire.{Wire, put, putAll, putSigned, putDegrees, numbered,
 use Rattle.wire.specs.Verdicts.{spanWords, placeWords}
 use Rattle.wire.specs.Elevation.{metreWords}
 
--- the state, in seven words
-abbrev pub turnWords : Turn → (subFile water : ℕ) → List ℕ
-turnWords (turn.Idle r) s w = 0 ∷ r .points ∷ r .ways ∷ r .at ∷ r .way ∷ s ∷ w ∷ []
-turnWords (turn.Waits x) s w = 1 ∷ x .ways ∷ x .past ∷ x .body ∷ 0 ∷ s ∷ w ∷ []
+-- the state, in eight words
+abbrev pub turnWords : Turn → (subFile water plain : ℕ) → List ℕ
+turnWords (turn.Idle r) s w p = 0 ∷ r .points ∷ r .ways ∷ r .at ∷ r .way ∷ s ∷ w ∷ p ∷ []
+turnWords (turn.Waits x) s w p = 1 ∷ x .ways ∷ x .past ∷ x .body ∷ cond (x .«head_plain») 1 0 ∷ s ∷ w ∷ p ∷ []
 
 abbrev pub streamWords : Stream → List ℕ
-streamWords s = turnWords (s .turn) (s .end .«sub_file») (cond (s .end .«is_water») 1 0)
+streamWords s = turnWords (s .turn) (s .end .«sub_file») (cond (s .end .«is_water») 1 0) (cond (s .end .plain) 1 0)
 
 abbrev pub turnIn : List ℕ → Turn
 turnIn l =
     there (getD l 0 0) (turn.Idle (record { points = getD l 1 0; ways = getD l 2 0; at = getD l 3 0; way = getD l 4 0 }))
-    (turn.Waits (record { ways = getD l 1 0; past = getD l 2 0; body = getD l 3 0 }))
+    (turn.Waits (record { ways = getD l 1 0; past = getD l 2 0; body = getD l 3 0; «head_plain» = truth (getD l 4 0) }))
 
 abbrev pub streamIn : List ℕ → Stream
-streamIn l = record { turn = turnIn l; end = record { «sub_file» = getD l 5 0; «is_water» = truth (getD l 6 0) } }
+streamIn l = record { turn = turnIn l; end = record { «sub_file» = getD l 5 0; «is_water» = truth (getD l 6 0); plain = truth (getD l 7 0) } }
+
+-- which ways are selected, in four words
+abbrev pub selectionIn : List ℕ → Selection
+selectionIn l = record { «by_window» = truth (getD l 0 0); mask = getD l 1 0 % 65536; «by_rules» = truth (getD l 2 0); zoom = getD l 3 0 % 256 }
 
 -- opening
 abbrev pub openedWire : (before : Wire) → OpenRead → Wire
@@ -53,14 +58,14 @@ spanList s l = spanWords s .present ∷ spanWords s .start ∷ spanWords s .size
 
 abbrev pub putPoint : Poi → Wire → Wire
 putPoint p w =
-    put 0 6 (0 ∷ p .«tag_ids» .count ∷ spanList (p .signature) (spanList (p .name) (spanList (p .«house_number») (metreWords (p .elevation) .present ∷ []))))
-    (putAll 1 (p .«tag_ids» .ids) (putSigned 0 (p .layer ∷ metreWords (p .elevation) .metres ∷ []) (putDegrees 0 (p .position .latitude ∷ p .position .longitude ∷ []) w)))
+    put 0 21 (cond (p .plain) 1 0 ∷ []) (put 0 6 (0 ∷ p .«tag_ids» .count ∷ spanList (p .signature) (spanList (p .name) (spanList (p .«house_number») (metreWords (p .elevation) .present ∷ []))))
+    (putAll 1 (p .«tag_ids» .ids) (putSigned 0 (p .layer ∷ metreWords (p .elevation) .metres ∷ []) (putDegrees 0 (p .position .latitude ∷ p .position .longitude ∷ []) w))))
 
 abbrev pub putHead : StreamedHead → Wire → Wire
-putHead h w = put 0 18 (h .bitmap ∷ []) (put 0 6 (1 ∷ h .«tag_ids» .count ∷ []) (putAll 1 (h .«tag_ids» .ids) (putSigned 0 (h .layer ∷ []) w)))
+putHead h w = put 0 21 (cond (h .plain) 1 0 ∷ []) (put 0 18 (h .bitmap ∷ []) (put 0 6 (1 ∷ h .«tag_ids» .count ∷ []) (putAll 1 (h .«tag_ids» .ids) (putSigned 0 (h .layer ∷ []) w))))
 
 abbrev pub putEnd : TileEnd → Wire → Wire
-putEnd z w = put 0 19 (z .«sub_file» ∷ cond (z .«is_water») 1 0 ∷ []) (put 0 6 (2 ∷ []) w)
+putEnd z w = put 0 19 (z .«sub_file» ∷ cond (z .«is_water») 1 0 ∷ cond (z .plain) 1 0 ∷ []) (put 0 6 (2 ∷ []) w)
 
 abbrev pub nextWith : NextAnswer → Poi → StreamedHead → Stream → Wire → Wire
 nextWith next-answer.Point p h s w = numbered 0 (put 2 0 (streamWords s) (putPoint p w))
@@ -74,7 +79,7 @@ nextWire w s = nextWith (s .answer) (s .poi) (s .head) (s .stream) w
 -- accept: words from 6 on, the label's position, the state
 abbrev pub putBody : StreamedBody → Wire → Wire
 putBody b w =
-    put 0 6 (b .blocks ∷ b .nodes ∷ spanList (b .name) (spanList (b .«house_number») (spanList (b .reference) (placeWords (b .«label_position») .present ∷ []))))
+    put 0 6 (b .blocks ∷ b .nodes ∷ spanList (b .name) (spanList (b .«house_number») (spanList (b .reference) (placeWords (b .«label_position») .present ∷ cond (b .plain) 1 0 ∷ []))))
     (putDegrees 0 (placeWords (b .«label_position») .latitude ∷ placeWords (b .«label_position») .longitude ∷ []) w)
 
 abbrev pub acceptWith : AcceptAnswer → Stream → Wire → Wire

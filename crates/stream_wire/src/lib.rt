@@ -1,5 +1,6 @@
 // What a stream answers, as words for programs in other languages. An answer writes its own words; the others keep their values.
 use poi::Poi;
+use selection::Selection;
 use visit::AcceptAnswer;
 use visit::Accepted;
 use visit::DeclineAnswer;
@@ -19,9 +20,9 @@ ghost use mathlib.Core.List.{[], _∷_};
 ghost use lib.Seq.{sets};
 ghost use Rattle.wire.specs.Wire.{wire, lending};
 ghost use Rattle.wire.specs.Elevation.{metreWords};
-ghost use Rattle.stream_wire.specs.Streams.{streamWords, turnIn, streamIn, openedWire, putPoint, putHead, putEnd, putBody, nextWire, acceptWire, declineWire};
+ghost use Rattle.stream_wire.specs.Streams.{streamWords, turnIn, streamIn, selectionIn, openedWire, putPoint, putHead, putEnd, putBody, nextWire, acceptWire, declineWire};
 
-fn turn_in(words: [u64; 7]) -> Turn
+fn turn_in(words: [u64; 8]) -> Turn
     ensures { λ r. ⌜ r ≡ turnIn words ⌝ }
 {
     if 0 < words[0] {
@@ -29,6 +30,7 @@ fn turn_in(words: [u64; 7]) -> Turn
             ways: words[1],
             past: words[2] as usize,
             body: words[3] as usize,
+            head_plain: wire::truth_of(words[4]),
         });
     }
     Turn::Idle(Remaining {
@@ -39,23 +41,37 @@ fn turn_in(words: [u64; 7]) -> Turn
     })
 }
 
-pub fn stream_in(words: [u64; 7]) -> Stream
+pub fn stream_in(words: [u64; 8]) -> Stream
     ensures { λ r. ⌜ r ≡ streamIn words ⌝ }
 {
     let turn = turn_in(words);
     let end = TileEnd {
         sub_file: words[5] as usize,
         is_water: wire::truth_of(words[6]),
+        plain: wire::truth_of(words[7]),
     };
     Stream { turn, end }
 }
 
-// A stream, in seven words.
-fn put_stream(stream: Stream, state: &mut [u64; 7])
+// Which ways are selected; of the mask 16 bits count, of the zoom 8.
+pub fn selection_in(words: [u64; 4]) -> Selection
+    ensures { λ r. ⌜ r ≡ selectionIn words ⌝ }
+{
+    Selection {
+        by_window: wire::truth_of(words[0]),
+        mask: (words[1] % 65536) as u16,
+        by_rules: wire::truth_of(words[2]),
+        zoom: (words[3] % 256) as u8,
+    }
+}
+
+// A stream, in eight words.
+fn put_stream(stream: Stream, state: &mut [u64; 8])
     ensures { λ r. ⌜ now (state .exit) ≡ sets (now (state .entry)) 0 (streamWords stream) ⌝ }
 {
     let end = stream.end;
     let water = wire::bit(end.is_water);
+    let plain = wire::bit(end.plain);
     let turn = stream.turn;
     match turn {
         Turn::Idle(r) => {
@@ -66,21 +82,24 @@ fn put_stream(stream: Stream, state: &mut [u64; 7])
             state[4] = r.way as u64;
             state[5] = end.sub_file as u64;
             state[6] = water;
+            state[7] = plain;
         }
         Turn::Waits(w) => {
+            let head = wire::bit(w.head_plain);
             state[0] = 1;
             state[1] = w.ways;
             state[2] = w.past as u64;
             state[3] = w.body as u64;
-            state[4] = 0;
+            state[4] = head;
             state[5] = end.sub_file as u64;
             state[6] = water;
+            state[7] = plain;
         }
     }
 }
 
 // The stream that was opened.
-pub fn put_opened(got: OpenRead, words: &mut [u64; 6], state: &mut [u64; 7]) -> u64
+pub fn put_opened(got: OpenRead, words: &mut [u64; 6], state: &mut [u64; 8]) -> u64
     ensures { λ r. ⌜ wire r (now (words .exit) ∷ now (state .exit) ∷ []) [] [] ≡ openedWire (lending (now (words .entry) ∷ now (state .entry) ∷ []) [] []) got ⌝ }
 {
     match got {
@@ -107,7 +126,7 @@ fn put_signs(poi: Poi, signed_words: &mut [i64; 2])
 // A point: its texts and where it lies.
 fn put_point(
     poi: Poi,
-    words: &mut [u64; 21],
+    words: &mut [u64; 22],
     signed_words: &mut [i64; 2],
     degrees: &mut [f64; 2],
     ids: &mut [u64; 15],
@@ -124,6 +143,7 @@ fn put_point(
     let elevation = wire::metre_words(stored);
     let position = poi.position;
     let tags = poi.tag_ids;
+    let plain = wire::bit(poi.plain);
     words[6] = 0;
     words[7] = tags.count as u64;
     words[8] = signature.present;
@@ -136,6 +156,7 @@ fn put_point(
     words[15] = house.start;
     words[16] = house.size;
     words[17] = elevation.present;
+    words[21] = plain;
     put_signs(poi, signed_words);
     degrees[0] = position.latitude;
     degrees[1] = position.longitude;
@@ -146,7 +167,7 @@ fn put_point(
 // The head of a way.
 fn put_head(
     head: StreamedHead,
-    words: &mut [u64; 21],
+    words: &mut [u64; 22],
     signed_words: &mut [i64; 2],
     ids: &mut [u64; 15],
 )
@@ -154,28 +175,32 @@ fn put_head(
 {
     let tags = head.tag_ids;
     let layer = wire::wide_i8(head.layer);
+    let plain = wire::bit(head.plain);
     words[6] = 1;
     words[7] = tags.count as u64;
     words[18] = head.bitmap as u64;
+    words[21] = plain;
     signed_words[0] = layer;
     let row = tags.ids;
     *ids = row;
 }
 
-fn put_end(end: TileEnd, words: &mut [u64; 21])
+fn put_end(end: TileEnd, words: &mut [u64; 22])
     ensures { λ r. ⌜ wire 0 (now (words .exit) ∷ []) [] [] ≡ putEnd end (lending (now (words .entry) ∷ []) [] []) ⌝ }
 {
     let water = wire::bit(end.is_water);
+    let plain = wire::bit(end.plain);
     words[6] = 2;
     words[19] = end.sub_file as u64;
     words[20] = water;
+    words[21] = plain;
 }
 
 // The next point, the next way's head, or the end; and the state.
 pub fn put_next(
     step: NextStep,
-    state: &mut [u64; 7],
-    words: &mut [u64; 21],
+    state: &mut [u64; 8],
+    words: &mut [u64; 22],
     signed_words: &mut [i64; 2],
     degrees: &mut [f64; 2],
     ids: &mut [u64; 15],
@@ -207,7 +232,7 @@ pub fn put_next(
 }
 
 // What an accepted way has besides its nodes.
-fn put_body(body: StreamedBody, words: &mut [u64; 18], degrees: &mut [f64; 2])
+fn put_body(body: StreamedBody, words: &mut [u64; 19], degrees: &mut [f64; 2])
     ensures { λ r. ⌜ wire 0 (now (words .exit) ∷ []) [] (now (degrees .exit)) ≡ putBody body (lending (now (words .entry) ∷ []) [] (now (degrees .entry))) ⌝ }
 {
     let stored = body.name;
@@ -218,6 +243,7 @@ fn put_body(body: StreamedBody, words: &mut [u64; 18], degrees: &mut [f64; 2])
     let reference = wire::span_words(stored);
     let stored = body.label_position;
     let label = wire::place_words(stored);
+    let plain = wire::bit(body.plain);
     words[6] = body.blocks;
     words[7] = body.nodes;
     words[8] = name.present;
@@ -230,14 +256,15 @@ fn put_body(body: StreamedBody, words: &mut [u64; 18], degrees: &mut [f64; 2])
     words[15] = reference.start;
     words[16] = reference.size;
     words[17] = label.present;
+    words[18] = plain;
     degrees[0] = label.latitude;
     degrees[1] = label.longitude;
 }
 
 pub fn put_accepted(
     step: Accepted,
-    state: &mut [u64; 7],
-    words: &mut [u64; 18],
+    state: &mut [u64; 8],
+    words: &mut [u64; 19],
     degrees: &mut [f64; 2],
 ) -> u64
     ensures { λ r. ⌜ wire r (now (words .exit) ∷ now (state .exit) ∷ []) [] (now (degrees .exit)) ≡ acceptWire (lending (now (words .entry) ∷ now (state .entry) ∷ []) [] (now (degrees .entry))) step ⌝ }
@@ -254,7 +281,7 @@ pub fn put_accepted(
     }
 }
 
-pub fn put_declined(step: Declined, state: &mut [u64; 7], words: &mut [u64; 6]) -> u64
+pub fn put_declined(step: Declined, state: &mut [u64; 8], words: &mut [u64; 6]) -> u64
     ensures { λ r. ⌜ wire r (now (words .exit) ∷ now (state .exit) ∷ []) [] [] ≡ declineWire (lending (now (words .entry) ∷ now (state .entry) ∷ []) [] []) step ⌝ }
 {
     let answer = step.answer;

@@ -1,9 +1,9 @@
 // tag.rs: the tags of a feature, and the kinds of inline values.
-use byte_source::NumberRead;
-use byte_source::SpanRead;
+use utils::TextRead;
+use utils::VbeRead;
 ghost use mathlib.Core.Path.{_≡_};
 ghost use lib.ListN.{length};
-ghost use Rattle.byte_source.specs.Answers.{spanRes};
+ghost use Rattle.utils.specs.Answers.{textRes};
 ghost use Rattle.text.specs.Utf8.{codePoints, replaced};
 ghost use Rattle.text.specs.Hash.{hash};
 ghost use Rattle.tag.specs.Tag.{equalsAt, newTag, tagOf, keyBytes, mark, letterAfter, letterOf, kindOf, kind};
@@ -190,26 +190,26 @@ pub fn inline_value_kind(text: &[u8]) -> Kind
 }
 
 // A length, which is not held to the limit of texts, and that many bytes.
-fn read_sized(map: &[u8], at: usize) -> SpanRead
-    ensures { λ r. ⌜ spanRes (now (map .entry)) r ≡ sized (now (map .entry)) at ⌝ }
+fn read_sized(map: &[u8], at: usize) -> TextRead
+    ensures { λ r. ⌜ textRes (now (map .entry)) r ≡ sized (now (map .entry)) at ⌝ }
 {
     let got = utils::read_vbe_u_int(map, at);
-    let NumberRead::Value(n, start) = got else {
-        return SpanRead::Refused(byte_source::number_refusal(got));
+    let VbeRead::Value(n, start) = got else {
+        return TextRead::Refused(utils::vbe_refusal(got));
     };
-    byte_source::read_bytes(map, start, n as usize)
+    utils::read_part(map, start, n.value as usize, n.plain)
 }
 
-// The inline value of a tag as a part of the map, and the place behind it.
-pub fn skip_inline_value(map: &[u8], at: usize, kind: Kind) -> SpanRead
-    ensures { λ r. ⌜ spanRes (now (map .entry)) r ≡ value kind (now (map .entry)) at ⌝ }
+// The inline value of a tag as a part of the map, and the place behind it. A value of a fixed size has no number that could be padded.
+pub fn skip_inline_value(map: &[u8], at: usize, kind: Kind) -> TextRead
+    ensures { λ r. ⌜ textRes (now (map .entry)) r ≡ value kind (now (map .entry)) at ⌝ }
 {
     match kind {
-        Kind::Byte => byte_source::read_bytes(map, at, 1),
-        Kind::Short => byte_source::read_bytes(map, at, 2),
-        Kind::Int => byte_source::read_bytes(map, at, 4),
-        Kind::Float => byte_source::read_bytes(map, at, 4),
+        Kind::Byte => utils::read_part(map, at, 1, true),
+        Kind::Short => utils::read_part(map, at, 2, true),
+        Kind::Int => utils::read_part(map, at, 4, true),
+        Kind::Float => utils::read_part(map, at, 4, true),
         Kind::Text => read_sized(map, at),
-        Kind::Nothing => byte_source::read_bytes(map, at, 0),
+        Kind::Nothing => utils::read_part(map, at, 0, true),
     }
 }

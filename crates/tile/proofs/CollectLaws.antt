@@ -108,14 +108,14 @@ module _ (l : TileKinds) (empty : Bool) (low high : ℕ) (m : List ℕ) (at : �
   -- rows in an array, and rows in two lists
   module _ (s : SummaryRead) (q : summaryRes s ≡ mapRes summaryOf (collectAt l empty low high at m)) (v : TileSummary) (h : s ≡ summary.Value v) where
     pub read-done : (z : ZoomTableRead) → TableIs (rowsRead empty (l .debug) low high m at) z
-        → TileIs (collectAt l empty low high at m) (record { tile = record { signature = v .signature; «zoom_table» = z .rows; rows = v .rows; «first_way_offset» = v .«first_way_offset»; points = v .points; ways = v .ways; exact = v .exact }; answer = tile-answer.Collected })
+        → TileIs (collectAt l empty low high at m) (record { tile = record { signature = v .signature; «zoom_table» = z .rows; rows = v .rows; «first_way_offset» = v .«first_way_offset»; points = v .points; ways = v .ways; exact = v .exact; plain = v .plain }; answer = tile-answer.Collected })
     read-done z b =
         let t = said (collectAt l empty low high at m) s v q h in
         let r = rows-stored (t .tile) (t .same) in
         is-tile (collectAt l empty low high at m) (t .tile) v (z .rows) (t .same) (t .known) (ap (λ (x : ShownRows). x .rows) (b .whole ∙ ap (viewOr rowsOf noRows) (r .read)) ∙ sym (r .shown))
       where
         is-tile : (stored : Res Tile) (t : Tile) (v : TileSummary) (z : List ZoomRow) → stored ≡ answer t → v ≡ summaryOf t → z ≡ t .«zoom_table»
-            → TileIs stored (record { tile = record { signature = v .signature; «zoom_table» = z; rows = v .rows; «first_way_offset» = v .«first_way_offset»; points = v .points; ways = v .ways; exact = v .exact }; answer = tile-answer.Collected })
+            → TileIs stored (record { tile = record { signature = v .signature; «zoom_table» = z; rows = v .rows; «first_way_offset» = v .«first_way_offset»; points = v .points; ways = v .ways; exact = v .exact; plain = v .plain }; answer = tile-answer.Collected })
         is-tile stored t v z a b c = rw (a, b, c) record { answer = refl; whole = refl }
 
     pub collect-done : (p w p′ w′ : List ℕ) → RowsPut (rowsRead empty (l .debug) low high m at) p w p′ w′ → CollectIs (collectAt l empty low high at m) p w s p′ w′

@@ -4,7 +4,7 @@ use native.Mathlib.Numerals.{add-one}
 use native.Mathlib.Nat.{zero-add}
 use native.Mathlib.Omega.{arith}
 use mathlib.Core.Path.{_≡_, refl, sym, ap, _∙_}
-use mathlib.Core.Bool.{Bool, true, false, cond}
+use mathlib.Core.Bool.{Bool, true, false, _&&_, cond}
 use mathlib.Core.List.{List, [], _∷_, _++_}
 use mathlib.Core.List.{map as mapped}
 use lib.Dec.{leb}
@@ -17,7 +17,7 @@ use Rattle.parsing.proofs.Loops.{sets-append, many-count}
 use Rattle.error.specs.Refusals.{refused}
 use Rattle.error.specs.declared.Refusal.{Refusal}
 use Rattle.arithmetic.specs.Cut.{cut}
-use Rattle.utils.specs.Vbe.{unsigned}
+use Rattle.utils.specs.Vbe.{Noted, valuesOf, allPlain, notedUnsigned}
 use Rattle.format.specs.CutOff.{whereRead, whereByte, ofHead}
 use Rattle.format.specs.Index.{answer}
 use Rattle.format.specs.Rows.{rowsOfInterval, intervalTable, emptyHead, markedHead}
@@ -26,17 +26,19 @@ use Rattle.format.specs.Tile.{Row, row, zoomTable, debugSignature, tileHead}
 use Rattle.types.specs.declared.End.the-variants as end
 use Rattle.types.specs.declared.OptionalSpan.{OptionalSpan}
 use Rattle.types.proofs.BesideLaws.{beside-no}
+use Rattle.types.proofs.NotedLaws.{values-length, values-snoc}
 use Rattle.types.proofs.FillLaws.{map-append, fill-more}
 use Rattle.fields.specs.Fields.{optionalSpanRes, optionalSpanRefusal}
 use Rattle.fields.specs.declared.OptionalSpanRead.{OptionalSpanRead}
 use Rattle.fields.specs.declared.OptionalSpanRead.the-variants as span-read
 use Rattle.fields.proofs.FieldLaws.{optional-span-no, optional-span-then}
-use Rattle.zoom_table.specs.Blocks.{zoomRow, emptyRow, filledRows, rowsOf, noRows, shownRows, TableIs, rowRes, rowRefusal}
-use Rattle.zoom_table.specs.declared.ZoomRow.{ZoomRow}
+use Rattle.zoom_table.specs.Blocks.{zoomRow, notedRow, emptyRow, filledRows, rowsOf, noRows, shownRows, TableIs, rowRes, rowRefusal}
+use Rattle.zoom_table.specs.declared.NotedRow.{NotedRow}
 use Rattle.zoom_table.specs.declared.ZoomTableRead.{ZoomTableRead}
 use Rattle.zoom_table.specs.declared.RowRead.{RowRead}
 use Rattle.zoom_table.specs.declared.RowRead.the-variants as row-read
 use Rattle.zoom_table.proofs.BlockLaws.{row-no}
+use Rattle.zoom_table.proofs.CutOffLaws.{renumbered-map}
 use Rattle.tile.specs.Tile.{rowsRead, RowsPut}
 
 -- the zoom table: zeros, or what stands behind the signature
@@ -73,11 +75,11 @@ module _ (empty debug : Bool) (low high : ℕ) (m : List ℕ) (at : ℕ) where
   module _ (f : empty ≡ false) (g : OptionalSpanRead) (q : optionalSpanRes m g ≡ debugSignature debug m at) (r : ZoomTableRead) where
     pub rows-no : (x y : Refusal) → g ≡ span-read.Refused x → y ≡ optionalSpanRefusal g → shownRows r ≡ noRows → r .end ≡ end.Refused y → TableIs (rowsRead empty debug low high m at) r
     unfolding rowsRead
-    rows-no x y h w v e = rw f (beside-no rowsOf noRows (andThen (debugSignature debug m at) (λ _ n. intervalTable low high m n)) (shownRows r) (r .end) y v e (optional-span-no m g (debugSignature debug m at) (λ _ n. intervalTable low high m n) y x q h w))
+    rows-no x y h w v e = rw f (beside-no rowsOf noRows (andThen (debugSignature debug m at) (λ _ n. mapRes valuesOf (intervalTable low high m n))) (shownRows r) (r .end) y v e (optional-span-no m g (debugSignature debug m at) (λ _ n. mapRes valuesOf (intervalTable low high m n)) y x q h w))
 
-    pub rows-then : (v : OptionalSpan) (n : ℕ) → g ≡ span-read.Value v n → TableIs (intervalTable low high m n) r → TableIs (rowsRead empty debug low high m at) r
+    pub rows-then : (v : OptionalSpan) (n : ℕ) → g ≡ span-read.Value v n → TableIs (mapRes valuesOf (intervalTable low high m n)) r → TableIs (rowsRead empty debug low high m at) r
     unfolding rowsRead
-    rows-then v n h t = rw f (optional-span-then rowsOf noRows (shownRows r) (r .end) m g v n (debugSignature debug m at) (λ _ n. intervalTable low high m n) q h (λ a k. t))
+    rows-then v n h t = rw f (optional-span-then rowsOf noRows (shownRows r) (r .end) m g v n (debugSignature debug m at) (λ _ n. mapRes valuesOf (intervalTable low high m n)) q h (λ a k. t))
 
 -- a table that was read
 pub record Table (empty debug : Bool) (low high : ℕ) (m : List ℕ) (at : ℕ) (rows : List Row) : Type 0 where
@@ -86,28 +88,31 @@ pub record Table (empty debug : Bool) (low high : ℕ) (m : List ℕ) (at : ℕ)
   pub count : length rows ≡ rowsOfInterval low high
 
 -- the zoom table is that of the head
+abbrev made : Maybe Part → List (Noted Row) → Noted ℕ → format.TileHead
+made a t d = record { signature = a; table = valuesOf t; offset = d .value; plain = allPlain t && d .plain }
+
 module _ (debug : Bool) (low high : ℕ) (m : List ℕ) (at : ℕ) (o : low ≤ high) where
-  table-of : (a : Maybe Part) (x : ℕ) (t : List Row) (y : ℕ) → debugSignature debug m at ≡ ok a x → zoomTable (rowsOfInterval low high) m x ≡ ok t y → Table false debug low high m at t
+  table-of : (a : Maybe Part) (x : ℕ) (t : List (Noted Row)) (y : ℕ) → debugSignature debug m at ≡ ok a x → zoomTable (rowsOfInterval low high) m x ≡ ok t y → Table false debug low high m at (valuesOf t)
   unfolding rowsRead intervalTable zoomTable
   table-of a x t y c d = record {
     behind = y;
     read =
-        ap (λ r. andThen r (λ _ n. cond (leb low high) (zoomTable (rowsOfInterval low high) m n) (no 13 []))) c
-        ∙ ap (λ b. cond b (zoomTable (rowsOfInterval low high) m x) (no 13 [])) (le-leb low high o)
-        ∙ d;
-    count = many-count row m (rowsOfInterval low high) x t y (renumbered-ok 20 (whereByte m x) (many row (rowsOfInterval low high) m x) t y d);
+        ap (λ r. andThen r (λ _ n. mapRes valuesOf (cond (leb low high) (zoomTable (rowsOfInterval low high) m n) (no 13 [])))) c
+        ∙ ap (λ b. mapRes valuesOf (cond b (zoomTable (rowsOfInterval low high) m x) (no 13 []))) (le-leb low high o)
+        ∙ ap (mapRes valuesOf) d;
+    count = values-length t ∙ many-count row m (rowsOfInterval low high) x t y (renumbered-ok 20 (whereByte m x) (many row (rowsOfInterval low high) m x) t y d);
   }
 
   stored-table : (k : format.TileHead) (n : ℕ) → tileHead debug (rowsOfInterval low high) m at ≡ ok k n → Table false debug low high m at (k .table)
   unfolding tileHead
   stored-table k n e =
-      let s = split (ofHead whereRead (debugSignature debug) m at) (λ a x. andThen (zoomTable (rowsOfInterval low high) m x) (λ c y. andThen (ofHead whereByte unsigned m y) (λ d z. ok (record { signature = a; table = c; offset = d }) z))) k n e in
-      let u = split (zoomTable (rowsOfInterval low high) m (s .mid)) (λ c y. andThen (ofHead whereByte unsigned m y) (λ d z. ok (record { signature = s .val; table = c; offset = d }) z)) k n (s .second) in
-      let p = split (ofHead whereByte unsigned m (u .mid)) (λ d z. ok (record { signature = s .val; table = u .val; offset = d }) z) k n (u .second) in
+      let s = split (ofHead whereRead (debugSignature debug) m at) (λ a x. andThen (zoomTable (rowsOfInterval low high) m x) (λ c y. andThen (ofHead whereByte notedUnsigned m y) (λ d z. ok (made a c d) z))) k n e in
+      let u = split (zoomTable (rowsOfInterval low high) m (s .mid)) (λ c y. andThen (ofHead whereByte notedUnsigned m y) (λ d z. ok (made (s .val) c d) z)) k n (s .second) in
+      let p = split (ofHead whereByte notedUnsigned m (u .mid)) (λ d z. ok (made (s .val) (u .val) d) z) k n (u .second) in
       known (s .val) (s .mid) (u .val) (u .mid) (p .val) (p .mid) (s .first) (u .first) (p .second)
     where
-      known : (a : Maybe Part) (x : ℕ) (t : List Row) (y d z : ℕ) → ofHead whereRead (debugSignature debug) m at ≡ ok a x → zoomTable (rowsOfInterval low high) m x ≡ ok t y
-          → _≡_ {A = Res format.TileHead} (ok (record { signature = a; table = t; offset = d }) z) (ok k n) → Table false debug low high m at (k .table)
+      known : (a : Maybe Part) (x : ℕ) (t : List (Noted Row)) (y : ℕ) (d : Noted ℕ) (z : ℕ) → ofHead whereRead (debugSignature debug) m at ≡ ok a x → zoomTable (rowsOfInterval low high) m x ≡ ok t y
+          → _≡_ {A = Res format.TileHead} (ok (made a t d) z) (ok k n) → Table false debug low high m at (k .table)
       known a x t y d z f g h = rw (← (ok-val h)) (table-of a x t y (renumbered-ok 20 (cut at) (debugSignature debug m at) a x f) g)
 
 pub head-table : (empty debug : Bool) (low high : ℕ) (m : List ℕ) (at : ℕ) → low ≤ high → (k : format.TileHead) (n : ℕ) → markedHead empty debug (rowsOfInterval low high) m at ≡ ok k n → Table empty debug low high m at (k .table)
@@ -129,11 +134,14 @@ put-more f l xs r =
     let n : 0 + length (mapped f xs) ≡ length xs = zero-add (length (mapped f xs)) ∙ length-map xs f in
     ap (sets l 0) (map-append f xs (r ∷ [])) ∙ sets-append (mapped f xs) (f r ∷ []) l 0 ∙ ap (λ k. set (sets l 0 (mapped f xs)) k (f r)) n
 
-module _ (m : List ℕ) (i at n k : ℕ) (l l₀ : List ℕ) (f : Row → ℕ) (h : mapRes (λ rows. sets l₀ 0 (mapped f rows)) (many row i m at) ≡ ok l n) (g : RowRead) (q : rowRes g ≡ mapRes zoomRow (row m n)) where
-  pub row-put : (e : ℕ) (v : ZoomRow) (x : ZoomRow → ℕ) → ((r : Row) → x (zoomRow r) ≡ f r) → g ≡ row-read.Value v e → mapRes (λ rows. sets l₀ 0 (mapped f rows)) (many row (i + 1) m at) ≡ ok (set l i (x v)) e
-  row-put e v x c d = fill-more (λ rows. sets l₀ 0 (mapped f rows)) f (i + 1) (λ xs r _. put-more f l₀ xs r) row m i at n l e (x v) h (one (row m n) (sym q ∙ ap rowRes d)) (omega arith)
+put-noted : (f : Row → ℕ) (l : List ℕ) (xs : List (Noted Row)) (r : Noted Row) → sets l 0 (mapped f (valuesOf (xs ++ (r ∷ [])))) ≡ set (sets l 0 (mapped f (valuesOf xs))) (length xs) (f (r .value))
+put-noted f l xs r = rw (values-snoc xs r, ← (values-length xs)) (put-more f l (valuesOf xs) (r .value))
+
+module _ (m : List ℕ) (i at n k : ℕ) (l l₀ : List ℕ) (f : Row → ℕ) (h : mapRes (λ rows. sets l₀ 0 (mapped f (valuesOf rows))) (many row i m at) ≡ ok l n) (g : RowRead) (q : rowRes g ≡ mapRes notedRow (row m n)) where
+  pub row-put : (e : ℕ) (v : NotedRow) (x : NotedRow → ℕ) → ((r : Noted Row) → x (notedRow r) ≡ f (r .value)) → g ≡ row-read.Value v e → mapRes (λ rows. sets l₀ 0 (mapped f (valuesOf rows))) (many row (i + 1) m at) ≡ ok (set l i (x v)) e
+  row-put e v x c d = fill-more (λ rows. sets l₀ 0 (mapped f (valuesOf rows))) (λ r. f (r .value)) (i + 1) (λ xs r _. put-noted f l₀ xs r) row m i at n l e (x v) h (one (row m n) (sym q ∙ ap rowRes d)) (omega arith)
     where
-      one : (r : Res Row) → mapRes zoomRow r ≡ ok v e → mapRes f r ≡ ok (x v) e
+      one : (r : Res (Noted Row)) → mapRes notedRow r ≡ ok v e → mapRes (λ r. f (r .value)) r ≡ ok (x v) e
       one (ok r y) z = rw (← (c r)) (ap (mapRes x) z)
       one (no j w) z = no-ok z
 
@@ -141,17 +149,23 @@ module _ (m : List ℕ) (i at n k : ℕ) (l l₀ : List ℕ) (f : Row → ℕ) (
 put-none : (stored : Res (List Row)) (x : Refusal) (p w p′ w′ : List ℕ) → refused x ≡ stored → RowsPut stored p w p′ w′
 put-none stored x p w p′ w′ h = record { points = λ rows e k. no-ok (h ∙ k); ways = λ rows e k. no-ok (h ∙ k) }
 
-module _ (m : List ℕ) (i at n k : ℕ) (p w p₀ w₀ : List ℕ) (h : mapRes (putPoints p₀) (many row i m at) ≡ ok p n) where
-  pub put-stops : (g : RowRead) (e : Refusal) (p′ w′ : List ℕ) → rowRes g ≡ mapRes zoomRow (row m n) → g ≡ row-read.Refused e → i < k → RowsPut (many row k m at) p₀ w₀ p′ w′
-  put-stops g e p′ w′ q d b = put-none (many row k m at) (rowRefusal g) p₀ w₀ p′ w′ (row-no (putPoints p₀) m i at n k p g (rowRefusal g) e h q d refl b)
+module _ (m : List ℕ) (i at n k : ℕ) (p w p₀ w₀ : List ℕ) (h : mapRes (λ rows. putPoints p₀ (valuesOf rows)) (many row i m at) ≡ ok p n) where
+  pub put-stops : (g : RowRead) (e : Refusal) (p′ w′ : List ℕ) → rowRes g ≡ mapRes notedRow (row m n) → g ≡ row-read.Refused e → i < k → RowsPut (mapRes valuesOf (many row k m at)) p₀ w₀ p′ w′
+  put-stops g e p′ w′ q d b =
+      put-none (mapRes valuesOf (many row k m at)) (rowRefusal g) p₀ w₀ p′ w′
+      (ap (mapRes valuesOf) (row-no (λ rows. putPoints p₀ (valuesOf rows)) m i at n k p g (rowRefusal g) e h q d refl b))
 
-  pub put-done : mapRes (putWays w₀) (many row i m at) ≡ ok w n → i ≤ k → k ≤ i → RowsPut (many row k m at) p₀ w₀ p w
+  pub put-done : mapRes (λ rows. putWays w₀ (valuesOf rows)) (many row i m at) ≡ ok w n → i ≤ k → k ≤ i → RowsPut (mapRes valuesOf (many row k m at)) p₀ w₀ p w
   put-done j b c =
       let e : i ≡ k = omega arith in
       record {
-        points = λ rows y z. sym (ok-val (sym (ap (mapRes (putPoints p₀)) z) ∙ rw e at h));
-        ways = λ rows y z. sym (ok-val (sym (ap (mapRes (putWays w₀)) z) ∙ rw e at j));
+        points = λ rows y z. stored (putPoints p₀) (many row k m at) p rows y (rw e at h) z;
+        ways = λ rows y z. stored (putWays w₀) (many row k m at) w rows y (rw e at j) z;
       }
+    where
+      stored : (f : List Row → List ℕ) (r : Res (List (Noted Row))) (l : List ℕ) (rows : List Row) (y : ℕ) → mapRes (λ t. f (valuesOf t)) r ≡ ok l n → mapRes valuesOf r ≡ ok rows y → l ≡ f rows
+      stored f (ok t x) l rows y d z = sym (ok-val d) ∙ ap f (ok-val z)
+      stored f (no a v) l rows y d z = no-ok d
 
 -- zero rows
 zero-more : (n : ℕ) → emptyHead (suc n) .table ≡ emptyHead n .table ++ (record { points = 0; ways = 0 } ∷ [])
@@ -189,14 +203,16 @@ module _ (empty debug : Bool) (low high : ℕ) (m : List ℕ) (at : ℕ) (p w p�
   module _ (f : empty ≡ false) (g : OptionalSpanRead) (q : optionalSpanRes m g ≡ debugSignature debug m at) where
     pub no-signature : (x : Refusal) → g ≡ span-read.Refused x → RowsPut (rowsRead empty debug low high m at) p w p′ w′
     unfolding rowsRead
-    no-signature x h = rw f (put-none (andThen (debugSignature debug m at) (λ _ n. intervalTable low high m n)) (optionalSpanRefusal g) p w p′ w′ (optional-span-no m g (debugSignature debug m at) (λ _ n. intervalTable low high m n) (optionalSpanRefusal g) x q h refl))
+    no-signature x h = rw f (put-none (andThen (debugSignature debug m at) (λ _ n. mapRes valuesOf (intervalTable low high m n))) (optionalSpanRefusal g) p w p′ w′ (optional-span-no m g (debugSignature debug m at) (λ _ n. mapRes valuesOf (intervalTable low high m n)) (optionalSpanRefusal g) x q h refl))
 
-    pub signature-past : (v : OptionalSpan) (n k : ℕ) → low ≤ high → g ≡ span-read.Value v n → k ≡ high - low + 1 → RowsPut (many row k m n) p w p′ w′ → RowsPut (rowsRead empty debug low high m at) p w p′ w′
+    pub signature-past : (v : OptionalSpan) (n k : ℕ) → low ≤ high → g ≡ span-read.Value v n → k ≡ high - low + 1 → RowsPut (mapRes valuesOf (many row k m n)) p w p′ w′ → RowsPut (rowsRead empty debug low high m at) p w p′ w′
     unfolding rowsRead intervalTable zoomTable
     signature-past v n k o h u r = rw f (record { points = λ rows e k. r .points rows e (same rows e k); ways = λ rows e k. r .ways rows e (same rows e k) })
       where
-        same : (rows : List Row) (e : ℕ) → andThen (debugSignature debug m at) (λ _ n. intervalTable low high m n) ≡ ok rows e → many row k m n ≡ ok rows e
+        same : (rows : List Row) (e : ℕ) → andThen (debugSignature debug m at) (λ _ n. mapRes valuesOf (intervalTable low high m n)) ≡ ok rows e → mapRes valuesOf (many row k m n) ≡ ok rows e
         same rows e z =
-            let d = ap (λ r. andThen r (λ _ y. intervalTable low high m y)) (ap (optionalSpanRes m) (sym h) ∙ q) in
-            let c = ap (λ b. cond b (zoomTable (rowsOfInterval low high) m n) (no 13 [])) (le-leb low high o) in
-            ap (λ i. many row i m n) (u ∙ add-one (high - low)) ∙ renumbered-ok 20 (whereByte m n) (many row (rowsOfInterval low high) m n) rows e (sym c ∙ d ∙ z)
+            let d = ap (λ r. andThen r (λ _ y. mapRes valuesOf (intervalTable low high m y))) (ap (optionalSpanRes m) (sym h) ∙ q) in
+            let c = ap (λ b. mapRes valuesOf (cond b (zoomTable (rowsOfInterval low high) m n) (no 13 []))) (le-leb low high o) in
+            let r = many row (rowsOfInterval low high) m n in
+            ap (λ i. mapRes valuesOf (many row i m n)) (u ∙ add-one (high - low))
+            ∙ renumbered-ok 20 (whereByte m n) (mapRes valuesOf r) rows e (renumbered-map valuesOf 20 (whereByte m n) r ∙ sym c ∙ d ∙ z)

@@ -2,14 +2,14 @@
 use Prim.Native.Nat.{ℕ, _+_, _-_, _^_, _≤_, _<_}
 use native.Mathlib.Numerals.{add-one}
 use mathlib.Core.Path.{_≡_, refl, sym, ap, _∙_}
-use mathlib.Core.Bool.{Bool}
+use mathlib.Core.Bool.{Bool, _&&_}
 use mathlib.Core.List.{List}
 use lib.ListN.{length}
 use borrow.Author.Needs.{needs}
 use borrow.Author.Tests.{le-leb}
 use Rattle.parsing.specs.Parse.{Res, ok, no, andThen, mapRes, many, Maybe}
 use Rattle.parsing.specs.Good.{ok-val, ok-at, no-ok}
-use Rattle.parsing.proofs.Views.{view-stop}
+use Rattle.parsing.proofs.Views.{viewed, view-stop}
 use Rattle.parsing.proofs.Loops.{many-count}
 use Rattle.error.specs.Refusals.{refused, numberOf, valuesOf}
 use Rattle.error.specs.declared.Refusal.{Refusal}
@@ -19,9 +19,7 @@ use Rattle.format.specs.Index.{answer, answered, Grid, Located, locate, tileAt}
 use Rattle.format.specs.Rows.{markedHead, locatedHead, rowsOfInterval, intervalHead, pointsOf, waysOf}
 use Rattle.format.specs.Tile as format
 use Rattle.format.specs.Tile.{Point, point}
-use Rattle.types.specs.Types.{optionalSpan, endRes, endRefusal}
-use Rattle.types.specs.declared.End.{End}
-use Rattle.types.specs.declared.End.the-variants as end
+use Rattle.types.specs.Types.{optionalSpan}
 use Rattle.zoom_table.specs.Blocks.{rowsOf}
 use Rattle.tile_head.specs.TileHead.{headAt, headRes, headRefusal}
 use Rattle.tile_head.specs.declared.TileHead.{TileHead}
@@ -32,33 +30,49 @@ use Rattle.tile_place.specs.declared.FoundTile.{FoundTile}
 use Rattle.tile_place.specs.declared.PlaceRead.{PlaceRead}
 use Rattle.tile_place.specs.declared.PlaceRead.the-variants as place
 use Rattle.tile_place.proofs.PlaceLaws.{located-ordered}
-use Rattle.agreement.specs.Collected.{Way, way, allExact, StoredTile, collect, cutPlace}
+use Rattle.agreement.specs.Collected.{Way, way, plainPoints, StoredTile, collect, cutPlace}
 use Rattle.agreement.proofs.CollectLaws.{collect-cut, collect-at}
 use Rattle.agreement.proofs.TileFormatLaws.{tile-laws, head-counts, head-cut, head-end}
 use Rattle.tile_layout.specs.TileLayout.{TileKinds, formatOf}
-use Rattle.tile_walk.specs.TileWalk.{waysRes, waysRefusal, exactWays}
+use Rattle.tile_walk.specs.TileWalk.{pointsRes, pointsRefusal, plainOf, waysRes, waysRefusal, saidOfAll, saidWays}
+use Rattle.tile_walk.specs.declared.PointsRead.{PointsRead}
+use Rattle.tile_walk.specs.declared.PointsRead.the-variants as points-read
+use Rattle.tile_walk.specs.declared.WaysSaid.{WaysSaid}
 use Rattle.tile_walk.specs.declared.WaysRead.{WaysRead}
 use Rattle.tile_walk.specs.declared.WaysRead.the-variants as ways-read
-use Rattle.tile.specs.Tile.{shownTile, collectAt, collectTile, summaryOf, walked}
+use Rattle.tile.specs.Tile.{shownTile, collectAt, collectTile, summaryOf, alsoPoints, walked}
 use Rattle.tile.specs.declared.Tile.{Tile}
 use Rattle.tile.specs.declared.TileSummary.{TileSummary}
 use Rattle.tile.proofs.RowLaws.{head-table}
 
 -- the points, then the ways
-module _ (l : TileKinds) (m : List ℕ) (at points ways offset : ℕ) (g : End) (q : endRes points g ≡ mapRes length (many (point (l .debug) (l .points)) points m at)) where
-  pub walk-stops : (x y : Refusal) → g ≡ end.Refused x → y ≡ endRefusal g → refused y ≡ walked l m at points ways offset
-  walk-stops x y h w =
-      ap refused (w ∙ ap endRefusal h)
-      ∙ view-stop length (many (point (l .debug) (l .points)) points m at) (λ _ _. exactWays l m ways (cut (at + offset))) (sym q ∙ ap (endRes points) h)
+module _ (l : TileKinds) (m : List ℕ) (at points ways offset : ℕ) (g : PointsRead) (q : pointsRes g ≡ plainOf l m points at) where
+  abbrev read : Res (List Point)
+  read = many (point (l .debug) (l .points)) points m at
 
-  pub walk-on : (n first : ℕ) (r : Res Bool) → g ≡ end.At n → first ≡ cut (at + offset) → r ≡ exactWays l m ways first → r ≡ walked l m at points ways offset
-  walk-on n first r h w f = f ∙ ap (exactWays l m ways) w ∙ go (many (point (l .debug) (l .points)) points m at) (ap (endRes points) (sym h) ∙ q)
-    where
-      go : (r : Res (List Point)) → ok points n ≡ mapRes length r → exactWays l m ways (cut (at + offset)) ≡ andThen r (λ _ _. exactWays l m ways (cut (at + offset)))
-      go (ok ps e) d = refl
-      go (no k v) d = no-ok (sym d)
+  abbrev said : Res WaysSaid
+  said = saidWays l m ways (cut (at + offset))
 
-pub ruleset walks = (needs, walk-stops, walk-on)
+  abbrev onward : List Point → ℕ → Res WaysSaid
+  onward ps _ = mapRes (alsoPoints (plainPoints (formatOf l) ps)) said
+
+  pub walk-stops : (x y : Refusal) → g ≡ points-read.Refused x → y ≡ pointsRefusal g → refused y ≡ walked l m at points ways offset
+  walk-stops x y h w = ap refused (w ∙ ap pointsRefusal h) ∙ view-stop (plainPoints (formatOf l)) read onward (sym q ∙ ap pointsRes h)
+
+  module _ (plain : Bool) (n : ℕ) (h : g ≡ points-read.Value plain n) (first : ℕ) (f : first ≡ cut (at + offset)) (w : WaysRead) (k : waysRes w ≡ saidWays l m ways first) where
+    on : waysRes w ≡ said
+    on = k ∙ ap (saidWays l m ways) f
+
+    went : (x : Res WaysSaid) → x ≡ mapRes (alsoPoints plain) said → x ≡ walked l m at points ways offset
+    went x d = viewed (plainPoints (formatOf l)) read onward (sym q ∙ ap pointsRes h) (λ ps v. d ∙ ap (λ p. mapRes (alsoPoints p) said) v)
+
+    pub ways-stop : (x y : Refusal) → w ≡ ways-read.Refused x → y ≡ waysRefusal w → refused y ≡ walked l m at points ways offset
+    ways-stop x y d z = went (refused y) (ap refused (z ∙ ap waysRefusal d) ∙ ap (mapRes (alsoPoints plain)) (ap waysRes (sym d) ∙ on))
+
+    pub walk-on : (s : WaysSaid) (e : ℕ) (p : Bool) → w ≡ ways-read.Value s e → p ≡ (plain && s .plain) → ok (record { exact = s .exact; plain = p }) e ≡ walked l m at points ways offset
+    walk-on s e p d z = went (ok (record { exact = s .exact; plain = p }) e) (rw z (ap (mapRes (alsoPoints plain)) (ap waysRes (sym d) ∙ on)))
+
+pub ruleset walks = (needs, walk-stops, ways-stop, walk-on)
 
 -- collecting with every sum cut
 module _ (l : TileKinds) (m : List ℕ) (small : length m < 2 ^ 64) (empty : Bool) (rows i : ℕ) where
@@ -90,7 +104,7 @@ module _ (l : TileKinds) (m : List ℕ) (small : length m < 2 ^ 64) (empty : Boo
       place-gone (collect (markedHead empty (l .debug) rows) (formatOf l) m i)
       ∙ ap shown (collect-cut (markedHead empty (l .debug) rows) (head-counts empty (l .debug) rows) (formatOf l) (tile-laws (l .debug) (l .points) (l .ways)) (head-end (l .debug) (l .ways)) m small i)
 
-  abbrev made : format.TileHead → Bool → Tile
+  abbrev made : format.TileHead → WaysSaid → Tile
   made h b = record {
     signature = optionalSpan (h .signature);
     «zoom_table» = rowsOf (h .table) .rows;
@@ -98,32 +112,33 @@ module _ (l : TileKinds) (m : List ℕ) (small : length m < 2 ^ 64) (empty : Boo
     «first_way_offset» = h .offset;
     points = points h;
     ways = ways h;
-    exact = b;
+    exact = b .exact;
+    plain = h .plain && b .plain;
   }
 
   -- by what the walk behind the head answers
   behind-no : (h : format.TileHead) (e k : ℕ) (v : List ℕ) → no k v ≡ walked l m e (points h) (ways h) (h .offset) → no k v ≡ shown (behind h e)
   behind-no h e k v q = go (many (point (l .debug) (l .points)) (points h) m e) q
     where
-      on : (ps : List Point) (r : Res (List (Way (formatOf l)))) → no k v ≡ mapRes allExact r → no k v ≡ shown (andThen r (λ ws y. ok (stored h e ps ws) y))
+      on : (ps : List Point) (r : Res (List (Way (formatOf l)))) → no k v ≡ mapRes (alsoPoints (plainPoints (formatOf l) ps)) (mapRes (saidOfAll l) r) → no k v ≡ shown (andThen r (λ ws y. ok (stored h e ps ws) y))
       on ps (ok ws y) d = no-ok d
       on ps (no x y) d = cc
 
-      go : (r : Res (List Point)) → no k v ≡ andThen r (λ _ _. exactWays l m (ways h) (cut (e + h .offset))) → no k v ≡ shown (andThen r (λ ps _. andThen (many (way (formatOf l)) (ways h) m (cut (e + h .offset))) (λ ws y. ok (stored h e ps ws) y)))
+      go : (r : Res (List Point)) → no k v ≡ andThen r (λ ps _. mapRes (alsoPoints (plainPoints (formatOf l) ps)) (saidWays l m (ways h) (cut (e + h .offset)))) → no k v ≡ shown (andThen r (λ ps _. andThen (many (way (formatOf l)) (ways h) m (cut (e + h .offset))) (λ ws y. ok (stored h e ps ws) y)))
       go (ok ps x) d = on ps (many (way (formatOf l)) (ways h) m (cut (e + h .offset))) d
       go (no x y) d = cc
 
-  behind-ok : (h : format.TileHead) (e : ℕ) (b : Bool) (y : ℕ) → ok b y ≡ walked l m e (points h) (ways h) (h .offset) → answer (made h b) ≡ shown (behind h e)
+  behind-ok : (h : format.TileHead) (e : ℕ) (b : WaysSaid) (y : ℕ) → ok b y ≡ walked l m e (points h) (ways h) (h .offset) → answer (made h b) ≡ shown (behind h e)
   behind-ok h e b y q = go (many (point (l .debug) (l .points)) (points h) m e) refl q
     where
-      on : (ps : List Point) (r : Res (List (Way (formatOf l)))) → many (way (formatOf l)) (ways h) m (cut (e + h .offset)) ≡ r → length ps ≡ points h → ok b y ≡ mapRes allExact r → answer (made h b) ≡ shown (andThen r (λ ws y. ok (stored h e ps ws) y))
+      on : (ps : List Point) (r : Res (List (Way (formatOf l)))) → many (way (formatOf l)) (ways h) m (cut (e + h .offset)) ≡ r → length ps ≡ points h → ok b y ≡ mapRes (alsoPoints (plainPoints (formatOf l) ps)) (mapRes (saidOfAll l) r) → answer (made h b) ≡ shown (andThen r (λ ws y. ok (stored h e ps ws) y))
       on ps (ok ws z) f c d =
           let n = many-count (way (formatOf l)) m (ways h) (cut (e + h .offset)) ws z f in
-          let u : b ≡ allExact ws = ok-val d in
+          let u : b ≡ alsoPoints (plainPoints (formatOf l) ps) (saidOfAll l ws) = ok-val d in
           rw (c, n, u)
       on ps (no x w) f c d = no-ok (sym d)
 
-      go : (r : Res (List Point)) → many (point (l .debug) (l .points)) (points h) m e ≡ r → ok b y ≡ andThen r (λ _ _. exactWays l m (ways h) (cut (e + h .offset))) → answer (made h b) ≡ shown (andThen r (λ ps _. andThen (many (way (formatOf l)) (ways h) m (cut (e + h .offset))) (λ ws y. ok (stored h e ps ws) y)))
+      go : (r : Res (List Point)) → many (point (l .debug) (l .points)) (points h) m e ≡ r → ok b y ≡ andThen r (λ ps _. mapRes (alsoPoints (plainPoints (formatOf l) ps)) (saidWays l m (ways h) (cut (e + h .offset)))) → answer (made h b) ≡ shown (andThen r (λ ps _. andThen (many (way (formatOf l)) (ways h) m (cut (e + h .offset))) (λ ws y. ok (stored h e ps ws) y)))
       go (ok ps x) f d = on ps (many (way (formatOf l)) (ways h) m (cut (e + h .offset))) refl (many-count (point (l .debug) (l .points)) m (points h) e ps x f) d
       go (no x w) f d = no-ok (sym d)
 
@@ -174,15 +189,15 @@ module _ (l : TileKinds) (empty : Bool) (low high : ℕ) (m : List ℕ) (at : �
         ∙ behind-no l m small empty (rowsOfInterval low high) at (found .value) n (numberOf x) (valuesOf x) (ap waysRes (sym d) ∙ walked-as)
         ∙ sym collected-as)
 
-    pub summarized : (b : Bool) (y : ℕ) → w ≡ ways-read.Value b y
-        → _≡_ {A = Res TileSummary} (answer (record { signature = v .signature; «first_way_offset» = v .offset; points = v .sums .«all_points»; ways = v .sums .«all_ways»; rows = high - low + 1; exact = b })) (mapRes summaryOf (collectAt l empty low high at m))
-    summarized b y d =
-        summary-is (found .value) v b (found .known) (head-table empty (l .debug) low high m at o (found .value) n (found .same) .count)
+    pub summarized : (b : WaysSaid) (y : ℕ) (p : Bool) → w ≡ ways-read.Value b y → p ≡ (v .plain && b .plain)
+        → _≡_ {A = Res TileSummary} (answer (record { signature = v .signature; «first_way_offset» = v .offset; points = v .sums .«all_points»; ways = v .sums .«all_ways»; rows = high - low + 1; exact = b .exact; plain = p })) (mapRes summaryOf (collectAt l empty low high at m))
+    summarized b y p d u =
+        summary-is (found .value) v b p (found .known) u (head-table empty (l .debug) low high m at o (found .value) n (found .same) .count)
         ∙ ap (mapRes summaryOf) (behind-ok l m small empty (rowsOfInterval low high) at (found .value) n b y (ap waysRes (sym d) ∙ walked-as) ∙ sym collected-as)
       where
-        summary-is : (k : format.TileHead) (x : TileHead) (b : Bool) → x ≡ headAt low high high k → length (k .table) ≡ rowsOfInterval low high
-            → _≡_ {A = Res TileSummary} (answer (record { signature = x .signature; «first_way_offset» = x .offset; points = x .sums .«all_points»; ways = x .sums .«all_ways»; rows = high - low + 1; exact = b })) (answer (summaryOf (made l m small empty (rowsOfInterval low high) at k b)))
-        summary-is k x b p q = rw (p, q, add-one (high - low))
+        summary-is : (k : format.TileHead) (x : TileHead) (b : WaysSaid) (p : Bool) → x ≡ headAt low high high k → p ≡ (x .plain && b .plain) → length (k .table) ≡ rowsOfInterval low high
+            → _≡_ {A = Res TileSummary} (answer (record { signature = x .signature; «first_way_offset» = x .offset; points = x .sums .«all_points»; ways = x .sums .«all_ways»; rows = high - low + 1; exact = b .exact; plain = p })) (answer (summaryOf (made l m small empty (rowsOfInterval low high) at k b)))
+        summary-is k x b p h u q = rw (u, h, q, add-one (high - low))
 
 -- a tile's place, first
 module _ (l : TileKinds) (i : Maybe Interval) (grid : Grid) (number : ℕ) (m : List ℕ) (g : PlaceRead) (q : placeRes g ≡ mapRes placeOf (locate (l .debug) i grid number m)) where

@@ -1,8 +1,9 @@
 -- A collected tile (document 01, "The stream and the collected tile": "Collecting decodes every row and answers the zoom table,
--- first-way offset, feature counts, and (added) whether every stored size is the decoded length"). The machine is `collect` of crate
+-- first-way offset, feature counts, and (added) whether every stored size is the decoded length"; request 6 adds whether every number was
+-- plain). The machine is `collect` of crate
 -- agreement.
 use Prim.Native.Nat.{ℕ, _+_}
-use mathlib.Core.Bool.{Bool, false}
+use mathlib.Core.Bool.{Bool, false, _&&_}
 use mathlib.Core.Path.{_≡_}
 use mathlib.Core.List.{List}
 use mathlib.Core.List.{map as mapped}
@@ -13,6 +14,7 @@ use Rattle.error.specs.Refusals.{refused}
 use Rattle.error.specs.declared.Refusal.{Refusal}
 use Rattle.error.specs.declared.Refusal.the-variants.{Source}
 use Rattle.arithmetic.specs.Cut.{cut}
+use Rattle.utils.specs.Vbe.{valuesOf}
 use Rattle.format.specs.Header.{Interval}
 use Rattle.format.specs.Index.{answer, answered, Grid, locate, tileAt}
 use Rattle.format.specs.Rows.{rowsOfInterval, intervalTable, emptyHead, markedHead, locatedHead}
@@ -22,9 +24,10 @@ use Rattle.types.specs.Beside.{viewOr}
 use Rattle.zoom_table.specs.Blocks.{emptyRow, filledRows}
 use Rattle.zoom_table.specs.declared.ZoomRow.{ZoomRow}
 use Rattle.agreement.specs.Format.{Format}
-use Rattle.agreement.specs.Collected.{allExact, StoredTile, collect}
+use Rattle.agreement.specs.Collected.{allExact, plainPoints, plainWays, StoredTile, collect}
 use Rattle.tile_layout.specs.TileLayout.{TileKinds, formatOf}
-use Rattle.tile_walk.specs.TileWalk.{exactWays}
+use Rattle.tile_walk.specs.TileWalk.{saidWays}
+use Rattle.tile_walk.specs.declared.WaysSaid.{WaysSaid}
 use Rattle.tile.specs.declared.Tile.{Tile}
 use Rattle.tile.specs.declared.TileAnswer.{TileAnswer}
 use Rattle.tile.specs.declared.TileAnswer.the-variants as tile-answer
@@ -35,7 +38,7 @@ use Rattle.tile.specs.declared.SummaryRead.the-variants as summary
 
 -- what is shown of a tile that was collected: its features are fetched
 abbrev pub shownTile : {F : Format} → StoredTile F → Tile
-shownTile t = record {
+shownTile {F} t = record {
   signature = optionalSpan (t .head .signature);
   «zoom_table» = filledRows (t .head .table);
   rows = length (t .head .table);
@@ -43,6 +46,7 @@ shownTile t = record {
   points = length (t .points);
   ways = length (t .ways);
   exact = allExact (t .ways);
+  plain = t .head .plain && (plainPoints F (t .points) && plainWays (t .ways));
 }
 
 -- where collecting is refused
@@ -55,6 +59,7 @@ emptyTile = record {
   points = 0;
   ways = 0;
   exact = false;
+  plain = false;
 }
 
 -- sub file (8), grid (14), tile (8), its entry and the next one (19), interval (13), then the tile's bytes, if it is not marked empty
@@ -81,6 +86,7 @@ summaryOf t = record {
   ways = t .ways;
   rows = t .rows;
   exact = t .exact;
+  plain = t .plain;
 }
 
 -- and its rows, whose points and ways go to the fronts of two lent lists
@@ -116,12 +122,17 @@ unfoldable pub rowsRead : (empty debug : Bool) → (low high : ℕ) → Parser (
 rowsRead empty debug low high =
     pick empty (return (emptyHead (rowsOfInterval low high) .table)) (do
       g ← debugSignature debug
-      intervalTable low high)
+      t ← intervalTable low high
+      return (valuesOf t))
+
+-- with whether the points were plain
+abbrev pub alsoPoints : Bool → WaysSaid → WaysSaid
+alsoPoints p s = record { exact = s .exact; plain = p && s .plain }
 
 -- and, behind a head that ends at e, the points, then the ways
-abbrev pub walked : TileKinds → List ℕ → (e points ways offset : ℕ) → Res Bool
+abbrev pub walked : TileKinds → List ℕ → (e points ways offset : ℕ) → Res WaysSaid
 walked l m e points ways offset =
-    andThen (many (point (l .debug) (l .points)) points m e) (λ _ _. exactWays l m ways (cut (e + offset)))
+    andThen (many (point (l .debug) (l .points)) points m e) (λ ps _. mapRes (alsoPoints (plainPoints (formatOf l) ps)) (saidWays l m ways (cut (e + offset))))
 
 -- rows that can be read are written to the fronts of two lists
 pub record RowsPut (stored : Res (List Row)) (lentPoints lentWays leftPoints leftWays : List ℕ) : Type 0 where

@@ -6,7 +6,9 @@ use tile_head::TileHeadRead;
 use tile_layout::TileLayout;
 use tile_place::FoundTile;
 use tile_place::PlaceRead;
+use tile_walk::PointsRead;
 use tile_walk::WaysRead;
+use tile_walk::WaysSaid;
 use types::End;
 use types::Grid;
 use types::OptionalSpan;
@@ -17,6 +19,7 @@ use zoom_table::ZoomTableRead;
 ghost use mathlib.Core.Path.{_≡_};
 ghost use Prim.Native.Nat.{_≤_};
 ghost use Rattle.parsing.specs.Parse.{mapRes, many};
+ghost use Rattle.utils.specs.Vbe.{valuesOf};
 ghost use Rattle.format.specs.Index.{answer};
 ghost use Rattle.format.specs.Rows.{emptyHead};
 ghost use Rattle.format.specs.Tile.{row};
@@ -28,7 +31,7 @@ ghost use Rattle.tile_walk.specs.TileWalk.{waysRes};
 ghost use Rattle.tile.specs.Tile.{emptyTile, rowsRead, walked, collectAt, collectTile, TileIs, summaryOf, summaryRes, summaryRefusal, RowsPut, CollectIs};
 
 // A collected tile. `zoom_table` has `rows` rows from the front, zeros behind them. `exact`: every way's stored size is its decoded
-// length.
+// length. `plain`: every number of the tile was.
 pub struct Tile {
     pub signature: OptionalSpan,
     pub zoom_table: [ZoomRow; 256],
@@ -37,6 +40,7 @@ pub struct Tile {
     pub points: u64,
     pub ways: u64,
     pub exact: bool,
+    pub plain: bool,
 }
 
 pub enum TileAnswer {
@@ -58,6 +62,7 @@ pub struct TileSummary {
     pub ways: u64,
     pub rows: usize,
     pub exact: bool,
+    pub plain: bool,
 }
 
 pub enum SummaryRead {
@@ -87,6 +92,7 @@ fn refused_tile(refusal: Refusal) -> TileRead
             points: 0,
             ways: 0,
             exact: false,
+            plain: false,
         },
         answer: TileAnswer::Refused(refusal),
     }
@@ -127,12 +133,22 @@ fn walk(
     ensures { λ r. ⌜ waysRes r ≡ walked (kindsOf layout (now (letters .entry))) (now (map .entry)) at (sums .«all_points») (sums .«all_ways») offset ⌝ }
 {
     let ways = sums.all_ways;
-    let end = tile_walk::pass_points(map, at, sums.all_points, layout, letters);
-    let End::At(_) = end else {
-        return WaysRead::Refused(types::end_refusal(end));
+    let got = tile_walk::measure_points(map, at, sums.all_points, layout, letters);
+    let PointsRead::Value(plain, _) = got else {
+        return WaysRead::Refused(tile_walk::points_refusal(got));
     };
     let first = arithmetic::saturating_add_usize(at, offset as usize);
-    tile_walk::measure_ways(map, first, ways, layout, letters)
+    let got = tile_walk::measure_ways(map, first, ways, layout, letters);
+    let WaysRead::Value(said, behind) = got else {
+        return WaysRead::Refused(tile_walk::ways_refusal(got));
+    };
+    WaysRead::Value(
+        WaysSaid {
+            exact: said.exact,
+            plain: types::both(plain, said.plain),
+        },
+        behind,
+    )
 }
 
 // What is said of the tile at a place that was found.
@@ -150,9 +166,10 @@ fn summarize(map: &[u8], place: FoundTile, layout: TileLayout, letters: &[u8]) -
     };
     let sums = head.sums;
     let walked = walk(map, start, sums, head.offset, layout, letters);
-    let WaysRead::Value(exact, _) = walked else {
+    let WaysRead::Value(said, _) = walked else {
         return SummaryRead::Refused(tile_walk::ways_refusal(walked));
     };
+    let plain = types::both(head.plain, said.plain);
     let signature = head.signature;
     SummaryRead::Value(TileSummary {
         signature,
@@ -160,7 +177,8 @@ fn summarize(map: &[u8], place: FoundTile, layout: TileLayout, letters: &[u8]) -
         points: sums.all_points,
         ways: sums.all_ways,
         rows,
-        exact,
+        exact: said.exact,
+        plain,
     })
 }
 
@@ -196,6 +214,7 @@ pub fn read_tile(
             points: summary.points,
             ways: summary.ways,
             exact: summary.exact,
+            plain: summary.plain,
         },
         answer: TileAnswer::Collected,
     }
@@ -204,7 +223,7 @@ pub fn read_tile(
 // `count` rows from `at` on, to the fronts of two lists.
 fn put_rows(map: &[u8], at: usize, count: usize, points: &mut [u64; 256], ways: &mut [u64; 256])
     requires { ⌜ count ≤ 256 ⌝ }
-    ensures { λ r. ⌜ RowsPut (many row count (now (map .entry)) at) (now (points .entry)) (now (ways .entry)) (now (points .exit)) (now (ways .exit)) ⌝ }
+    ensures { λ r. ⌜ RowsPut (mapRes valuesOf (many row count (now (map .entry)) at)) (now (points .entry)) (now (ways .entry)) (now (points .exit)) (now (ways .exit)) ⌝ }
 {
     let mut next = at;
     let mut i = 0;

@@ -1,5 +1,6 @@
 -- A tile's head as it is handed out (document 01, tile.rs and visit.rs), from what is stored.
 use Prim.Native.Nat.{ℕ}
+use mathlib.Core.Bool.{true}
 use Rattle.parsing.specs.Parse.{Res, ok, none}
 use Rattle.error.specs.Refusals.{refused}
 use Rattle.error.specs.declared.Refusal.{Refusal}
@@ -13,7 +14,7 @@ use Rattle.tile_head.specs.declared.TileHeadRead.the-variants as head
 
 -- of a tile of the levels from low to high, at a zoom
 abbrev pub headAt : (low high zoom : ℕ) → format.TileHead → TileHead
-headAt low high zoom h = record { signature = optionalSpan (h .signature); sums = zoomSums low high zoom (h .table); offset = h .offset }
+headAt low high zoom h = record { signature = optionalSpan (h .signature); sums = zoomSums low high zoom (h .table); offset = h .offset; plain = h .plain }
 
 abbrev pub headRes : TileHeadRead → Res TileHead
 headRes (head.Value v n) = ok v n
@@ -25,4 +26,4 @@ headRefusal (head.Refused r) = r
 
 -- What a private function makes, which need not be believed: the head of a tile that its index marks empty
 abbrev pub noFeatures : TileHead
-noFeatures = record { signature = optionalSpan none; sums = record { points = 0; ways = 0; «all_points» = 0; «all_ways» = 0 }; offset = 0 }
+noFeatures = record { signature = optionalSpan none; sums = record { points = 0; ways = 0; «all_points» = 0; «all_ways» = 0 }; offset = 0; plain = true }

@@ -1,25 +1,26 @@
 // tile.rs and visit.rs: a tile's head, which is its signature, the sums of its zoom table, and its first-way offset.
-use byte_source::NumberRead;
 use error::Refusal;
 use fields::OptionalSpanRead;
 use types::OptionalSpan;
+use utils::VbeRead;
 use zoom_table::Sums;
 use zoom_table::SumsRead;
 ghost use mathlib.Core.Path.{_≡_};
 ghost use Rattle.parsing.specs.Parse.{mapRes};
-ghost use Rattle.byte_source.specs.Answers.{numberRes};
-ghost use Rattle.utils.specs.Vbe.{unsigned};
+ghost use Rattle.utils.specs.Vbe.{notedUnsigned};
+ghost use Rattle.utils.specs.Answers.{vbeRes};
 ghost use Rattle.fields.specs.Fields.{optionalSpanRes};
 ghost use Rattle.format.specs.CutOff.{whereRead, whereByte, ofHead};
 ghost use Rattle.format.specs.Tile.{debugSignature};
 ghost use Rattle.format.specs.Rows.{intervalHead};
 ghost use Rattle.tile_head.specs.TileHead.{headAt, headRes, headRefusal, noFeatures};
 
-// The first way is `offset` bytes behind the head.
+// The first way is `offset` bytes behind the head. `plain`: whether every number of the head was plain, also those of rows above the zoom.
 pub struct TileHead {
     pub signature: OptionalSpan,
     pub sums: Sums,
     pub offset: u64,
+    pub plain: bool,
 }
 
 pub enum TileHeadRead {
@@ -51,13 +52,13 @@ fn head_signature(map: &[u8], at: usize, debug: bool) -> OptionalSpanRead
 }
 
 // A number of a tile's head.
-fn head_number(map: &[u8], at: usize) -> NumberRead
-    ensures { λ r. ⌜ numberRes r ≡ ofHead whereByte unsigned (now (map .entry)) at ⌝ }
+fn head_number(map: &[u8], at: usize) -> VbeRead
+    ensures { λ r. ⌜ vbeRes r ≡ ofHead whereByte notedUnsigned (now (map .entry)) at ⌝ }
 {
     let got = utils::read_vbe_u_int(map, at);
-    let NumberRead::Value(_, _) = got else {
-        return NumberRead::Refused(error::in_tile_head(
-            byte_source::number_refusal(got),
+    let VbeRead::Value(_, _) = got else {
+        return VbeRead::Refused(error::in_tile_head(
+            utils::vbe_refusal(got),
             zoom_table::missing_byte(map, at),
         ));
     };
@@ -76,6 +77,7 @@ fn no_features() -> TileHead
             all_ways: 0,
         },
         offset: 0,
+        plain: true,
     }
 }
 
@@ -103,18 +105,21 @@ pub fn read_tile_head(
         return TileHeadRead::Refused(fields::optional_span_refusal(got));
     };
     let got = zoom_table::sum_zoom_table(map, at, min, max, zoom);
-    let SumsRead::Value(sums, at) = got else {
+    let SumsRead::Value(table, at) = got else {
         return TileHeadRead::Refused(zoom_table::sums_refusal(got));
     };
     let got = head_number(map, at);
-    let NumberRead::Value(offset, at) = got else {
-        return TileHeadRead::Refused(byte_source::number_refusal(got));
+    let VbeRead::Value(offset, at) = got else {
+        return TileHeadRead::Refused(utils::vbe_refusal(got));
     };
+    let sums = table.sums;
+    let plain = types::both(table.plain, offset.plain);
     TileHeadRead::Value(
         TileHead {
             signature,
             sums,
-            offset,
+            offset: offset.value,
+            plain,
         },
         at,
     )

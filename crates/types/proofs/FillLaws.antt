@@ -27,21 +27,27 @@ front-map-more g xs a l h =
     let n : length (mapped g xs) ≡ length xs = length-map xs g in
     rw (map-append g xs (a ∷ [])) (front-more (mapped g xs) (g a) l (omega arith) ∙ rw n)
 
--- fill is the array that holds these values, of N values at most; g is how it holds one
-module _ {A C : Type 0} (fill : List A → List C) (g : A → C) (N : ℕ) (grows : (xs : List A) (a : A) → length xs < N → fill (xs ++ (a ∷ [])) ≡ set (fill xs) (length xs) (g a)) where
-  module _ (p : Parser A) (m : List ℕ) (i at n : ℕ) (l : List C) where
-    pub fill-more : (e : ℕ) (v : C) → mapRes fill (many p i m at) ≡ ok l n → mapRes g (p m n) ≡ ok v e → i < N → mapRes fill (many p (i + 1) m at) ≡ ok (set l i v) e
-    fill-more e v h q b =
+-- fill is what is held of these values, of N values at most; g is what is held of one, and put adds it
+module _ {A C D : Type 0} (fill : List A → D) (g : A → C) (put : D → ℕ → C → D) (N : ℕ) (grows : (xs : List A) (a : A) → length xs < N → fill (xs ++ (a ∷ [])) ≡ put (fill xs) (length xs) (g a)) where
+  module _ (p : Parser A) (m : List ℕ) (i at n : ℕ) (l : D) where
+    pub held-more : (e : ℕ) (v : C) → mapRes fill (many p i m at) ≡ ok l n → mapRes g (p m n) ≡ ok v e → i < N → mapRes fill (many p (i + 1) m at) ≡ ok (put l i v) e
+    held-more e v h q b =
         let s = split (many p i m at) (λ xs y. ok (fill xs) y) l n h in
         let t = split (p m n) (λ a y. ok (g a) y) v e q in
         more (s .val) (s .mid) (t .val) (t .mid) (s .first) (ok-val (s .second)) (ok-at (s .second)) (t .first) (ok-val (t .second)) (ok-at (t .second))
       where
-        more : (xs : List A) (y : ℕ) (a : A) (x : ℕ) → many p i m at ≡ ok xs y → fill xs ≡ l → y ≡ n → p m n ≡ ok a x → g a ≡ v → x ≡ e → mapRes fill (many p (i + 1) m at) ≡ ok (set l i v) e
+        more : (xs : List A) (y : ℕ) (a : A) (x : ℕ) → many p i m at ≡ ok xs y → fill xs ≡ l → y ≡ n → p m n ≡ ok a x → g a ≡ v → x ≡ e → mapRes fill (many p (i + 1) m at) ≡ ok (put l i v) e
         more xs y a x f w o f′ w′ o′ =
             let c : length xs ≡ i = many-count p m i at xs y f in
             let one : p m y ≡ ok a x = rw o f′ in
-            let stored : fill (xs ++ (a ∷ [])) ≡ set l i v = grows xs a (omega arith) ∙ rw (w, w′, c) in
+            let stored : fill (xs ++ (a ∷ [])) ≡ put l i v = grows xs a (omega arith) ∙ rw (w, w′, c) in
             rw (many-more p m i at f one, stored, o′)
+
+-- an array
+module _ {A C : Type 0} (fill : List A → List C) (g : A → C) (N : ℕ) (grows : (xs : List A) (a : A) → length xs < N → fill (xs ++ (a ∷ [])) ≡ set (fill xs) (length xs) (g a)) where
+  module _ (p : Parser A) (m : List ℕ) (i at n : ℕ) (l : List C) where
+    pub fill-more : (e : ℕ) (v : C) → mapRes fill (many p i m at) ≡ ok l n → mapRes g (p m n) ≡ ok v e → i < N → mapRes fill (many p (i + 1) m at) ≡ ok (set l i v) e
+    fill-more e v h q b = held-more fill g set N grows p m i at n l e v h q b
 
 -- a loop that filled it to its end, beside the number of values
 module _ {A C D : Type 0} (fill : List A → List C) (made : List C → ℕ → D) (p : Parser A) (m : List ℕ) (i at n k : ℕ) (l : List C) where

@@ -1,3 +1,4 @@
 pub mod TypeLaws
 pub mod BesideLaws
 pub mod FillLaws
+pub mod NotedLaws

@@ -3,6 +3,7 @@ use byte_source::Span;
 use error::Refusal;
 use utils::Microdegrees;
 ghost use mathlib.Core.Path.{_≡_};
+ghost use mathlib.Core.Bool.{_&&_};
 ghost use Rattle.types.specs.Types.{endRefusal, positionOf};
 
 // In degrees.
@@ -134,4 +135,14 @@ pub fn position_of(latitude: Microdegrees, longitude: Microdegrees) -> Position
         latitude: y.0,
         longitude: x.0,
     }
+}
+
+// Whether both hold: of what is read in two parts, whether all its numbers were plain.
+pub fn both(a: bool, b: bool) -> bool
+    ensures { λ r. ⌜ r ≡ (a && b) ⌝ }
+{
+    if a {
+        return b;
+    }
+    false
 }

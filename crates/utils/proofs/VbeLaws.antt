@@ -7,18 +7,18 @@ use native.Mathlib.Omega.{arith}
 use mathlib.Core.Path.{_≡_, refl, subst, sym, ap, _∙_}
 use mathlib.Core.List.{List, []}
 use mathlib.Core.Bool.{Bool, true, false, cond}
-use lib.Dec.{ltb, lit<, lit≤}
+use lib.Dec.{ltb, leb, eqb, lit<, lit≤}
 use mir.Syntax.{w64}
 use lib.Signed.{mag}
 use mir.Val.{Fits, toZ, ofZ}
 use mir.Facts.{toZ-ofZ}
 use borrow.Author.Needs.{needs}
 use lib.ListN.{length, getD}
-use borrow.Author.Tests.{le-ltb, lt-ltb}
-use Rattle.parsing.specs.Parse.{Res, ok, no, andThen, mapRes, byte}
+use borrow.Author.Tests.{le-ltb, lt-ltb, eq-eqb, ne-eqb}
+use Rattle.parsing.specs.Parse.{Res, ok, no, andThen, mapRes, byte, Part, part}
 use Rattle.parsing.specs.Good.{Post, split, ok-val, bind-post, then-post, return-post, fail-post, pick-post}
 use Rattle.parsing.proofs.Steps.{byte-here, byte-past}
-use Rattle.utils.specs.Vbe.{Groups, groups, below, lastGroup, unsigned, signed, signedOf}
+use Rattle.utils.specs.Vbe.{Groups, groups, below, lastGroup, Noted, noted, plainUnsigned, plainSigned, notedUnsigned, notedSigned, notedText, unsigned, text, signedOf}
 
 -- v below the weight of the next group, and left groups to come
 pub record Room (v w left : ℕ) : Type 0 where
@@ -53,16 +53,17 @@ room-more v w (suc k) g r h q =
 
 -- what the groups from here say, above v and with the weight w
 abbrev pub above : ℕ → ℕ → Groups → Groups
-above v w g = record { magnitude = v + w * (g .magnitude); sign = g .sign }
+above v w g = record { magnitude = v + w * (g .magnitude); sign = g .sign; weight = w * (g .weight) }
 
 pub above-none : (r : Res Groups) → mapRes (above 0 1) r ≡ r
-above-none (ok g n) = let h : 0 + 1 * (g .magnitude) ≡ g .magnitude = omega arith in rw h
+above-none (ok g n) = let h : 0 + 1 * (g .magnitude) ≡ g .magnitude = omega arith in let k : 1 * (g .weight) ≡ g .weight = omega arith in rw (h, k)
 above-none (no x l) = refl
 
 above-below : (v w b : ℕ) (r : Res Groups) → mapRes (above v w) (mapRes (below b) r) ≡ mapRes (above (v + w * (b % 128)) (w * 128)) r
 above-below v w b (ok g n) =
     let h : v + w * (b % 128 + 128 * (g .magnitude)) ≡ v + w * (b % 128) + w * 128 * (g .magnitude) = omega arith in
-    rw h
+    let k : w * (128 * (g .weight)) ≡ w * 128 * (g .weight) = omega arith in
+    rw (h, k)
 above-below v w b (no x l) = refl
 
 pub groups-none : (m k : ℕ) (s : List ℕ) (at : ℕ) → k ≤ 0 → groups m k s at ≡ no 11 []
@@ -93,8 +94,8 @@ module _ (m : ℕ) (s : List ℕ) (whole : Res Groups) (v w left next : ℕ) (e 
   pub loop-past : 0 < left → length s ≤ next → no 1 [] ≡ whole
   loop-past h p = (rw (groups-past m left s next h p)) ∙ e
 
-  pub loop-last : (b : ℕ) → 0 < left → next < length s → b ≡ getD s next 0 → b < 128 → ok (record { magnitude = v + w * (b % m); sign = b / m }) (next + 1) ≡ whole
-  loop-last b h p q l = (rw (groups-last m left s next b h p q l)) ∙ e
+  pub loop-last : (b : ℕ) → 0 < left → next < length s → b ≡ getD s next 0 → b < 128 → ok (record { magnitude = v + w * (b % m); sign = b / m; weight = w }) (next + 1) ≡ whole
+  loop-last b h p q l = let k : w * 1 ≡ w = omega arith in (rw (groups-last m left s next b h p q l, k)) ∙ e
 
   pub loop-more : (b : ℕ) → 0 < left → next < length s → b ≡ getD s next 0 → 128 ≤ b → mapRes (above (v + w * (b % 128)) (w * 128)) (groups m (left - 1) s (next + 1)) ≡ whole
   loop-more b h p q l = sym (above-below v w b (groups m (left - 1) s (next + 1))) ∙ (rw (groups-more m left s next b h p q l) at e)
@@ -130,21 +131,57 @@ pub ruleset vbes = (needs, room-first, room-next, above-none, fits-group, fits-s
 
 -- numbers of one byte, and none
 module _ (s : List ℕ) (at : ℕ) where
-  pub unsigned-past : length s ≤ at → no 1 [] ≡ unsigned s at
-  unfolding unsigned
+  pub unsigned-past : length s ≤ at → no 1 [] ≡ notedUnsigned s at
+  unfolding notedUnsigned
   unsigned-past h = rw (groups-past 128 9 s at (lit< tt) h)
 
-  pub unsigned-one : (b : ℕ) → at < length s → b ≡ getD s at 0 → b < 128 → ok b (at + 1) ≡ unsigned s at
-  unfolding unsigned
+  pub unsigned-one : (b : ℕ) → at < length s → b ≡ getD s at 0 → b < 128 → ok (noted b true) (at + 1) ≡ notedUnsigned s at
+  unfolding notedUnsigned
   unsigned-one b h e l = rw (groups-last 128 9 s at b (lit< tt) h e l, mod-eq-of-lt l)
 
-  pub signed-past : length s ≤ at → no 1 [] ≡ signed s at
-  unfolding signed
+  pub signed-past : length s ≤ at → no 1 [] ≡ notedSigned s at
+  unfolding notedSigned
   signed-past h = rw (groups-past 64 9 s at (lit< tt) h)
 
   -- the code's local holds the number's bits, and its value is read back from them
-  pub signed-one : (b : ℕ) (v : ℤ) → at < length s → b ≡ getD s at 0 → b < 128 → mag v < 2 ^ 63 → v ≡ signedOf (b % 64) (b / 64) → ok (toZ w64 (ofZ w64 v)) (at + 1) ≡ signed s at
-  unfolding signed
-  signed-one b v h e l m q = rw (toZ-ofZ {w = w64} {z = v} (record { sfits = m }), groups-last 64 9 s at b (lit< tt) h e l, q)
+  pub signed-one : (b : ℕ) (v : ℤ) (p : Bool) → at < length s → b ≡ getD s at 0 → b < 128 → mag v < 2 ^ 63 → v ≡ signedOf (b % 64) (b / 64) → p ≡ plainSigned (b % 64) (b / 64) 1 → ok (noted (toZ w64 (ofZ w64 v)) p) (at + 1) ≡ notedSigned s at
+  unfolding notedSigned
+  signed-one b v p h e l m q z = rw (toZ-ofZ {w = w64} {z = v} (record { sfits = m }), groups-last 64 9 s at b (lit< tt) h e l, q, z)
 
 pub ruleset ones = (vbes, unsigned-past, unsigned-one, signed-past, signed-one)
+
+-- by the code's tests
+module _ (v s w : ℕ) where
+  pub plain-one : w ≡ 1 → true ≡ plainUnsigned v w
+  plain-one h = rw (eq-eqb w 1 h)
+
+  pub plain-more : (w ≡ 1 → ⊥) → leb w v ≡ plainUnsigned v w
+  plain-more h = rw (ne-eqb w 1 h)
+
+  pub plain-zero : w ≡ 1 → v ≡ 0 → eqb s 0 ≡ plainSigned v s w
+  plain-zero h k = rw (eq-eqb w 1 h, eq-eqb v 0 k)
+
+  pub plain-data : w ≡ 1 → (v ≡ 0 → ⊥) → true ≡ plainSigned v s w
+  plain-data h k = rw (eq-eqb w 1 h, ne-eqb v 0 k)
+
+  pub plain-long : (w ≡ 1 → ⊥) → leb w (2 * v) ≡ plainSigned v s w
+  plain-long h = rw (ne-eqb w 1 h)
+
+pub ruleset plains = (needs, plain-one, plain-more, plain-zero, plain-data, plain-long)
+
+-- a text by its length's value alone
+pub text-is : (m : List ℕ) (i : ℕ) → text m i ≡ andThen (unsigned m i) (λ n x. cond (leb n (2 ^ 20)) (part n m x) (no 9 []))
+unfolding text notedText unsigned
+text-is m i = go (notedUnsigned m i)
+  where
+    taken : (p : Bool) (r : Res Part) → mapRes (λ (t : Noted Part). t .value) (mapRes (λ b. noted b p) r) ≡ r
+    taken p (ok b e) = refl
+    taken p (no n v) = refl
+
+    by : (t p : Bool) (r : Res Part) → mapRes (λ (t : Noted Part). t .value) (cond t (mapRes (λ b. noted b p) r) (no 9 [])) ≡ cond t r (no 9 [])
+    by true p r = taken p r
+    by false p r = refl
+
+    go : (r : Res (Noted ℕ)) → mapRes (λ (t : Noted Part). t .value) (andThen r (λ n e. cond (leb (n .value) (2 ^ 20)) (mapRes (λ b. noted b (n .plain)) (part (n .value) m e)) (no 9 []))) ≡ andThen (mapRes (λ (n : Noted ℕ). n .value) r) (λ n x. cond (leb n (2 ^ 20)) (part n m x) (no 9 []))
+    go (ok n e) = by (leb (n .value) (2 ^ 20)) (n .plain) (part (n .value) m e)
+    go (no n v) = refl

@@ -1,7 +1,7 @@
 -- Accept and decline, by what the readers answered.
 use Prim.Native.Nat.{ℕ}
 use mathlib.Core.Path.{_≡_, refl, sym, ap, _∙_}
-use mathlib.Core.Bool.{Bool, true, false}
+use mathlib.Core.Bool.{Bool, true, false, _&&_}
 use mathlib.Core.List.{List}
 use lib.Ieee.{Float}
 use borrow.Author.Needs.{needs}
@@ -25,10 +25,10 @@ use Rattle.way.specs.declared.WayBodyWritten.{WayBodyWritten}
 use Rattle.way.specs.declared.WayBodyWritten.the-variants as body-written
 use Rattle.way_data.specs.Reply.{lent}
 use Rattle.agreement.specs.Calls.{gotBody, refused, Step, lending}
-use Rattle.agreement.specs.Stream.{State, idle, waits, onBody, onAccept, onDecline}
+use Rattle.agreement.specs.Stream.{idle, waits, onBody, onAccept, onDecline}
 use Rattle.agreement.proofs.Remaining.{lentReply}
 use Rattle.agreement.specs.TileFormat as tile
-use Rattle.visit.specs.Visit.{endOf, turnState, stateOf, ShownAnswer, shownBody, shownStep, acceptStep, streamedBody, declineStep}
+use Rattle.visit.specs.Visit.{endOf, TileState, turnState, stateOf, ShownAnswer, shownBody, shownStep, acceptStep, streamedBody, declineStep}
 use Rattle.visit.specs.declared.TileEnd.{TileEnd}
 use Rattle.visit.specs.declared.Remaining.{Remaining}
 use Rattle.visit.specs.declared.WaitingWay.{WaitingWay}
@@ -41,17 +41,17 @@ use Rattle.visit.specs.declared.DeclineAnswer.the-variants as decline-an
 use Rattle.visit.specs.declared.Declined.{Declined}
 
 -- a body's texts
-pub body-made : (m : List ℕ) (b : WayBody) (s t u : OptionalSpan) → s ≡ streamedSpan m (b .name) → t ≡ streamedSpan m (b .«house_number») → u ≡ streamedSpan m (b .reference) → _≡_ {A = StreamedBody} (record { name = s; «house_number» = t; reference = u; «label_position» = b .«label_position»; blocks = b .blocks; nodes = b .nodes }) (streamedBody m b)
-body-made m b s t u h k q = rw (h, k, q)
+pub body-made : (m : List ℕ) (h : Bool) (b : WayBody) (s t u : OptionalSpan) (p : Bool) → s ≡ streamedSpan m (b .name) → t ≡ streamedSpan m (b .«house_number») → u ≡ streamedSpan m (b .reference) → p ≡ (h && b .plain) → _≡_ {A = StreamedBody} (record { name = s; «house_number» = t; reference = u; «label_position» = b .«label_position»; blocks = b .blocks; nodes = b .nodes; plain = p }) (streamedBody m h b)
+body-made m h b s t u p i k q o = rw (i, k, q, o)
 
 -- what the code streams of a body that was read is what the machine's body shows
 pub body-within : (m : List ℕ) → Gives m body (λ b. Texts m (b .fields))
 unfolding body
 body-within m =
-    gives-bind m (fields-within m) λ f t. gives-bind m (any m (dataBlockCount (f .flags))) λ k _. gives-bind m (any m (wayData k)) λ d _. gives-return m _ (λ b. Texts m (b .fields)) t
+    gives-bind m (fields-within m) λ f t. gives-bind m (any m (dataBlockCount (f .flags))) λ k _. gives-bind m (any m (wayData (k .value))) λ d _. gives-return m _ (λ b. Texts m (b .fields)) t
 
-body-streamed : (m : List ℕ) (i : ℕ) (d : Body) (e : ℕ) → body m i ≡ ok d e → streamedBody m (bodyOf d) ≡ shownBody d
-body-streamed m i d e h =
+body-streamed : (m : List ℕ) (p : Bool) (i : ℕ) (d : Body) (e : ℕ) → body m i ≡ ok d e → streamedBody m p (bodyOf d) ≡ shownBody (tile.wholeBody p d)
+body-streamed m p i d e h =
     let t = body-within m .holds i d e h in
     rw (streamed-view m (d .fields .name) (t .name), streamed-view m (d .fields .houseNumber) (t .houseNumber), streamed-view m (d .fields .reference) (t .reference))
 
@@ -91,8 +91,8 @@ module _ (m : List ℕ) (s : Stream) (c₀ c : List ℕ) (la₀ lo₀ la lo : Li
   abbrev after : LentLists
   after = lent c la lo
 
-  abbrev step : Step ShownAnswer (State tile.TileEnd)
-  step = shownStep (onAccept body bodyLists m (stateOf s) before)
+  abbrev step : Step ShownAnswer (TileState)
+  step = shownStep (onAccept body bodyLists tile.wholeBody tile.noteBody m (stateOf s) before)
 
   pub accept-idle : (q : Remaining) (r : Accepted) → s .turn ≡ turn.Idle q → r .answer ≡ accept-answer.Refused (lent-refusal.Refused OutOfTurn) → r .stream ≡ s → acceptStep r c₀ la₀ lo₀ ≡ step
   accept-idle q r e a t = rw (a, t, e)
@@ -102,11 +102,11 @@ module _ (m : List ℕ) (s : Stream) (c₀ c : List ℕ) (la₀ lo₀ la lo : Li
     read = body m (w .body)
 
     -- the step, by the lists and the answer of what was delivered
-    abbrev stepOf : LentLists → Res Body → Step ShownAnswer (State tile.TileEnd)
-    stepOf l r = shownStep (onBody (w .ways) (w .past) (w .body) (endOf (s .end)) l r)
+    abbrev stepOf : LentLists → Res Body → Step ShownAnswer (TileState)
+    stepOf l r = shownStep (onBody tile.wholeBody tile.noteBody (w .ways) (w .past) (w .body) (w .«head_plain») (endOf (s .end)) l r)
 
     step-is : step ≡ stepOf (lentBody before read .lists) (lentBody before read .answer)
-    step-is = ap (λ t. shownStep (onAccept body bodyLists m (turnState t (endOf (s .end))) before)) e
+    step-is = ap (λ t. shownStep (onAccept body bodyLists tile.wholeBody tile.noteBody m (turnState t (endOf (s .end))) before)) e
 
     lists-are : after ≡ lentBody before read .lists
     lists-are = ap (λ (a : Reply (Res WayBody)). a .lists) q ∙ same before read .lists
@@ -119,20 +119,21 @@ module _ (m : List ℕ) (s : Stream) (c₀ c : List ℕ) (la₀ lo₀ la lo : Li
         let k : y ≡ x = v ∙ ap writtenRefusal h in
         rw (a, t, k, e) (refuses (lentBody before read .answer) (ap writtenRes (sym h) ∙ answer-is) ∙ ap (λ l. stepOf l (lentBody before read .answer)) lists-are)
       where
-        refuses : (r : Res Body) → lentRefused x ≡ mapRes bodyOf r → lending (refused (lentNumber x) (lentValues x)) after (waits (w .ways) (w .past) (w .body) (endOf (s .end))) ≡ stepOf after r
+        refuses : (r : Res Body) → lentRefused x ≡ mapRes bodyOf r → lending (refused (lentNumber x) (lentValues x)) after (waits (w .ways) (w .past) (w .body) (w .«head_plain») (endOf (s .end))) ≡ stepOf after r
         refuses (ok d n) q = no-ok q
         refuses (no n v) q = cc
 
-    pub accept-ok : (v : WayBody) (n : ℕ) (b : StreamedBody) → g ≡ body-written.Value v n → b ≡ streamedBody m v
-        → acceptStep (record { answer = accept-answer.Body b; stream = record { turn = turn.Idle (record { points = 0; ways = w .ways; at = n; way = n }); end = s .end } }) c la lo ≡ step
-    accept-ok v n b h u = gives (lentBody before read .answer) refl (ap writtenRes (sym h) ∙ answer-is) ∙ ap (λ l. stepOf l (lentBody before read .answer)) lists-are ∙ sym step-is
+    pub accept-ok : (v : WayBody) (n : ℕ) (b : StreamedBody) (z : TileEnd) → g ≡ body-written.Value v n → b ≡ streamedBody m (w .«head_plain») v → endOf z ≡ tile.notePlain (b .plain) (endOf (s .end))
+        → acceptStep (record { answer = accept-answer.Body b; stream = record { turn = turn.Idle (record { points = 0; ways = w .ways; at = n; way = n }); end = z } }) c la lo ≡ step
+    accept-ok v n b z h u y = gives (lentBody before read .answer) refl (ap writtenRes (sym h) ∙ answer-is) ∙ ap (λ l. stepOf l (lentBody before read .answer)) lists-are ∙ sym step-is
       where
-        gives : (r : Res Body) → lentBody before read .answer ≡ r → ok v n ≡ mapRes bodyOf r → lending (gotBody b) after (idle 0 (w .ways) n n (endOf (s .end))) ≡ stepOf after r
+        gives : (r : Res Body) → lentBody before read .answer ≡ r → ok v n ≡ mapRes bodyOf r → lending (gotBody b) after (idle 0 (w .ways) n n (endOf z)) ≡ stepOf after r
         gives (no k x) f q = no-ok (sym q)
         gives (ok d k) f q =
-            let j : b ≡ shownBody d = u ∙ ap (streamedBody m) (ok-val q) ∙ body-streamed m (w .body) d k (same before read .read d k f) in
+            let j : b ≡ shownBody (tile.wholeBody (w .«head_plain») d) = u ∙ ap (streamedBody m (w .«head_plain»)) (ok-val q) ∙ body-streamed m (w .«head_plain») (w .body) d k (same before read .read d k f) in
             let i : n ≡ k = ok-at q in
-            rw (j, i)
+            let o : endOf z ≡ tile.noteBody (tile.wholeBody (w .«head_plain») d) (endOf (s .end)) = y ∙ ap (λ (x : StreamedBody). tile.notePlain (x .plain) (endOf (s .end))) j in
+            rw (o, j, i)
 
 pub ruleset accepts = (needs, accept-idle, accept-no, accept-ok)
 

@@ -24,26 +24,26 @@ use Rattle.tile_place.specs.declared.FoundTile.{FoundTile}
 use Rattle.tile_place.specs.declared.PlaceRead.{PlaceRead}
 use Rattle.tile_place.specs.declared.PlaceRead.the-variants as place
 use Rattle.tile_place.proofs.PlaceLaws.{located-ordered}
-use Rattle.agreement.specs.Stream.{State, openStream, freshStream}
+use Rattle.agreement.specs.Stream.{openStream, freshStream}
 use Rattle.agreement.specs.TileFormat as tile
 use Rattle.agreement.proofs.TileFormatLaws.{head-cut}
 use Rattle.tile_layout.specs.declared.TileLayout.{TileLayout}
-use Rattle.visit.specs.Visit.{stateOf, openTile, openRes, openedAt}
+use Rattle.visit.specs.Visit.{TileState, stateOf, openTile, openRes, openedAt}
 use Rattle.visit.specs.declared.OpenRead.{OpenRead}
 use Rattle.visit.specs.declared.Turn.the-variants as turn
 
 pub fresh-made : (s zoom : ℕ) (p : FoundTile) (h : TileHead) (n way : ℕ) (a : format.TileHead) → way ≡ cut (n + h .offset) → h ≡ headAt (p .«min_zoom») (p .«max_zoom») zoom a
-    → _≡_ {A = Res (State tile.TileEnd)} (ok (stateOf (record { turn = turn.Idle (record { points = h .sums .points; ways = h .sums .ways; at = n; way = way }); end = record { «sub_file» = s; «is_water» = p .«is_water» } })) 0)
-    (answered (ok (freshStream (rowsUpto (p .«min_zoom») (p .«max_zoom») zoom) (record { subFile = s; water = p .«is_water» }) a n) n))
+    → _≡_ {A = Res (TileState)} (ok (stateOf (record { turn = turn.Idle (record { points = h .sums .points; ways = h .sums .ways; at = n; way = way }); end = record { «sub_file» = s; «is_water» = p .«is_water»; plain = h .plain } })) 0)
+    (answered (ok (freshStream (rowsUpto (p .«min_zoom») (p .«max_zoom») zoom) (tile.tileEnd s (p .«is_water»)) a n) n))
 fresh-made s zoom p h n way a w q = rw (w, q)
 
 pub ruleset heads = (needs, then-then, head-ok, head-no, fresh-made)
 
 -- a stream at a tile's place as the code holds it is the machine's
 module _ (t : TileLayout) (i : Maybe Interval) (s : ℕ) (zoom : ℕ) (m : List ℕ) (small : length m < 2 ^ 64) where
-  abbrev opened : Located → Res (State tile.TileEnd)
+  abbrev opened : Located → Res (TileState)
   opened l =
-      answered (openStream (locatedHead (t .debug) l) (rowsUpto (l .interval .min) (l .interval .max) zoom) (record { subFile = s; water = l .entry .water }) m (tileAt l))
+      answered (openStream (locatedHead (t .debug) l) (rowsUpto (l .interval .min) (l .interval .max) zoom) (tile.tileEnd s (l .entry .water)) m (tileAt l))
 
   opened-is : (l : Located) → l .interval .min ≤ l .interval .max → openedAt (t .debug) s zoom (placeOf l) m ≡ opened l
   unfolding intervalHead

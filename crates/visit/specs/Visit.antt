@@ -1,7 +1,7 @@
 -- The stream as the code holds it, and its answers (document 01, visit.rs and "The stream and the collected tile"). The machine is
 -- `stream` of crate agreement; what it answers is stored features, and here is what is shown of them.
 use Prim.Native.Nat.{ℕ}
-use mathlib.Core.Bool.{Bool}
+use mathlib.Core.Bool.{Bool, false, _&&_}
 use mathlib.Core.Path.{_≡_}
 use mathlib.Core.List.{List}
 use lib.Ieee.{Float}
@@ -48,23 +48,27 @@ use Rattle.visit.specs.declared.Declined.{Declined}
 
 -- the state
 abbrev pub endOf : TileEnd → tile.TileEnd
-endOf z = record { subFile = z .«sub_file»; water = z .«is_water» }
+endOf z = record { subFile = z .«sub_file»; water = z .«is_water»; plain = z .plain }
 
-abbrev pub turnState : Turn → tile.TileEnd → State tile.TileEnd
+-- of a tile's stream
+abbrev pub TileState : Type 0
+TileState = State tile.TileEnd Bool
+
+abbrev pub turnState : Turn → tile.TileEnd → TileState
 turnState (turn.Idle r) z = idle (r .points) (r .ways) (r .at) (r .way) z
-turnState (turn.Waits w) z = waits (w .ways) (w .past) (w .body) z
+turnState (turn.Waits w) z = waits (w .ways) (w .past) (w .body) (w .«head_plain») z
 
-abbrev pub stateOf : Stream → State tile.TileEnd
+abbrev pub stateOf : Stream → TileState
 stateOf s = turnState (s .turn) (endOf (s .end))
 
 -- opening: sub file (8), grid (14), tile (8), its entry and the next one (19), interval (13), then the tile's head
-unfoldable pub openTile : TileLayout → Maybe Interval → (subFile : ℕ) → Grid → (number zoom : ℕ) → List ℕ → Res (State tile.TileEnd)
+unfoldable pub openTile : TileLayout → Maybe Interval → (subFile : ℕ) → Grid → (number zoom : ℕ) → List ℕ → Res (TileState)
 openTile l i s g t zoom m =
     andThen (locate (l .debug) i g t m) (λ a _.
     answered (openStream (locatedHead (l .debug) a) (rowsUpto (a .interval .min) (a .interval .max) zoom)
-    (record { subFile = s; water = a .entry .water }) m (tileAt a)))
+    (tile.tileEnd s (a .entry .water)) m (tileAt a)))
 
-abbrev pub openRes : OpenRead → Res (State tile.TileEnd)
+abbrev pub openRes : OpenRead → Res (TileState)
 openRes (open-read.Stream s) = answer (stateOf s)
 openRes (open-read.Refused r) = error.refused r
 
@@ -73,7 +77,7 @@ abbrev pub shownPoint : Point → Poi
 shownPoint p = poiOf (streamedPoint p)
 
 abbrev pub shownHead : Head → StreamedHead
-shownHead h = record { bitmap = h .bitmap; layer = h .tagged .layer; «tag_ids» = tagIds (h .tagged .ids) }
+shownHead h = record { bitmap = h .bitmap; layer = h .tagged .layer; «tag_ids» = tagIds (h .tagged .ids); plain = h .plain }
 
 abbrev pub shownBody : Body → StreamedBody
 shownBody b = record {
@@ -83,6 +87,7 @@ shownBody b = record {
   «label_position» = optionalPosition (b .fields .label);
   blocks = length (concat (b .dataBlocks));
   nodes = nodeCount (concat (b .dataBlocks));
+  plain = b .plain;
 }
 
 abbrev pub ShownAnswer : Type 0
@@ -96,7 +101,7 @@ shownStep s = record { reply = record { answer = shown (s .reply .answer); lists
 
 -- where there is no way
 abbrev pub noHead : StreamedHead
-noHead = record { bitmap = 0; layer = noTags .layer; «tag_ids» = noTags .ids }
+noHead = record { bitmap = 0; layer = noTags .layer; «tag_ids» = noTags .ids; plain = false }
 
 -- next: the point and the head stand beside the answer (an enum holds no array), and are empty where it is none
 abbrev pub nextAnswer : NextAnswer → Poi → StreamedHead → ShownAnswer
@@ -121,7 +126,7 @@ headIn declined = noHead
 headIn (ended z) = noHead
 headIn (refused n v) = noHead
 
-pub record NextIs (step : Step ShownAnswer (State tile.TileEnd)) (r : NextStep) : Type 0 where
+pub record NextIs (step : Step ShownAnswer (TileState)) (r : NextStep) : Type 0 where
   pub answer : plain (nextAnswer (r .answer) (r .poi) (r .head)) (stateOf (r .stream)) ≡ step
   pub poi : r .poi ≡ poiIn (step .reply .answer)
   pub head : r .head ≡ headIn (step .reply .answer)
@@ -131,7 +136,7 @@ abbrev pub acceptAnswer : AcceptAnswer → ShownAnswer
 acceptAnswer (accept-answer.Body b) = gotBody b
 acceptAnswer (accept-answer.Refused r) = refused (lentNumber r) (lentValues r)
 
-abbrev pub acceptStep : Accepted → List ℕ → List Float → List Float → Step ShownAnswer (State tile.TileEnd)
+abbrev pub acceptStep : Accepted → List ℕ → List Float → List Float → Step ShownAnswer (TileState)
 acceptStep r counts lats lons = lending (acceptAnswer (r .answer)) (lent counts lats lons) (stateOf (r .stream))
 
 -- decline
@@ -139,25 +144,27 @@ abbrev pub declineAnswer : DeclineAnswer → ShownAnswer
 declineAnswer decline-answer.Declined = declined
 declineAnswer (decline-answer.Refused r) = refused (numberOf r) (valuesOf r)
 
-abbrev pub declineStep : Declined → Step ShownAnswer (State tile.TileEnd)
+abbrev pub declineStep : Declined → Step ShownAnswer (TileState)
 declineStep r = plain (declineAnswer (r .answer)) (stateOf (r .stream))
 
--- What private functions make, which need not be believed: what is streamed of a body that is handed out with raw texts
-abbrev pub streamedBody : List ℕ → WayBody → StreamedBody
-streamedBody m b = record {
+-- What private functions make, which need not be believed: what is streamed of a body that is handed out with raw texts, and of whose head
+-- this was said
+abbrev pub streamedBody : List ℕ → Bool → WayBody → StreamedBody
+streamedBody m head b = record {
   name = streamedSpan m (b .name);
   «house_number» = streamedSpan m (b .«house_number»);
   reference = streamedSpan m (b .reference);
   «label_position» = b .«label_position»;
   blocks = b .blocks;
   nodes = b .nodes;
+  plain = head && b .plain;
 }
 
 abbrev pub streamedHead : WayHead → StreamedHead
-streamedHead h = record { bitmap = h .bitmap; layer = h .layer; «tag_ids» = h .«tag_ids» }
+streamedHead h = record { bitmap = h .bitmap; layer = h .layer; «tag_ids» = h .«tag_ids»; plain = h .plain }
 
 -- opening, from a tile's place on
-abbrev pub openedAt : Bool → (subFile zoom : ℕ) → FoundTile → List ℕ → Res (State tile.TileEnd)
+abbrev pub openedAt : Bool → (subFile zoom : ℕ) → FoundTile → List ℕ → Res (TileState)
 openedAt debug s zoom p m =
     answered (openStream (intervalHead (p .empty) debug (p .«min_zoom») (p .«max_zoom»)) (rowsUpto (p .«min_zoom») (p .«max_zoom») zoom)
-    (record { subFile = s; water = p .«is_water» }) m (p .at))
+    (tile.tileEnd s (p .«is_water»)) m (p .at))

@@ -25,13 +25,15 @@ ghost use Rattle.way_data.specs.Reply.{lent};
 ghost use Rattle.format.specs.BodyLists.{bodyLists};
 ghost use Rattle.format.specs.Tile.{body};
 ghost use Rattle.agreement.specs.Stream.{idle, onNext, onAccept, onDecline};
+ghost use Rattle.agreement.specs.TileFormat.{notePlain, noteBody, wholeBody};
 ghost use Rattle.tile_layout.specs.TileLayout.{kindsOf, formatOf};
 ghost use Rattle.visit.specs.Visit.{endOf, stateOf, openTile, openedAt, openRes, shownStep, noHead, NextIs, acceptStep, streamedBody, streamedHead, declineStep};
 
-// What the stream's end says.
+// What the stream's end says. `plain`: whether every number of the tile's head and of what was read of its features was plain.
 pub struct TileEnd {
     pub sub_file: usize,
     pub is_water: bool,
+    pub plain: bool,
 }
 
 // The points and ways that remain, and the places of the next point and the next way.
@@ -42,11 +44,12 @@ pub struct Remaining {
     pub way: usize,
 }
 
-// The ways that remain behind the one that waits, where declining it goes, and where its body starts.
+// The ways that remain behind the one that waits, where declining it goes, where its body starts, and whether its head was plain.
 pub struct WaitingWay {
     pub ways: u64,
     pub past: usize,
     pub body: usize,
+    pub head_plain: bool,
 }
 
 pub enum Turn {
@@ -68,9 +71,10 @@ pub struct StreamedHead {
     pub tag_ids: TagIds,
     pub bitmap: u16,
     pub layer: i8,
+    pub plain: bool,
 }
 
-// `blocks` node counts and `nodes` latitudes and longitudes went to the lists.
+// `blocks` node counts and `nodes` latitudes and longitudes went to the lists. `plain` speaks of the whole way, its head included.
 pub struct StreamedBody {
     pub name: OptionalSpan,
     pub house_number: OptionalSpan,
@@ -78,6 +82,7 @@ pub struct StreamedBody {
     pub label_position: OptionalPosition,
     pub blocks: u64,
     pub nodes: u64,
+    pub plain: bool,
 }
 
 pub enum NextAnswer {
@@ -136,6 +141,18 @@ fn no_head() -> StreamedHead
             ids: [0u64; 15],
             count: 0,
         },
+        plain: false,
+    }
+}
+
+// What the end would say, after a feature of which this was said.
+fn noted_end(end: TileEnd, plain: bool) -> TileEnd
+    ensures { λ r. ⌜ endOf r ≡ notePlain plain (endOf end) ⌝ }
+{
+    TileEnd {
+        sub_file: end.sub_file,
+        is_water: end.is_water,
+        plain: types::both(end.plain, plain),
     }
 }
 
@@ -147,11 +164,13 @@ fn streamed_head(head: WayHead) -> StreamedHead
         bitmap: head.bitmap,
         layer: head.layer,
         tag_ids,
+        plain: head.plain,
     }
 }
 
-fn streamed_body(map: &[u8], body: WayBody) -> StreamedBody
-    ensures { λ r. ⌜ r ≡ streamedBody (now (map .entry)) body ⌝ }
+// `head` says whether the way's head was plain.
+fn streamed_body(map: &[u8], head: bool, body: WayBody) -> StreamedBody
+    ensures { λ r. ⌜ r ≡ streamedBody (now (map .entry)) head body ⌝ }
 {
     let stored = body.name;
     let name = fields::streamed_span(map, stored);
@@ -167,6 +186,7 @@ fn streamed_body(map: &[u8], body: WayBody) -> StreamedBody
         label_position,
         blocks: body.blocks,
         nodes: body.nodes,
+        plain: types::both(head, body.plain),
     }
 }
 
@@ -194,6 +214,7 @@ fn next_point(
         at,
         way: rest.way,
     });
+    let end = noted_end(end, stored.plain);
     NextStep {
         answer: NextAnswer::Point,
         poi: poi::streamed_poi(map, stored),
@@ -225,7 +246,9 @@ fn next_way(
         ways: rest.ways - 1,
         past,
         body,
+        head_plain: head.plain,
     });
+    let end = noted_end(end, head.plain);
     NextStep {
         answer: NextAnswer::Way,
         poi: poi::empty_poi(),
@@ -290,7 +313,7 @@ pub fn accept(
     latitudes: &mut [f64],
     longitudes: &mut [f64],
 ) -> Accepted
-    ensures { λ r. ⌜ acceptStep r (now («node_counts» .exit)) (now (latitudes .exit)) (now (longitudes .exit)) ≡ shownStep (onAccept body bodyLists (now (map .entry)) (stateOf «stream») (lent (now («node_counts» .entry)) (now (latitudes .entry)) (now (longitudes .entry)))) ⌝ }
+    ensures { λ r. ⌜ acceptStep r (now («node_counts» .exit)) (now (latitudes .exit)) (now (longitudes .exit)) ≡ shownStep (onAccept body bodyLists wholeBody noteBody (now (map .entry)) (stateOf «stream») (lent (now («node_counts» .entry)) (now (latitudes .entry)) (now (longitudes .entry)))) ⌝ }
 {
     let turn = stream.turn;
     let Turn::Waits(way) = turn else {
@@ -306,8 +329,9 @@ pub fn accept(
         at,
         way: at,
     });
+    let body = streamed_body(map, way.head_plain, stored);
     let end = stream.end;
-    let body = streamed_body(map, stored);
+    let end = noted_end(end, body.plain);
     Accepted {
         answer: AcceptAnswer::Body(body),
         stream: Stream { turn, end },
@@ -365,6 +389,7 @@ fn open_at(map: &[u8], place: FoundTile, debug: bool, sub_file: usize, zoom: u8)
     let end = TileEnd {
         sub_file,
         is_water: place.is_water,
+        plain: head.plain,
     };
     OpenRead::Stream(Stream { turn, end })
 }

@@ -1,7 +1,7 @@
 -- A way's body, from its fields and its data.
 use Prim.Native.Nat.{ℕ}
 use mathlib.Core.Path.{_≡_, refl, sym, ap, _∙_}
-use mathlib.Core.Bool.{Bool, true, false, cond}
+use mathlib.Core.Bool.{Bool, true, false, cond, _&&_}
 use mathlib.Core.List.{List}
 use lib.Ieee.{Float}
 use borrow.Author.Needs.{needs}
@@ -13,6 +13,7 @@ use Rattle.error.specs.declared.LentRefusal.the-variants as lent-refusal
 use Rattle.error.specs.declared.Refusal.{Refusal}
 use Rattle.error.specs.declared.Refusal.the-variants.{Source}
 use Rattle.byte_source.proofs.ReadLaws.{taken}
+use Rattle.utils.specs.Vbe.{Noted, valuesOf, allPlain}
 use Rattle.format.specs.Lent.{LentLists, Reply, fits, written, needed, deliver}
 use Rattle.format.specs.WayData.{Node, wayData, concat}
 use Rattle.format.specs.Nodes.{wayLists}
@@ -50,11 +51,11 @@ written-none g b n h = ap writtenRefusal (sym h)
 pub ruleset refusals = (needs, body-refused)
 
 abbrev Data : Type 0
-Data = List (List (List Node))
+Data = List (Noted (List (List Node)))
 
 -- the body of these fields and these data
 abbrev made : BodyHead → Data → Body
-made h d = record { fields = h .fields; dataBlocks = d }
+made h d = record { fields = h .fields; dataBlocks = valuesOf d; plain = h .plain && allPlain d }
 
 abbrev behind : BodyHead → Res Data → Res Body
 behind h r = andThen r (λ d i. ok (made h d) i)
@@ -81,9 +82,9 @@ map-behind h (no n v) = refl
 abbrev mapReply : Reply (Res Sizes) → (Sizes → WayBody) → Reply (Res WayBody)
 mapReply r f = record { answer = mapRes f (r .answer); lists = r .lists }
 
-deliver-behind : (h : BodyHead) (r : Res Data) (l : LentLists) → deliver bodyOf bodyLists (behind h r) l ≡ mapReply (deliver waySizes (λ d. wayLists (doubleDelta (h .fields)) (concat d)) r l) (bodyWith (wayFieldsOf h))
+deliver-behind : (h : BodyHead) (r : Res Data) (l : LentLists) → deliver bodyOf bodyLists (behind h r) l ≡ mapReply (deliver waySizes (λ d. wayLists (doubleDelta (h .fields)) (concat (valuesOf d))) r l) (bodyWith (wayFieldsOf h))
 deliver-behind h (no n v) l = refl
-deliver-behind h (ok d i) l = go (wayLists (doubleDelta (h .fields)) (concat d)) (fits (wayLists (doubleDelta (h .fields)) (concat d)) l)
+deliver-behind h (ok d i) l = go (wayLists (doubleDelta (h .fields)) (concat (valuesOf d))) (fits (wayLists (doubleDelta (h .fields)) (concat (valuesOf d))) l)
   where
     go : (v : LentLists) (c : Bool) → cond c (record { answer = ok (bodyOf (made h d)) i; lists = written v l }) (record { answer = no 15 (needed v); lists = l }) ≡ mapReply (cond c (record { answer = ok (waySizes d) i; lists = written v l }) (record { answer = no 15 (needed v); lists = l })) (bodyWith (wayFieldsOf h))
     go v true = refl

@@ -1,7 +1,9 @@
 -- A way's body as it is handed out (document 01, way.rs), from what is stored.
 use Prim.Native.Nat.{ℕ}
+use mathlib.Core.Bool.{_&&_}
 use mathlib.Core.List.{List}
 use lib.Ieee.{Float}
+use lib.ListN.{length}
 use Rattle.parsing.specs.Parse.{Res, ok}
 use Rattle.error.specs.Refusals.{refused, lentRefused}
 use Rattle.error.specs.declared.LentRefusal.{LentRefusal}
@@ -9,10 +11,10 @@ use Rattle.error.specs.declared.LentRefusal.the-variants as lent-refusal
 use Rattle.error.specs.declared.Refusal.{Refusal}
 use Rattle.error.specs.declared.Refusal.the-variants.{Source}
 use Rattle.format.specs.Lent.{Reply}
-use Rattle.format.specs.Tile.{Body}
-use Rattle.way_fields.specs.WayFields.{BodyHead, wayFieldsOf}
+use Rattle.format.specs.WayData.{concat, nodeCount}
+use Rattle.format.specs.Tile.{Body, doubleDelta}
+use Rattle.types.specs.Types.{optionalSpan, optionalPosition}
 use Rattle.way_fields.specs.declared.WayFields.{WayFields}
-use Rattle.way_measure.specs.Answers.{waySizes}
 use Rattle.way_measure.specs.declared.Sizes.{Sizes}
 use Rattle.way_data.specs.Reply.{lent}
 use Rattle.way.specs.declared.WayBody.{WayBody}
@@ -31,11 +33,21 @@ bodyWith f s = record {
   «double_delta» = f .«double_delta»;
   blocks = s .blocks;
   nodes = s .nodes;
+  plain = f .plain && s .plain;
 }
 
 -- how many data blocks there are is not shown
 abbrev pub bodyOf : Body → WayBody
-bodyOf b = bodyWith (wayFieldsOf (record { fields = b .fields; dataBlocks = 0 })) (waySizes (b .dataBlocks))
+bodyOf b = record {
+  name = optionalSpan (b .fields .name);
+  «house_number» = optionalSpan (b .fields .houseNumber);
+  reference = optionalSpan (b .fields .reference);
+  «label_position» = optionalPosition (b .fields .label);
+  «double_delta» = doubleDelta (b .fields);
+  blocks = length (concat (b .dataBlocks));
+  nodes = nodeCount (concat (b .dataBlocks));
+  plain = b .plain;
+}
 
 abbrev pub bodyRes : WayBodyRead → Res WayBody
 bodyRes (body.Value v n) = ok v n

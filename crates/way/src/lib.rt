@@ -16,7 +16,7 @@ ghost use Rattle.format.specs.Tile.{body};
 ghost use Rattle.way_data.specs.Reply.{lent};
 ghost use Rattle.way.specs.Way.{bodyOf, bodyWith, bodyRes, bodyRefusal, writtenRefusal, bodyReply};
 
-// Texts are raw parts of the map. `blocks` and `nodes` count its coordinate blocks and all their nodes.
+// Texts are raw parts of the map. `blocks` and `nodes` count its coordinate blocks and all their nodes. `plain`: whether every number was.
 pub struct WayBody {
     pub name: OptionalSpan,
     pub house_number: OptionalSpan,
@@ -25,6 +25,7 @@ pub struct WayBody {
     pub blocks: u64,
     pub nodes: u64,
     pub double_delta: bool,
+    pub plain: bool,
 }
 
 pub enum WayBodyRead {
@@ -71,6 +72,7 @@ fn body_with(fields: WayFields, sizes: Sizes) -> WayBody
         double_delta: fields.double_delta,
         blocks: sizes.blocks,
         nodes: sizes.nodes,
+        plain: fields.plain & sizes.plain,
     }
 }
 

@@ -21,10 +21,10 @@ use Rattle.byte_source.specs.Answers.{numberRes}
 use Rattle.byte_source.specs.declared.NumberRead.{NumberRead}
 use Rattle.byte_source.specs.declared.NumberRead.the-variants as number
 use Rattle.utils.specs.Vbe.{unsigned}
-use Rattle.format.specs.WayData.{Node, node, block, dataBlock, concat, nodeCount}
+use Rattle.format.specs.WayData.{Node, concat, nodeCount}
 use Rattle.format.specs.Nodes.{blockNodes, latitudeOf, longitudeOf, nodeCounts, latitudes, longitudes, length-blockNodes}
 use Rattle.way_measure.proofs.MeasureLaws.{count-append}
-use Rattle.way_data.specs.Writes.{inBlock, oneBlock, NodesFit, NodesWritten, BlocksFit, BlocksWritten}
+use Rattle.way_data.specs.Writes.{nodeAlone, blockAlone, dataBlockAlone, inBlock, oneBlock, NodesFit, NodesWritten, BlocksFit, BlocksWritten}
 use Rattle.way_data.specs.declared.Progress.{Progress}
 
 abbrev Blocks : Type 0
@@ -32,9 +32,9 @@ Blocks = Res (List (List Node))
 
 -- a block, behind its count
 record Opened (s : List ℕ) (at n start : ℕ) : Type 0 where
-  same : block s at ≡ many node n s start
-  fine : Fine (many node n s start)
-  count : length (listOf (many node n s start)) ≡ n
+  same : blockAlone s at ≡ many nodeAlone n s start
+  fine : Fine (many nodeAlone n s start)
+  count : length (listOf (many nodeAlone n s start)) ≡ n
 
 abbrev alone : Res (List Node) → Blocks
 alone r = andThen r (λ b e. ok (b ∷ []) e)
@@ -55,21 +55,21 @@ fine-cond : (c : Bool) (r : Res (List Node)) → Fine (cond c r (no 10 [])) → 
 fine-cond true r f = refl
 fine-cond false r f = absurd f
 
-open-as : (s : List ℕ) (at n start : ℕ) → unsigned s at ≡ ok n start → block s at ≡ cond (leb n (2 ^ 20)) (many node n s start) (no 10 [])
-unfolding block
+open-as : (s : List ℕ) (at n start : ℕ) → unsigned s at ≡ ok n start → blockAlone s at ≡ cond (leb n (2 ^ 20)) (many nodeAlone n s start) (no 10 [])
+unfolding blockAlone
 open-as s at n start e = rw e
 
 opened : (s : List ℕ) (at n start : ℕ) (g : NumberRead) → Fine (oneBlock s at) → numberRes g ≡ unsigned s at → g ≡ number.Value n start → Opened s at n start
 unfolding oneBlock
 opened s at n start g f e h =
     let a = open-as s at n start (sym e ∙ ap numberRes h) in
-    let f′ : Fine (cond (leb n (2 ^ 20)) (many node n s start) (no 10 [])) = rw a at (fine-alone (block s at) f) in
-    let b = fine-cond (leb n (2 ^ 20)) (many node n s start) f′ in
-    let f″ : Fine (many node n s start) = rw b at f′ in
-    record { same = a ∙ b; fine = f″; count = many-count node s n start _ _ (fine-is (many node n s start) f″) }
+    let f′ : Fine (cond (leb n (2 ^ 20)) (many nodeAlone n s start) (no 10 [])) = rw a at (fine-alone (blockAlone s at) f) in
+    let b = fine-cond (leb n (2 ^ 20)) (many nodeAlone n s start) f′ in
+    let f″ : Fine (many nodeAlone n s start) = rw b at f′ in
+    record { same = a ∙ b; fine = f″; count = many-count nodeAlone s n start _ _ (fine-is (many nodeAlone n s start) f″) }
 
 refused-block : {C : Type 0} (s : List ℕ) (at : ℕ) (g : NumberRead) (r : Refusal) → Fine (oneBlock s at) → numberRes g ≡ unsigned s at → g ≡ number.Refused r → C
-unfolding block oneBlock
+unfolding blockAlone oneBlock
 refused-block s at g r f e h =
     let k : refused r ≡ unsigned s at = sym (ap numberRes h) ∙ e in
     absurd (rw (← k) at f)
@@ -84,7 +84,7 @@ module _ (s : List ℕ) (p : Progress) (c : List ℕ) (la lo : List Float) (g : 
     sized =
         let o = opened s (p .next) n start g (y .fine) e h in
         let k = o .count in
-        let l : listOf (oneBlock s (p .next)) ≡ listOf (many node n s start) ∷ [] = rw (o .same) (list-alone (many node n s start) (o .fine)) in
+        let l : listOf (oneBlock s (p .next)) ≡ listOf (many nodeAlone n s start) ∷ [] = rw (o .same) (list-alone (many nodeAlone n s start) (o .fine)) in
         let u = rw l at (y .counts) in
         let v = rw l at (y .lats) in
         let w = rw l at (y .lons) in
@@ -99,14 +99,14 @@ module _ (s : List ℕ) (p : Progress) (c : List ℕ) (la lo : List Float) (g : 
     pub block-fits : length la < 2 ^ 64 → Fits w64 (p .nodes + n)
     block-fits l = let u = sized .1 in omega arith
 
-    pub block-done : (t : Bool) (next : ℕ) (la′ lo′ : List Float) → NodesWritten (inBlock t) (many node n s start) (p .nodes) la lo next la′ lo′
+    pub block-done : (t : Bool) (next : ℕ) (la′ lo′ : List Float) → NodesWritten (inBlock t) (many nodeAlone n s start) (p .nodes) la lo next la′ lo′
         → BlocksWritten t (oneBlock s (p .next)) p c la lo (record { next = next; blocks = p .blocks + 1; nodes = p .nodes + n }) (set c (p .blocks) n) la′ lo′
     unfolding oneBlock
     block-done t next la′ lo′ d =
         let o = opened s (p .next) n start g (y .fine) e h in
         let k = o .count in
-        let l = list-alone (many node n s start) (o .fine) in
-        let z = end-alone (many node n s start) in
+        let l = list-alone (many nodeAlone n s start) (o .fine) in
+        let z = end-alone (many nodeAlone n s start) in
         rw (o .same) record {
           end = d .end ∙ sym z;
           blocks = rw l refl;
@@ -254,29 +254,29 @@ module _ (d : Parser (List (List Node))) (s : List ℕ) where
     left-done h = g .finish p c′ la′ lo′ (rw (none left (p .next) h) record { end = refl; blocks = omega arith; nodes = omega arith; counts = refl; lats = refl; lons = refl })
 
 -- the count in front of a data block
-all-alone : (s : List ℕ) (n at : ℕ) → mapRes concat (many oneBlock n s at) ≡ many block n s at
+all-alone : (s : List ℕ) (n at : ℕ) → mapRes concat (many oneBlock n s at) ≡ many blockAlone n s at
 unfolding oneBlock
 all-alone s zero at = refl
-all-alone s (suc n) at = go (block s at) (λ e. all-alone s n e)
+all-alone s (suc n) at = go (blockAlone s at) (λ e. all-alone s n e)
   where
     cons : (b : List Node) (r : Res (List (List (List Node)))) → mapRes concat (andThen r (λ l i. ok ((b ∷ []) ∷ l) i)) ≡ andThen (mapRes concat r) (λ l i. ok (b ∷ l) i)
     cons b (ok l i) = refl
     cons b (no x v) = refl
 
-    go : (r : Res (List Node)) → ((e : ℕ) → mapRes concat (many oneBlock n s e) ≡ many block n s e) → mapRes concat (andThen (alone r) (λ a e. andThen (many oneBlock n s e) (λ l i. ok (a ∷ l) i))) ≡ andThen r (λ b e. andThen (many block n s e) (λ l i. ok (b ∷ l) i))
+    go : (r : Res (List Node)) → ((e : ℕ) → mapRes concat (many oneBlock n s e) ≡ many blockAlone n s e) → mapRes concat (andThen (alone r) (λ a e. andThen (many oneBlock n s e) (λ l i. ok (a ∷ l) i))) ≡ andThen r (λ b e. andThen (many blockAlone n s e) (λ l i. ok (b ∷ l) i))
     go (ok b e) ih = cons b (many oneBlock n s e) ∙ ap (λ (x : Blocks). andThen x (λ l i. ok (b ∷ l) i)) (ih e)
     go (no x v) ih = refl
 
-module _ (s : List ℕ) (p : Progress) (c : List ℕ) (la lo : List Float) (g : NumberRead) (y : BlocksFit (dataBlock s (p .next)) p c la lo) (e : numberRes g ≡ unsigned s (p .next)) where
-  pub data-no : (r : Refusal) (t : Bool) (c₀ : List ℕ) (la₀ lo₀ : List Float) (q : Progress) → g ≡ number.Refused r → BlocksWritten t (dataBlock s (p .next)) p c₀ la₀ lo₀ q c la lo
-  unfolding dataBlock
+module _ (s : List ℕ) (p : Progress) (c : List ℕ) (la lo : List Float) (g : NumberRead) (y : BlocksFit (dataBlockAlone s (p .next)) p c la lo) (e : numberRes g ≡ unsigned s (p .next)) where
+  pub data-no : (r : Refusal) (t : Bool) (c₀ : List ℕ) (la₀ lo₀ : List Float) (q : Progress) → g ≡ number.Refused r → BlocksWritten t (dataBlockAlone s (p .next)) p c₀ la₀ lo₀ q c la lo
+  unfolding dataBlockAlone
   data-no r t c₀ la₀ lo₀ q h =
       let k : refused r ≡ unsigned s (p .next) = sym (ap numberRes h) ∙ e in
       absurd (rw (← k) at (y .fine))
 
   module _ (n start : ℕ) (h : g ≡ number.Value n start) where
-    data-is : dataBlock s (p .next) ≡ mapRes concat (many oneBlock n s start)
-    unfolding dataBlock
+    data-is : dataBlockAlone s (p .next) ≡ mapRes concat (many oneBlock n s start)
+    unfolding dataBlockAlone
     data-is = rw (← e, h) (sym (all-alone s n start))
 
     -- the cursor behind the count
@@ -289,7 +289,7 @@ module _ (s : List ℕ) (p : Progress) (c : List ℕ) (la lo : List Float) (g : 
     pub data-fit : BlocksFit (mapRes concat (many oneBlock n s start)) inside c la lo
     data-fit = moved (mapRes concat (many oneBlock n s start)) (rw data-is at y)
 
-    pub data-done : (t : Bool) (q : Progress) (c′ : List ℕ) (la′ lo′ : List Float) → BlocksWritten t (mapRes concat (many oneBlock n s start)) inside c la lo q c′ la′ lo′ → BlocksWritten t (dataBlock s (p .next)) p c la lo q c′ la′ lo′
+    pub data-done : (t : Bool) (q : Progress) (c′ : List ℕ) (la′ lo′ : List Float) → BlocksWritten t (mapRes concat (many oneBlock n s start)) inside c la lo q c′ la′ lo′ → BlocksWritten t (dataBlockAlone s (p .next)) p c la lo q c′ la′ lo′
     data-done t q c′ la′ lo′ v =
         rw data-is record { end = v .end; blocks = v .blocks; nodes = v .nodes; counts = v .counts; lats = v .lats; lons = v .lons }
 

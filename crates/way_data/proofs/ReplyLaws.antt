@@ -15,6 +15,7 @@ use Rattle.error.specs.declared.LentRefusal.{LentRefusal}
 use Rattle.error.specs.declared.LentRefusal.the-variants as lent-refusal
 use Rattle.error.specs.declared.Refusal.{Refusal}
 use Rattle.error.specs.declared.Refusal.the-variants.{Source}
+use Rattle.utils.specs.Vbe.{Noted, noted, valuesOf, allPlain}
 use Rattle.format.specs.Lent.{Reply, fits, written, needed, sets-front}
 use Rattle.format.specs.WayData.{Node, concat, nodeCount}
 use Rattle.format.specs.Nodes.{latitudeOf, longitudeOf, nodeCounts, latitudes, longitudes, wayLists}
@@ -30,7 +31,7 @@ use Rattle.way_data.specs.declared.WayDataWritten.the-variants as data-w
 use Rattle.way_data.proofs.BlockLaws.{length-along}
 
 abbrev WayData : Type 0
-WayData = Res (List (List (List Node)))
+WayData = Res (List (Noted (List (List Node))))
 
 pub written-refused : (g : WayDataWritten) (e : LentRefusal) → g ≡ data-written.Refused e → e ≡ writtenRefusal g
 written-refused g e h = ap writtenRefusal (sym h)
@@ -73,26 +74,30 @@ none-shorter false true z = refl
 none-shorter false false true = refl
 none-shorter false false false = refl
 
+-- the blocks of a way, and whether all were plain
+abbrev all : List (Noted (List (List Node))) → Noted (List (List Node))
+all d = noted (concat (valuesOf d)) (allPlain d)
+
 module _ (t : Bool) (c : List ℕ) (la lo : List Float) where
   abbrev unchanged : Res Sizes → Reply (Res Sizes)
   unchanged a = record { answer = a; lists = lent c la lo }
 
-  abbrev delivered : List (List Node) → ℕ → Reply (Res Sizes)
-  delivered b e = record { answer = ok (sizesOf b) e; lists = written (wayLists t b) (lent c la lo) }
+  abbrev delivered : Noted (List (List Node)) → ℕ → Reply (Res Sizes)
+  delivered b e = record { answer = ok (sizesOf b) e; lists = written (wayLists t (b .value)) (lent c la lo) }
 
-  fits-is : (b : List (List Node)) → fits (wayLists t b) (lent c la lo) ≡ cond (shorter (sizesOf b) (length c) (length la) (length lo)) false true
+  fits-is : (b : Noted (List (List Node))) → fits (wayLists t (b .value)) (lent c la lo) ≡ cond (shorter (sizesOf b) (length c) (length la) (length lo)) false true
   fits-is b =
       rw (
-        length-map b length,
-        length-along t latitudeOf b,
-        length-along t longitudeOf b,
-        flip (length c) (length b),
-        flip (length la) (nodeCount b),
-        flip (length lo) (nodeCount b),
-      ) (none-shorter (ltb (length c) (length b)) (ltb (length la) (nodeCount b)) (ltb (length lo) (nodeCount b)))
+        length-map (b .value) length,
+        length-along t latitudeOf (b .value),
+        length-along t longitudeOf (b .value),
+        flip (length c) (length (b .value)),
+        flip (length la) (nodeCount (b .value)),
+        flip (length lo) (nodeCount (b .value)),
+      ) (none-shorter (ltb (length c) (length (b .value))) (ltb (length la) (nodeCount (b .value))) (ltb (length lo) (nodeCount (b .value))))
 
-  needed-is : (b : List (List Node)) → needed (wayLists t b) ≡ lentValues (tooShort (sizesOf b))
-  needed-is b = rw (length-map b length, length-along t latitudeOf b, length-along t longitudeOf b) refl
+  needed-is : (b : Noted (List (List Node))) → needed (wayLists t (b .value)) ≡ lentValues (tooShort (sizesOf b))
+  needed-is b = rw (length-map (b .value) length, length-along t latitudeOf (b .value), length-along t longitudeOf (b .value)) refl
 
   pub reply-no : (r : WayData) (g : WayDataRead) (x y : Refusal) → wayDataRes g ≡ mapRes waySizes r → g ≡ way-data.Refused x → y ≡ wayDataRefusal g → unchanged (refused y) ≡ readWayData t r c la lo
   reply-no (ok d e) g x y q h w = no-ok (sym (ap wayDataRes h) ∙ q)
@@ -106,31 +111,31 @@ module _ (t : Bool) (c : List ℕ) (la lo : List Float) where
     short-is (no n v) m f = no-ok m
     short-is (ok d i) m f =
         let f′ : shorter (waySizes d) (length c) (length la) (length lo) ≡ true = ap (λ s. shorter s (length c) (length la) (length lo)) (ok-val m) ∙ f in
-        rw (fits-is (concat d), f′) (ap (λ v. unchanged (no 15 v)) (needed-is (concat d) ∙ ap (λ s. lentValues (tooShort s)) (ok-val m)))
+        rw (fits-is (all d), f′) (ap (λ v. unchanged (no 15 v)) (needed-is (all d) ∙ ap (λ s. lentValues (tooShort s)) (ok-val m)))
 
-    delivered-is : (r : WayData) → mapRes waySizes r ≡ ok z e → shorter z (length c) (length la) (length lo) ≡ false → readWayData t r c la lo ≡ delivered (concat (listOf r)) e
+    delivered-is : (r : WayData) → mapRes waySizes r ≡ ok z e → shorter z (length c) (length la) (length lo) ≡ false → readWayData t r c la lo ≡ delivered (all (listOf r)) e
     delivered-is (no n v) m f = no-ok m
     delivered-is (ok d x) m f =
         let f′ : shorter (waySizes d) (length c) (length la) (length lo) ≡ false = ap (λ s. shorter s (length c) (length la) (length lo)) (ok-val m) ∙ f in
-        rw (fits-is (concat d), f′) (ap (delivered (concat d)) (ok-at m))
+        rw (fits-is (all d), f′) (ap (delivered (all d)) (ok-at m))
 
     -- where the second pass starts
     module _ (at : ℕ) (f : shorter z (length c) (length la) (length lo) ≡ false) where
       abbrev start : Progress
       start = record { next = at; blocks = 0; nodes = 0 }
 
-      fit-as : (r : WayData) → mapRes waySizes r ≡ ok z e → BlocksFit (mapRes concat r) start c la lo
+      fit-as : (r : WayData) → mapRes waySizes r ≡ ok z e → BlocksFit (mapRes concat (mapRes valuesOf r)) start c la lo
       fit-as (no n v) m = no-ok m
       fit-as (ok d x) m =
           let l = long-enough z (length c) (length la) (length lo) f in
-          let u : length (concat d) ≡ z .blocks = ap (λ (s : Sizes). s .blocks) (ok-val m) in
-          let v : nodeCount (concat d) ≡ z .nodes = ap (λ (s : Sizes). s .nodes) (ok-val m) in
+          let u : length (concat (valuesOf d)) ≡ z .blocks = ap (λ (s : Sizes). s .blocks) (ok-val m) in
+          let v : nodeCount (concat (valuesOf d)) ≡ z .nodes = ap (λ (s : Sizes). s .nodes) (ok-val m) in
           record { fine = tt; counts = omega arith; lats = omega arith; lons = omega arith }
 
-      done-as : (r : WayData) (p : Progress) (c′ : List ℕ) (la′ lo′ : List Float) → mapRes waySizes r ≡ ok z e → BlocksWritten t (mapRes concat r) start c la lo p c′ la′ lo′ → _≡_ {A = Reply (Res Sizes)} (record { answer = ok z e; lists = lent c′ la′ lo′ }) (readWayData t r c la lo)
+      done-as : (r : WayData) (p : Progress) (c′ : List ℕ) (la′ lo′ : List Float) → mapRes waySizes r ≡ ok z e → BlocksWritten t (mapRes concat (mapRes valuesOf r)) start c la lo p c′ la′ lo′ → _≡_ {A = Reply (Res Sizes)} (record { answer = ok z e; lists = lent c′ la′ lo′ }) (readWayData t r c la lo)
       done-as (no n v) p c′ la′ lo′ m w = no-ok m
       done-as (ok d x) p c′ la′ lo′ m w =
-          let b = concat d in
+          let b = concat (valuesOf d) in
           let l = long-enough z (length c) (length la) (length lo) f in
           let q : waySizes d ≡ z = ok-val m in
           let u : length b ≡ z .blocks = ap (λ (s : Sizes). s .blocks) q in
@@ -145,13 +150,14 @@ module _ (t : Bool) (c : List ℕ) (la lo : List Float) where
             ← q,
           ) (sym (delivered-is (ok d x) m f))
 
-    -- the same by the code's answer
+    -- the same by the code's answer; v is what the second pass reads
     module _ (r : WayData) (g : WayDataRead) (q : wayDataRes g ≡ mapRes waySizes r) (h : g ≡ way-data.Value z e) (k : Bool) (i : k ≡ shorter z (length c) (length la) (length lo)) where
       pub reply-short : (x : LentRefusal) → k ≡ true → x ≡ tooShort z → unchanged (lentRefused x) ≡ readWayData t r c la lo
       reply-short x j w = rw w (sym (short-is r (sym q ∙ ap wayDataRes h) (sym i ∙ j)))
 
-      pub reply-fit : (at : ℕ) → k ≡ false → BlocksFit (mapRes concat r) (record { next = at; blocks = 0; nodes = 0 }) c la lo
-      reply-fit at j = fit-as at (sym i ∙ j) r (sym q ∙ ap wayDataRes h)
+      module _ (v : Res (List (List (List Node)))) (y : mapRes valuesOf r ≡ v) where
+        pub reply-fit : (at : ℕ) → k ≡ false → BlocksFit (mapRes concat v) (record { next = at; blocks = 0; nodes = 0 }) c la lo
+        reply-fit at j = rw y at (fit-as at (sym i ∙ j) r (sym q ∙ ap wayDataRes h))
 
-      pub reply-done : (at : ℕ) (p : Progress) (c′ : List ℕ) (la′ lo′ : List Float) → k ≡ false → BlocksWritten t (mapRes concat r) (record { next = at; blocks = 0; nodes = 0 }) c la lo p c′ la′ lo′ → _≡_ {A = Reply (Res Sizes)} (record { answer = ok z e; lists = lent c′ la′ lo′ }) (readWayData t r c la lo)
-      reply-done at p c′ la′ lo′ j w = done-as at (sym i ∙ j) r p c′ la′ lo′ (sym q ∙ ap wayDataRes h) w
+        pub reply-done : (at : ℕ) (p : Progress) (c′ : List ℕ) (la′ lo′ : List Float) → k ≡ false → BlocksWritten t (mapRes concat v) (record { next = at; blocks = 0; nodes = 0 }) c la lo p c′ la′ lo′ → _≡_ {A = Reply (Res Sizes)} (record { answer = ok z e; lists = lent c′ la′ lo′ }) (readWayData t r c la lo)
+        reply-done at p c′ la′ lo′ j w = done-as at (sym i ∙ j) r p c′ la′ lo′ (sym q ∙ ap wayDataRes h) (rw (← y) at w)

@@ -10,6 +10,7 @@ use Rattle.error.specs.declared.LentRefusal.{LentRefusal}
 use Rattle.error.specs.declared.LentRefusal.the-variants as lent-refusal
 use Rattle.error.specs.declared.Refusal.the-variants.{Source}
 use Rattle.format.specs.Lent.{LentLists, Reply, deliver}
+use Rattle.utils.specs.Vbe.{Noted, valuesOf}
 use Rattle.format.specs.WayData.{Node, concat}
 use Rattle.format.specs.Nodes.{wayLists}
 use Rattle.way_measure.specs.Answers.{waySizes}
@@ -21,8 +22,8 @@ abbrev pub lent : List ℕ → List Float → List Float → LentLists
 lent counts lats lons = record { counts = counts; latitudes = lats; longitudes = lons }
 
 -- the reply of `read_way_data`, from what the bytes say and the lists before the call
-abbrev pub readWayData : Bool → Res (List (List (List Node))) → List ℕ → List Float → List Float → Reply (Res Sizes)
-readWayData double r counts lats lons = deliver waySizes (λ d. wayLists double (concat d)) r (lent counts lats lons)
+abbrev pub readWayData : Bool → Res (List (Noted (List (List Node)))) → List ℕ → List Float → List Float → Reply (Res Sizes)
+readWayData double r counts lats lons = deliver waySizes (λ d. wayLists double (concat (valuesOf d))) r (lent counts lats lons)
 
 -- an answer of the code
 abbrev pub writtenRes : WayDataWritten → Res Sizes

@@ -1,18 +1,19 @@
 -- What private functions ask and leave, which need not be believed: the test of the lists' lengths, and the second pass, over a way's
 -- data that is known to be readable.
-use Prim.Native.Nat.{ℕ, _+_, _≤_}
+use Prim.Native.Nat.{ℕ, _+_, _≤_, _^_}
 use mathlib.Core.Bool.{Bool, _||_}
 use mathlib.Core.Path.{_≡_}
 use mathlib.Core.List.{List, [], _∷_, map}
-use lib.Dec.{ltb}
-use lib.IntN.{ℤ}
+use lib.Dec.{ltb, leb}
+use lib.IntN.{ℤ, natAbs}
 use lib.ListN.{length}
 use lib.Seq.{sets}
 use lib.Ieee as Ieee
 use lib.Ieee.{Float, binary64}
-use Rattle.parsing.specs.Parse.{Res, ok, Parser, _>>=_, return, many, Fine, endOf, listOf}
+use Rattle.parsing.specs.Parse.{Res, ok, Parser, _>>=_, return, fail, pick, many, Fine, endOf, listOf}
+use Rattle.utils.specs.Vbe.{unsigned, coordinate}
 use Rattle.utils.specs.Degree.{degrees}
-use Rattle.format.specs.WayData.{Node, node, block, nodeCount}
+use Rattle.format.specs.WayData.{Node, nodeCount}
 use Rattle.format.specs.Nodes.{zero64, nextDelta, laterNodes, blockNodes, latitudeOf, longitudeOf, nodeCounts, latitudes, longitudes}
 use Rattle.error.specs.declared.LentRefusal.{LentRefusal}
 use Rattle.error.specs.declared.LentRefusal.the-variants.{Short}
@@ -31,12 +32,33 @@ shorter s counts lats lons = ltb counts (s .blocks) || ltb lats (s .nodes) || lt
 abbrev pub tooShort : Sizes → LentRefusal
 tooShort s = Short (record { list1 = s .blocks; list2 = s .nodes; list3 = s .nodes; list4 = 0; list5 = 0; buffer = 0 })
 
--- what the second pass read
+-- what the second pass reads: the values alone
+unfoldable pub nodeAlone : Parser Node
+nodeAlone = do
+  latitude ← coordinate
+  longitude ← coordinate
+  return (record { latitude = latitude; longitude = longitude })
+
+unfoldable pub blockAlone : Parser (List Node)
+blockAlone = do
+  n ← unsigned
+  pick (leb n (2 ^ 20)) (many nodeAlone n) (fail 10 [])
+
+unfoldable pub dataBlockAlone : Parser (List (List Node))
+dataBlockAlone = do
+  n ← unsigned
+  many blockAlone n
+
+-- and what it read
 abbrev pub coordinateRes : StoredCoordinate → Res ℤ
 coordinateRes r = ok (r .value .0) (r .next)
 
 abbrev pub nodeRes : StoredNode → Res Node
 nodeRes r = ok (record { latitude = r .node .latitude .0; longitude = r .node .longitude .0 }) (r .next)
+
+-- whose coordinates are exact as floats
+abbrev pub Exact : CodeNode → Type 0
+Exact n = (natAbs (n .latitude .0) ≤ 2 ^ 53) × (natAbs (n .longitude .0) ≤ 2 ^ 53)
 
 -- a block's first node
 abbrev pub startAt : CodeNode → Cursor
@@ -72,7 +94,7 @@ inBlock double l = record { lats = blockNodes double (map latitudeOf l); lons = 
 
 -- n nodes are no refusal, and the lists are long enough from `from` on
 pub record NodesFit (s : List ℕ) (at n from : ℕ) (la lo : List Float) : Type 0 where
-  pub fine : Fine (many node n s at)
+  pub fine : Fine (many nodeAlone n s at)
   pub lats : from + n ≤ length la
   pub lons : from + n ≤ length lo
 
@@ -85,7 +107,7 @@ pub record NodesWritten (f : List Node → Coordinates) (r : Res (List Node)) (f
 -- a block as the only one of a list
 unfoldable pub oneBlock : Parser (List (List Node))
 oneBlock = do
-  b ← block
+  b ← blockAlone
   return (b ∷ [])
 
 -- blocks are no refusal, and the lists are long enough from p on

@@ -4,19 +4,22 @@ use byte_source::NumberRead;
 use error::Lengths;
 use error::LentRefusal;
 use error::Refusal;
+use utils::Degrees;
 use utils::MicroRead;
 use utils::Microdegrees;
 use way_measure::Node;
 use way_measure::Sizes;
 use way_measure::WayDataRead;
 ghost use mathlib.Core.Path.{_≡_};
-ghost use Prim.Native.Nat.{_<_, _^_};
+ghost use Prim.Native.Nat.{_<_, _≤_, _^_};
+ghost use lib.IntN.{natAbs};
 ghost use Rattle.parsing.specs.Parse.{mapRes, many, Fine};
 ghost use Rattle.utils.specs.Vbe.{signedOf, coordinate};
-ghost use Rattle.format.specs.WayData.{node, dataBlock, wayData, concat};
+ghost use Rattle.utils.specs.Degree.{degrees};
+ghost use Rattle.format.specs.WayData.{wayData, concat};
 ghost use Rattle.format.specs.Nodes.{nextDelta};
 ghost use Rattle.way_data.specs.Reply.{writtenRefusal, reply, readWayData};
-ghost use Rattle.way_data.specs.Writes.{shorter, tooShort, coordinateRes, nodeRes, startAt, movedBy, later, inBlock, oneBlock, NodesFit, NodesWritten, BlocksFit, BlocksWritten};
+ghost use Rattle.way_data.specs.Writes.{nodeAlone, dataBlockAlone, shorter, tooShort, coordinateRes, nodeRes, Exact, startAt, movedBy, later, inBlock, oneBlock, NodesFit, NodesWritten, BlocksFit, BlocksWritten};
 
 // The sizes of a way's data that was written, with the place behind it, or why none was.
 pub enum WayDataWritten {
@@ -69,14 +72,23 @@ fn next_delta(double: bool, delta: f64, stored: f64) -> f64
     stored
 }
 
+// In degrees. The first pass has read it, so it is at most 2^53, and the cast is exact.
+fn exact_degrees(m: Microdegrees) -> Degrees
+    requires { ⌜ natAbs (m .0) ≤ 2 ^ 53 ⌝ }
+    ensures { λ r. ⌜ r .0 ≡ degrees (m .0) ⌝ }
+{
+    Degrees(m.0 as f64 / 1000000.0)
+}
+
 // A block's first node, as stored.
 fn first_node(n: Node) -> Cursor
+    requires { ⌜ Exact n ⌝ }
     ensures { λ r. ⌜ r ≡ startAt n ⌝ }
 {
     let latitude = n.latitude;
     let longitude = n.longitude;
-    let lat = utils::microdegrees_to_degrees(latitude);
-    let lon = utils::microdegrees_to_degrees(longitude);
+    let lat = exact_degrees(latitude);
+    let lon = exact_degrees(longitude);
     Cursor {
         latitude: lat.0,
         longitude: lon.0,
@@ -87,6 +99,7 @@ fn first_node(n: Node) -> Cursor
 
 // A later node, from the one before it.
 fn next_node(last: Cursor, double: bool, n: Node) -> Cursor
+    requires { ⌜ Exact n ⌝ }
     ensures { λ r. ⌜ r ≡ movedBy double last n ⌝ }
 {
     let stored = first_node(n);
@@ -124,12 +137,13 @@ fn long_coordinate(map: &[u8], at: usize) -> StoredCoordinate
     ensures { λ r. ⌜ coordinateRes r ≡ coordinate (now (map .entry)) at ⌝ }
 {
     let got = utils::read_microdegrees(map, at);
-    let MicroRead::Value(value, next) = got else {
+    let MicroRead::Value(c, next) = got else {
         return StoredCoordinate {
             value: Microdegrees(0),
             next: at,
         };
     };
+    let value = c.value;
     StoredCoordinate { value, next }
 }
 
@@ -163,8 +177,8 @@ fn known_coordinate(map: &[u8], at: usize) -> StoredCoordinate
 }
 
 fn known_node(map: &[u8], at: usize) -> StoredNode
-    requires { ⌜ Fine (node (now map) at) ⌝ }
-    ensures { λ r. ⌜ nodeRes r ≡ node (now (map .entry)) at ⌝ }
+    requires { ⌜ Fine (nodeAlone (now map) at) ⌝ }
+    ensures { λ r. ⌜ nodeRes r ≡ nodeAlone (now (map .entry)) at ⌝ }
 {
     let lat = known_coordinate(map, at);
     let lon = known_coordinate(map, lat.next);
@@ -191,7 +205,7 @@ fn write_later(
     from: usize,
 ) -> usize
     requires { ⌜ NodesFit (now map) at n from (now latitudes) (now longitudes) ⌝ }
-    ensures { λ r. ⌜ NodesWritten (later double first) (many node n (now (map .entry)) at) from (now (latitudes .entry)) (now (longitudes .entry)) r (now (latitudes .exit)) (now (longitudes .exit)) ⌝ }
+    ensures { λ r. ⌜ NodesWritten (later double first) (many nodeAlone n (now (map .entry)) at) from (now (latitudes .entry)) (now (longitudes .entry)) r (now (latitudes .exit)) (now (longitudes .exit)) ⌝ }
 {
     let mut last = first;
     let mut next = at;
@@ -220,7 +234,7 @@ fn write_nodes(
     from: usize,
 ) -> usize
     requires { ⌜ NodesFit (now map) at n from (now latitudes) (now longitudes) ⌝ }
-    ensures { λ r. ⌜ NodesWritten (inBlock double) (many node n (now (map .entry)) at) from (now (latitudes .entry)) (now (longitudes .entry)) r (now (latitudes .exit)) (now (longitudes .exit)) ⌝ }
+    ensures { λ r. ⌜ NodesWritten (inBlock double) (many nodeAlone n (now (map .entry)) at) from (now (latitudes .entry)) (now (longitudes .entry)) r (now (latitudes .exit)) (now (longitudes .exit)) ⌝ }
 {
     if n < 1 {
         return at;
@@ -255,7 +269,7 @@ fn write_block(
     let at = from.next;
     let block = from.blocks;
     let node = from.nodes;
-    let got = utils::read_vbe_u_int(map, at);
+    let got = utils::read_number(map, at);
     let NumberRead::Value(n, start) = got else {
         return from;
     };
@@ -297,13 +311,13 @@ fn write_data_block(
     latitudes: &mut [f64],
     longitudes: &mut [f64],
 ) -> Progress
-    requires { ⌜ BlocksFit (dataBlock (now map) (from .next)) from (now counts) (now latitudes) (now longitudes) ⌝ }
-    ensures { λ r. ⌜ BlocksWritten double (dataBlock (now (map .entry)) (from .next)) from (now (counts .entry)) (now (latitudes .entry)) (now (longitudes .entry)) r (now (counts .exit)) (now (latitudes .exit)) (now (longitudes .exit)) ⌝ }
+    requires { ⌜ BlocksFit (dataBlockAlone (now map) (from .next)) from (now counts) (now latitudes) (now longitudes) ⌝ }
+    ensures { λ r. ⌜ BlocksWritten double (dataBlockAlone (now (map .entry)) (from .next)) from (now (counts .entry)) (now (latitudes .entry)) (now (longitudes .entry)) r (now (counts .exit)) (now (latitudes .exit)) (now (longitudes .exit)) ⌝ }
 {
     let at = from.next;
     let block = from.blocks;
     let node = from.nodes;
-    let got = utils::read_vbe_u_int(map, at);
+    let got = utils::read_number(map, at);
     let NumberRead::Value(n, start) = got else {
         return from;
     };
@@ -325,8 +339,8 @@ fn write_way_data(
     latitudes: &mut [f64],
     longitudes: &mut [f64],
 ) -> Progress
-    requires { ⌜ BlocksFit (mapRes concat (many dataBlock n (now map) (from .next))) from (now counts) (now latitudes) (now longitudes) ⌝ }
-    ensures { λ r. ⌜ BlocksWritten double (mapRes concat (many dataBlock n (now (map .entry)) (from .next))) from (now (counts .entry)) (now (latitudes .entry)) (now (longitudes .entry)) r (now (counts .exit)) (now (latitudes .exit)) (now (longitudes .exit)) ⌝ }
+    requires { ⌜ BlocksFit (mapRes concat (many dataBlockAlone n (now map) (from .next))) from (now counts) (now latitudes) (now longitudes) ⌝ }
+    ensures { λ r. ⌜ BlocksWritten double (mapRes concat (many dataBlockAlone n (now (map .entry)) (from .next))) from (now (counts .entry)) (now (latitudes .entry)) (now (longitudes .entry)) r (now (counts .exit)) (now (latitudes .exit)) (now (longitudes .exit)) ⌝ }
 {
     let mut place = from;
     let mut left = n;

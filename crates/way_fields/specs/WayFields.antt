@@ -1,11 +1,14 @@
 -- The fields of a way behind its tag values as they are handed out (document 01, way.rs), from what is stored.
 use Prim.Native.Nat.{ℕ}
-use Rattle.parsing.specs.Parse.{Res, ok, Parser, _>>=_, return}
+use mathlib.Core.Bool.{Bool, _&&_}
+use Rattle.parsing.specs.Parse.{Res, ok, Parser, _>>=_, return, Maybe}
 use Rattle.error.specs.Refusals.{refused}
 use Rattle.error.specs.declared.Refusal.{Refusal}
 use Rattle.error.specs.declared.Refusal.the-variants.{Source}
+use Rattle.utils.specs.Vbe.{Noted, noted}
+use Rattle.format.specs.WayData.{Node}
 use Rattle.format.specs.Tile as format
-use Rattle.format.specs.Tile.{wayFields, dataBlockCount, doubleDelta}
+use Rattle.format.specs.Tile.{wayFields, dataBlockCount, doubleDelta, maybeValue, maybePlain}
 use Rattle.types.specs.Types.{optionalSpan, optionalPosition}
 use Rattle.types.specs.declared.OptionalPosition.{OptionalPosition}
 use Rattle.way_fields.specs.declared.WayFields.{WayFields}
@@ -21,12 +24,13 @@ use Rattle.way_fields.specs.declared.AnnouncedRead.the-variants as annou
 pub record BodyHead : Type 0 where
   pub fields : format.WayFields
   pub dataBlocks : ℕ
+  pub plain : Bool
 
 unfoldable pub bodyHead : Parser BodyHead
 bodyHead = do
   f ← wayFields
   k ← dataBlockCount (f .flags)
-  return (record { fields = f; dataBlocks = k })
+  return (record { fields = f; dataBlocks = k .value; plain = f .plain && k .plain })
 
 abbrev pub wayFieldsOf : BodyHead → WayFields
 wayFieldsOf b = record {
@@ -36,6 +40,7 @@ wayFieldsOf b = record {
   «label_position» = optionalPosition (b .fields .label);
   «double_delta» = doubleDelta (b .fields);
   «data_blocks» = b .dataBlocks;
+  plain = b .plain;
 }
 
 abbrev pub wayFieldsRes : WayFieldsRead → Res WayFields
@@ -47,12 +52,15 @@ wayFieldsRefusal (fields.Value v n) = Source
 wayFieldsRefusal (fields.Refused r) = r
 
 -- the answers on the way
-abbrev pub labelRes : LabelRead → Res OptionalPosition
-labelRes (label.Value v n) = ok v n
+abbrev pub labelOf : Maybe (Noted Node) → Noted OptionalPosition
+labelOf l = noted (optionalPosition (maybeValue l)) (maybePlain l)
+
+abbrev pub labelRes : LabelRead → Res (Noted OptionalPosition)
+labelRes (label.Value v p n) = ok (noted v p) n
 labelRes (label.Refused r) = refused r
 
 abbrev pub labelRefusal : LabelRead → Refusal
-labelRefusal (label.Value v n) = Source
+labelRefusal (label.Value v p n) = Source
 labelRefusal (label.Refused r) = r
 
 abbrev pub announcedOf : format.WayFields → Announced
@@ -62,6 +70,7 @@ announcedOf f = record {
   reference = optionalSpan (f .reference);
   «label_position» = optionalPosition (f .label);
   flags = f .flags;
+  plain = f .plain;
 }
 
 abbrev pub announcedRes : AnnouncedRead → Res Announced

@@ -16,6 +16,7 @@ headOf h = record {
   bitmap = h .bitmap;
   layer = h .tagged .layer;
   «tag_ids» = tagIds (h .tagged .ids);
+  plain = h .plain;
 }
 
 -- where a read is refused
@@ -27,6 +28,7 @@ emptyHead = record {
   bitmap = 0;
   layer = noTags .layer;
   «tag_ids» = noTags .ids;
+  plain = noTags .plain;
 }
 
 abbrev pub HeadIs : Res Head → WayHeadRead → Type 0

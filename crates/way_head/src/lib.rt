@@ -1,5 +1,4 @@
 // way.rs: a way up to its tag values, which is all that is known of a way that is declined.
-use byte_source::NumberRead;
 use byte_source::ShortRead;
 use error::Refusal;
 use fields::OptionalSpanRead;
@@ -7,14 +6,17 @@ use tagged::TagIds;
 use types::End;
 use types::OptionalSpan;
 use types::TagRange;
+use utils::Number;
+use utils::VbeRead;
 ghost use mathlib.Core.Path.{_≡_};
 ghost use Rattle.parsing.specs.Parse.{Part, Maybe};
+ghost use Rattle.utils.specs.Vbe.{noted};
 ghost use Rattle.format.specs.Tile.{headRest, head};
 ghost use Rattle.types.specs.Types.{optionalSpan};
 ghost use Rattle.tag_table.specs.Tables.{kindsBy};
 ghost use Rattle.way_head.specs.WayHead.{emptyHead, HeadIs};
 
-// The size is counted from `start`, the byte behind the size field.
+// The size is counted from `start`, the byte behind the size field. `plain`: whether the encodings of all numbers were plain.
 pub struct WayHead {
     pub signature: OptionalSpan,
     pub size: u64,
@@ -22,6 +24,7 @@ pub struct WayHead {
     pub tag_ids: TagIds,
     pub bitmap: u16,
     pub layer: i8,
+    pub plain: bool,
 }
 
 // A head, and where the way's body starts.
@@ -44,6 +47,7 @@ fn refused_head(refusal: Refusal) -> WayHeadRead
                 ids: [0u64; 15],
                 count: 0,
             },
+            plain: false,
         },
         end: End::Refused(refusal),
     }
@@ -56,9 +60,9 @@ fn read_head_rest(
     letters: &[u8],
     tags: TagRange,
     signature: OptionalSpan,
-    size: u64,
+    size: Number,
 ) -> WayHeadRead
-    ensures { λ r. ⌜ ((g : Maybe Part) → signature ≡ optionalSpan g → HeadIs (headRest (kindsBy (now (letters .entry)) tags) g size at (now (map .entry)) at) r) ⌝ }
+    ensures { λ r. ⌜ ((g : Maybe Part) → signature ≡ optionalSpan g → HeadIs (headRest (kindsBy (now (letters .entry)) tags) g (noted (size .value) (size .plain)) at (now (map .entry)) at) r) ⌝ }
 {
     let got = byte_source::read_u16_be(map, at);
     let ShortRead::Value(bitmap, next) = got else {
@@ -73,11 +77,12 @@ fn read_head_rest(
     WayHeadRead {
         head: WayHead {
             signature,
-            size,
+            size: size.value,
             start: at,
             bitmap,
             layer: got.layer,
             tag_ids,
+            plain: types::both(size.plain, got.plain),
         },
         end: End::At(behind),
     }
@@ -98,8 +103,8 @@ pub fn read_way_head(
         return refused_head(fields::optional_span_refusal(got));
     };
     let got = utils::read_vbe_u_int(map, at);
-    let NumberRead::Value(size, start) = got else {
-        return refused_head(byte_source::number_refusal(got));
+    let VbeRead::Value(size, start) = got else {
+        return refused_head(utils::vbe_refusal(got));
     };
     read_head_rest(map, start, letters, tags, signature, size)
 }

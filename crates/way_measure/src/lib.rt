@@ -1,16 +1,16 @@
 // way.rs: how many blocks and nodes the data of a way has, and where it ends. This is the first of two passes: a refusal leaves the
 // lent lists as they were, so nothing is written before all is known to be readable.
-use byte_source::NumberRead;
 use coordinates::Skip;
 use error::Refusal;
 use utils::MicroRead;
 use utils::Microdegrees;
+use utils::Number;
+use utils::VbeRead;
 ghost use mathlib.Core.Path.{_≡_};
-ghost use lib.ListN.{length};
 ghost use Rattle.parsing.specs.Parse.{mapRes, many};
-ghost use Rattle.byte_source.specs.Answers.{numberRes};
+ghost use Rattle.utils.specs.Answers.{vbeRes};
 ghost use Rattle.format.specs.WayData.{node, block, dataBlock, wayData};
-ghost use Rattle.way_measure.specs.Answers.{nodeRes, nodeRefusal, sizesOf, waySizes, wayDataRes, wayDataRefusal};
+ghost use Rattle.way_measure.specs.Answers.{nodeRes, nodeRefusal, countOf, nodesCount, sizesOf, blocksSizes, waySizes, wayDataRes, wayDataRefusal};
 
 // A node as stored: its position, or a delta.
 pub struct Node {
@@ -18,15 +18,17 @@ pub struct Node {
     pub longitude: Microdegrees,
 }
 
+// A node, whether its numbers were plain, and the place behind it, or a refusal.
 pub enum NodeRead {
-    Value(Node, usize),
+    Value(Node, bool, usize),
     Refused(Refusal),
 }
 
-// How many coordinate blocks, and how many nodes all of them have.
+// How many coordinate blocks, how many nodes all of them have, and whether every number was plain.
 pub struct Sizes {
     pub blocks: u64,
     pub nodes: u64,
+    pub plain: bool,
 }
 
 // The sizes of a way's data with the place behind it, or a refusal.
@@ -40,7 +42,7 @@ pub fn node_refusal(got: NodeRead) -> Refusal
 {
     match got {
         NodeRead::Refused(r) => r,
-        NodeRead::Value(_, _) => Refusal::Source,
+        NodeRead::Value(_, _, _) => Refusal::Source,
     }
 }
 
@@ -57,83 +59,110 @@ pub fn read_node(map: &[u8], at: usize) -> NodeRead
     ensures { λ r. ⌜ nodeRes r ≡ node (now (map .entry)) at ⌝ }
 {
     let got = utils::read_microdegrees(map, at);
-    let MicroRead::Value(latitude, at) = got else {
+    let MicroRead::Value(lat, at) = got else {
         return NodeRead::Refused(utils::micro_refusal(got));
     };
     let got = utils::read_microdegrees(map, at);
-    let MicroRead::Value(longitude, at) = got else {
+    let MicroRead::Value(lon, at) = got else {
         return NodeRead::Refused(utils::micro_refusal(got));
     };
+    let latitude = lat.value;
+    let longitude = lon.value;
     NodeRead::Value(
         Node {
             latitude,
             longitude,
         },
+        lat.plain & lon.plain,
         at,
     )
 }
 
-// The slow way over n nodes: each is decoded, so a refusal comes at its place.
-fn measure_nodes(map: &[u8], at: usize, n: u64) -> NumberRead
-    ensures { λ r. ⌜ numberRes r ≡ mapRes length (many node n (now (map .entry)) at) ⌝ }
+// The slow way over n nodes: each is decoded, so a refusal comes at its place. `plain` is what is said of the count before them.
+fn measure_nodes(map: &[u8], at: usize, n: u64, plain: bool) -> VbeRead
+    ensures { λ r. ⌜ vbeRes r ≡ mapRes (nodesCount plain) (many node n (now (map .entry)) at) ⌝ }
 {
     let mut next = at;
+    let mut all = plain;
     let mut i: u64 = 0;
     while i < n {
         let got = read_node(map, next);
-        let NodeRead::Value(_, after) = got else {
-            return NumberRead::Refused(node_refusal(got));
+        let NodeRead::Value(_, p, after) = got else {
+            return VbeRead::Refused(node_refusal(got));
         };
+        all = all & p;
         next = after;
         i += 1;
     }
-    NumberRead::Value(i, next)
+    VbeRead::Value(
+        Number {
+            value: i,
+            plain: all,
+        },
+        next,
+    )
 }
 
 // A block's node count. Nodes of short numbers, nearly all, are passed over without decoding them.
-fn measure_block(map: &[u8], at: usize) -> NumberRead
-    ensures { λ r. ⌜ numberRes r ≡ mapRes length (block (now (map .entry)) at) ⌝ }
+fn measure_block(map: &[u8], at: usize) -> VbeRead
+    ensures { λ r. ⌜ vbeRes r ≡ mapRes countOf (block (now (map .entry)) at) ⌝ }
 {
     let got = utils::read_vbe_u_int(map, at);
-    let NumberRead::Value(n, at) = got else {
-        return NumberRead::Refused(byte_source::number_refusal(got));
+    let VbeRead::Value(n, at) = got else {
+        return VbeRead::Refused(utils::vbe_refusal(got));
     };
-    if 1048576 < n {
-        return NumberRead::Refused(Refusal::TooManyNodes);
+    if 1048576 < n.value {
+        return VbeRead::Refused(Refusal::TooManyNodes);
     }
-    let fast = coordinates::skip_coordinates(map, at, 2 * n);
-    let Skip::At(end) = fast else {
-        return measure_nodes(map, at, n);
+    let fast = coordinates::skip_coordinates(map, at, 2 * n.value);
+    let Skip::At(p, end) = fast else {
+        return measure_nodes(map, at, n.value, n.plain);
     };
-    NumberRead::Value(n, end)
+    VbeRead::Value(
+        Number {
+            value: n.value,
+            plain: n.plain & p,
+        },
+        end,
+    )
 }
 
-fn measure_blocks(map: &[u8], at: usize, n: u64) -> WayDataRead
-    ensures { λ r. ⌜ wayDataRes r ≡ mapRes sizesOf (many block n (now (map .entry)) at) ⌝ }
+// n blocks. `plain` is what is said of the count before them.
+fn measure_blocks(map: &[u8], at: usize, n: u64, plain: bool) -> WayDataRead
+    ensures { λ r. ⌜ wayDataRes r ≡ mapRes (blocksSizes plain) (many block n (now (map .entry)) at) ⌝ }
 {
     let mut next = at;
     let mut nodes: u64 = 0;
+    let mut all = plain;
     let mut i: u64 = 0;
     while i < n {
         let got = measure_block(map, next);
-        let NumberRead::Value(k, after) = got else {
-            return WayDataRead::Refused(byte_source::number_refusal(got));
+        let VbeRead::Value(k, after) = got else {
+            return WayDataRead::Refused(utils::vbe_refusal(got));
         };
-        nodes += k;
+        nodes += k.value;
+        all = all & k.plain;
         next = after;
         i += 1;
     }
-    WayDataRead::Value(Sizes { blocks: i, nodes }, next)
+    WayDataRead::Value(
+        Sizes {
+            blocks: i,
+            nodes,
+            plain: all,
+        },
+        next,
+    )
 }
 
 fn measure_data_block(map: &[u8], at: usize) -> WayDataRead
     ensures { λ r. ⌜ wayDataRes r ≡ mapRes sizesOf (dataBlock (now (map .entry)) at) ⌝ }
 {
     let got = utils::read_vbe_u_int(map, at);
-    let NumberRead::Value(n, at) = got else {
-        return WayDataRead::Refused(byte_source::number_refusal(got));
+    let VbeRead::Value(n, at) = got else {
+        return WayDataRead::Refused(utils::vbe_refusal(got));
     };
-    measure_blocks(map, at, n)
+    measure_blocks(map, at, n.value, n.plain)
 }
 
 // The first pass. Each turn passes a byte or is refused, so that counts up to 2^64 - 1 end, and no sum wraps.
@@ -143,6 +172,7 @@ pub fn measure_way_data(map: &[u8], at: usize, data_blocks: u64) -> WayDataRead
     let mut next = at;
     let mut blocks: u64 = 0;
     let mut nodes: u64 = 0;
+    let mut plain = true;
     let mut i: u64 = 0;
     while i < data_blocks {
         let got = measure_data_block(map, next);
@@ -151,8 +181,16 @@ pub fn measure_way_data(map: &[u8], at: usize, data_blocks: u64) -> WayDataRead
         };
         blocks += s.blocks;
         nodes += s.nodes;
+        plain = plain & s.plain;
         next = after;
         i += 1;
     }
-    WayDataRead::Value(Sizes { blocks, nodes }, next)
+    WayDataRead::Value(
+        Sizes {
+            blocks,
+            nodes,
+            plain,
+        },
+        next,
+    )
 }

@@ -12,9 +12,9 @@ use Rattle.tile_layout.specs.TileLayout.{TileKinds, kindsOf, formatOf}
 use Rattle.tile_layout.specs.declared.TileLayout.{TileLayout}
 use Rattle.agreement.specs.Calls.{Answer, refused, Step}
 use Rattle.agreement.specs.Format.{Format}
-use Rattle.agreement.specs.Stream.{State, idle, waits, onPoint, onHead, onNext, onBody, onAccept, onDecline}
+use Rattle.agreement.specs.Stream.{idle, waits, onPoint, onHead, onNext, onBody, onAccept, onDecline}
 use Rattle.agreement.specs.TileFormat as tile
-use Rattle.visit.specs.Visit.{endOf, turnState, stateOf, ShownAnswer, shownStep, nextAnswer, acceptAnswer, declineAnswer}
+use Rattle.visit.specs.Visit.{endOf, TileState, turnState, stateOf, ShownAnswer, shownStep, nextAnswer, acceptAnswer, declineAnswer}
 use Rattle.visit.specs.declared.TileEnd.{TileEnd}
 use Rattle.visit.specs.declared.Turn.{Turn}
 use Rattle.visit.specs.declared.Turn.the-variants as turn
@@ -33,11 +33,11 @@ use Rattle.exports.specs.Calls.{NextOf, AcceptOf, DeclineOf}
 
 -- a stream by its state
 abbrev endIn : tile.TileEnd → TileEnd
-endIn z = record { «sub_file» = z .subFile; «is_water» = z .water }
+endIn z = record { «sub_file» = z .subFile; «is_water» = z .water; plain = z .plain }
 
-abbrev streamOf : State tile.TileEnd → Stream
+abbrev streamOf : TileState → Stream
 streamOf (idle n w i v z) = record { turn = turn.Idle (record { points = n; ways = w; at = i; way = v }); end = endIn z }
-streamOf (waits w x b z) = record { turn = turn.Waits (record { ways = w; past = x; body = b }); end = endIn z }
+streamOf (waits w x b k z) = record { turn = turn.Waits (record { ways = w; past = x; body = b; «head_plain» = k }); end = endIn z }
 
 stream-of : (s : Stream) → streamOf (stateOf s) ≡ s
 stream-of s = go (s .turn) (s .end)
@@ -50,17 +50,17 @@ never : {C : Type 0} → _≡_ {A = ℕ} 0 1 → C
 never z = absurd (omega arith)
 
 abbrev Stored : Type 0
-Stored = Step (Answer Point Head Body tile.TileEnd) (State tile.TileEnd)
+Stored = Step (Answer Point Head Body tile.TileEnd) (TileState)
 
 -- a step that is refused leaves the state
-abbrev Keeps : State tile.TileEnd → Stored → Type 0
+abbrev Keeps : TileState → Stored → Type 0
 Keeps t x = (k : ℕ) (y : List ℕ) → shownStep x .reply .answer ≡ refused k y → x .left ≡ t
 
 module _ (l : TileKinds) (m : List ℕ) where
   abbrev F : Format
   F = formatOf l
 
-  next-keeps : (t : State tile.TileEnd) → Keeps t (onNext F m t)
+  next-keeps : (t : TileState) → Keeps t (onNext F m t)
   next-keeps (idle (suc n) w i v z) k y e = go (F .point m i) k y e
     where
       go : (r : Res Point) → Keeps (idle (suc n) w i v z) (onPoint F n w i v z r)
@@ -72,27 +72,27 @@ module _ (l : TileKinds) (m : List ℕ) where
       go (ok p x) k y e = never cc
       go (no j x) k y e = refl
   next-keeps (idle zero zero i v z) k y e = never cc
-  next-keeps (waits w x b z) k y e = refl
+  next-keeps (waits w x b h z) k y e = refl
 
-accept-keeps : (m : List ℕ) (lent : LentLists) (t : State tile.TileEnd) → Keeps t (onAccept body bodyLists m t lent)
+accept-keeps : (m : List ℕ) (lent : LentLists) (t : TileState) → Keeps t (onAccept body bodyLists tile.wholeBody tile.noteBody m t lent)
 accept-keeps m lent (idle n w i v z) k y e = refl
-accept-keeps m lent (waits w x b z) k y e = go (deliver (λ d. d) bodyLists (body m b) lent .answer) k y e
+accept-keeps m lent (waits w x b h z) k y e = go (deliver (λ d. d) bodyLists (body m b) lent .answer) k y e
   where
-    go : (r : Res Body) → Keeps (waits w x b z) (onBody w x b z (deliver (λ d. d) bodyLists (body m b) lent .lists) r)
+    go : (r : Res Body) → Keeps (waits w x b h z) (onBody tile.wholeBody tile.noteBody w x b h z (deliver (λ d. d) bodyLists (body m b) lent .lists) r)
     go (ok d j) k y e = never cc
     go (no j v) k y e = refl
 
-decline-keeps : (t : State tile.TileEnd) → Keeps t (onDecline t)
+decline-keeps : (t : TileState) → Keeps t (onDecline t)
 decline-keeps (idle n w i v z) k y e = refl
-decline-keeps (waits w x b z) k y e = never cc
+decline-keeps (waits w x b h z) k y e = never cc
 
 -- what the state's words say after a refusal, before and after it the same
-module _ (s t : Stream) (x : Stored) (y : Step ShownAnswer (State tile.TileEnd)) (e : y ≡ shownStep x) (left : y .left ≡ stateOf t) (keeps : Keeps (stateOf s) x) where
+module _ (s t : Stream) (x : Stored) (y : Step ShownAnswer (TileState)) (e : y ≡ shownStep x) (left : y .left ≡ stateOf t) (keeps : Keeps (stateOf s) x) where
   kept : (k : ℕ) (v : List ℕ) → y .reply .answer ≡ refused k v → s ≡ t
   kept k v q =
       sym (stream-of s)
-      ∙ ap streamOf (sym (keeps _ _ (sym (ap (λ (a : Step ShownAnswer (State tile.TileEnd)). a .reply .answer) e) ∙ q)))
-      ∙ ap streamOf (sym (ap (λ (a : Step ShownAnswer (State tile.TileEnd)). a .left) e) ∙ left)
+      ∙ ap streamOf (sym (keeps _ _ (sym (ap (λ (a : Step ShownAnswer (TileState)). a .reply .answer) e) ∙ q)))
+      ∙ ap streamOf (sym (ap (λ (a : Step ShownAnswer (TileState)). a .left) e) ∙ left)
       ∙ stream-of t
 
 pub next-kept : (m letters : List ℕ) (l : TileLayout) (s : Stream) (a : NextStep) → NextOf m letters l s a → nextLeft (a .answer) (a .stream) s ≡ a .stream
@@ -112,7 +112,7 @@ accept-kept m s lent left a k = go (a .answer) refl
     go : (x : AcceptAnswer) → a .answer ≡ x → acceptLeft x (a .stream) s ≡ a .stream
     go (accept-answer.Body b) e = refl
     go (accept-answer.Refused r) e =
-        kept s (a .stream) (onAccept body bodyLists m (stateOf s) lent) _ k refl (accept-keeps m lent (stateOf s)) _ _
+        kept s (a .stream) (onAccept body bodyLists tile.wholeBody tile.noteBody m (stateOf s) lent) _ k refl (accept-keeps m lent (stateOf s)) _ _
         (ap acceptAnswer e)
 
 pub decline-kept : (s : Stream) (a : Declined) → DeclineOf s a → declineLeft (a .answer) (a .stream) s ≡ a .stream

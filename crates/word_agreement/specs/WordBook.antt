@@ -47,7 +47,7 @@ abbrev pub EntryLent : Wire → Type 0
 EntryLent = Lent (9 ∷ []) 0 0
 
 abbrev pub TileLent : Wire → Type 0
-TileLent = Lent (14 ∷ []) 0 0
+TileLent = Lent (15 ∷ []) 0 0
 
 -- what `mapsforge_collect` left says this tile: its words, and its rows in front of the two lists
 pub record ShowsTile (t : Tile) (rows left : LentRows) (after : Wire) : Type 0 where

@@ -36,12 +36,12 @@ pub record WordSaw (m : List ℕ) (subFile : ℕ) (grid : Grid) (number zoom : �
   pub calls : WordCalled m layout letters (listOf after 1) (callsOf points ways) (repliesOf points ways z)
 
 -- `says`: zooming in only adds (the tile's head, and how many points and ways its zoom table counts up to each zoom). `lower`: by its words
--- the program sees just these at every lower zoom, and the same end.
+-- the program sees just these at every lower zoom, and the end that `says` names: the same but that it may say plain where this one does not.
 pub record WordZooming (m : List ℕ) (subFile : ℕ) (grid : Grid) (number zoom : ℕ) (layout letters interval : List ℕ) (rule : (bitmap : ℕ) → TagIds → Bool) (lists : List LentLists) (points : List Poi) (ways : List SeenWay) (z : TileEnd) : Type 0 where
   pub says : ZoomingIn m (layoutIn layout) letters (intervalFound (intervalIn interval)) subFile (gridOf grid) number zoom rule lists points ways z
-  pub lower : (zoom′ : ℕ) → zoom′ ≤ zoom
+  pub lower : (zoom′ : ℕ) (le : zoom′ ≤ zoom)
       → WordStreams m subFile grid number zoom′ layout letters interval
       (callsOf (take (pointsUpTo (says .head .table) (rowsUpto (says .place .interval .min) (says .place .interval .max) zoom′)) points)
       (take (waysUpTo (says .head .table) (rowsUpto (says .place .interval .min) (says .place .interval .max) zoom′)) ways))
       (repliesOf (take (pointsUpTo (says .head .table) (rowsUpto (says .place .interval .min) (says .place .interval .max) zoom′)) points)
-      (take (waysUpTo (says .head .table) (rowsUpto (says .place .interval .min) (says .place .interval .max) zoom′)) ways) z)
+      (take (waysUpTo (says .head .table) (rowsUpto (says .place .interval .min) (says .place .interval .max) zoom′)) ways) (says .lower zoom′ le .said))

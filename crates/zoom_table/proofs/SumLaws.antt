@@ -3,6 +3,7 @@ use Prim.Native.Nat.{ℕ, zero, suc, _+_, _-_, _≤_, _<_}
 use native.Mathlib.Nat.{zero-add, suc-add, add-assoc}
 use native.Mathlib.Omega.{arith}
 use mathlib.Core.Path.{_≡_, refl, sym, ap, _∙_}
+use mathlib.Core.Bool.{Bool, _&&_}
 use mathlib.Core.List.{List, [], _∷_, _++_}
 use lib.ListN.{length}
 use lib.Seq.{take-append-seam}
@@ -15,15 +16,15 @@ use Rattle.parsing.proofs.Views.{viewed, view-stop}
 use Rattle.error.specs.Refusals.{refused}
 use Rattle.error.specs.declared.Refusal.{Refusal}
 use Rattle.error.specs.declared.Refusal.the-variants.{ReversedInterval}
-use Rattle.byte_source.proofs.ReadLaws.{ViewPasses, view-passes, ViewStops, view-stops}
 use Rattle.arithmetic.specs.Cut.{cut}
 use Rattle.arithmetic.proofs.CutLaws.{cut-add}
+use Rattle.utils.specs.Vbe.{Noted, valuesOf, allPlain}
 use Rattle.format.specs.Tile.{Row, row}
 use Rattle.format.specs.Rows.{rowsUpto, pointsOf, waysOf, numbersOfTable}
-use Rattle.zoom_table.specs.Blocks.{zoomRow, sumOf, zoomSums, sumsRes, sumsRefusal, rowRes, rowRefusal}
-use Rattle.zoom_table.specs.declared.SumsRead.the-variants as sums-read
-use Rattle.zoom_table.specs.declared.ZoomRow.{ZoomRow}
-use Rattle.zoom_table.specs.declared.Sums.{Sums}
+use Rattle.types.proofs.NotedLaws.{and-assoc, values-length, values-snoc, plain-snoc}
+use Rattle.zoom_table.specs.Blocks.{notedRow, sumOf, notedSums, rowRes, rowRefusal}
+use Rattle.zoom_table.specs.declared.NotedRow.{NotedRow}
+use Rattle.zoom_table.specs.declared.NotedSums.{NotedSums}
 use Rattle.zoom_table.specs.declared.RowRead.{RowRead}
 use Rattle.zoom_table.specs.declared.RowRead.the-variants as row-read
 use Rattle.zoom_table.proofs.BlockLaws.{row-no, table-reversed, table-is}
@@ -32,6 +33,15 @@ total-append : {A : Type 0} (f : A → ℕ) (xs ys : List A) → total f (xs ++ 
 total-append f [] ys = sym (zero-add (total f ys))
 total-append f (x ∷ xs) ys = rw (total-append f xs ys) (sym (add-assoc (f x) (total f xs) (total f ys)))
 
+-- noted rows, of which some were read behind others
+values-append : (xs ys : List (Noted Row)) → valuesOf (xs ++ ys) ≡ valuesOf xs ++ valuesOf ys
+values-append [] ys = refl
+values-append (x ∷ xs) ys = ap (λ l. x .value ∷ l) (values-append xs ys)
+
+plain-append : (xs ys : List (Noted Row)) → allPlain (xs ++ ys) ≡ (allPlain xs && allPlain ys)
+plain-append [] ys = refl
+plain-append (x ∷ xs) ys = ap (λ b. x .plain && b) (plain-append xs ys) ∙ and-assoc (x .plain) (allPlain xs) (allPlain ys)
+
 cut-both : (a b : ℕ) → cut (cut a + cut b) ≡ cut (a + b)
 cut-both a b =
     let e : a + cut b ≡ cut b + a = omega arith in
@@ -39,24 +49,26 @@ cut-both a b =
     cut-add a (cut b) ∙ ap cut e ∙ cut-add b a ∙ ap cut d
 
 -- a row more
-added : ZoomRow → ZoomRow → ZoomRow
-added s r = record { points = cut (s .points + r .points); ways = cut (s .ways + r .ways) }
+added : NotedRow → NotedRow → NotedRow
+added s r = record { points = cut (s .points + r .points); ways = cut (s .ways + r .ways); plain = s .plain && r .plain }
 
-sum-more : (xs : List Row) (r : Row) → sumOf (xs ++ (r ∷ [])) ≡ added (sumOf xs) (zoomRow r)
+sum-more : (xs : List (Noted Row)) (r : Noted Row) → sumOf (xs ++ (r ∷ [])) ≡ added (sumOf xs) (notedRow r)
 unfolding added
 sum-more xs r =
-    let p : r .points + 0 ≡ r .points = omega arith in
-    let w : r .ways + 0 ≡ r .ways = omega arith in
-    rw (total-append (λ r. r .points) xs (r ∷ []), total-append (λ r. r .ways) xs (r ∷ []), p, w, cut-add (pointsOf xs) (r .points), cut-add (waysOf xs) (r .ways))
+    let l = valuesOf xs in
+    let v = r .value in
+    let p : v .points + 0 ≡ v .points = omega arith in
+    let w : v .ways + 0 ≡ v .ways = omega arith in
+    rw (values-snoc xs r, plain-snoc xs r, total-append (λ r. r .points) l (v ∷ []), total-append (λ r. r .ways) l (v ∷ []), p, w, cut-add (pointsOf l) (v .points), cut-add (waysOf l) (v .ways))
 
-module _ (m : List ℕ) (i at n k p w : ℕ) where
-  pub sums-more : (e p′ w′ : ℕ) (g : RowRead) (v : ZoomRow) → mapRes sumOf (many row i m at) ≡ ok (record { points = p; ways = w }) n → rowRes g ≡ mapRes zoomRow (row m n) → g ≡ row-read.Value v e → p′ ≡ cut (p + v .points) → w′ ≡ cut (w + v .ways) → mapRes sumOf (many row (i + 1) m at) ≡ ok (record { points = p′; ways = w′ }) e
+module _ (m : List ℕ) (i at n k p w : ℕ) (b : Bool) where
+  pub sums-more : (e p′ w′ : ℕ) (b′ : Bool) (g : RowRead) (v : NotedRow) → mapRes sumOf (many row i m at) ≡ ok (record { points = p; ways = w; plain = b }) n → rowRes g ≡ mapRes notedRow (row m n) → g ≡ row-read.Value v e → p′ ≡ cut (p + v .points) → w′ ≡ cut (w + v .ways) → b′ ≡ (b && v .plain) → mapRes sumOf (many row (i + 1) m at) ≡ ok (record { points = p′; ways = w′; plain = b′ }) e
   unfolding added
-  sums-more e p′ w′ g v h q d x y =
-      rw (x, y) (fold-more row m sumOf zoomRow added sum-more i at h (sym q ∙ ap rowRes d))
+  sums-more e p′ w′ b′ g v h q d x y z =
+      rw (x, y, z) (fold-more row m sumOf notedRow added sum-more i at h (sym q ∙ ap rowRes d))
 
-  pub sums-no : (g : RowRead) (e′ e : Refusal) → mapRes sumOf (many row i m at) ≡ ok (record { points = p; ways = w }) n → rowRes g ≡ mapRes zoomRow (row m n) → g ≡ row-read.Refused e → e′ ≡ rowRefusal g → i < k → refused e′ ≡ mapRes sumOf (many row k m at)
-  sums-no g e′ e h q d z b = rw (← (row-no sumOf m i at n k (record { points = p; ways = w }) g e′ e h q d z b))
+  pub sums-no : (g : RowRead) (e′ e : Refusal) → mapRes sumOf (many row i m at) ≡ ok (record { points = p; ways = w; plain = b }) n → rowRes g ≡ mapRes notedRow (row m n) → g ≡ row-read.Refused e → e′ ≡ rowRefusal g → i < k → refused e′ ≡ mapRes sumOf (many row k m at)
+  sums-no g e′ e h q d z o = ap (mapRes sumOf) (row-no sumOf m i at n k (record { points = p; ways = w; plain = b }) g e′ e h q d z o)
 
 pub ruleset sums = (needs, sums-more, sums-no, counted)
 
@@ -86,18 +98,24 @@ many-append {A = A} p m (suc k) j at = rw (suc-add k j) (first (λ x. many-appen
     first ih (no n v) = refl
 
 -- the sums of a table from those of its parts
-of-parts : ZoomRow → ZoomRow → Sums
+of-parts : NotedRow → NotedRow → NotedSums
 of-parts v w = record {
-  points = v .points;
-  ways = v .ways;
-  «all_points» = cut (v .points + w .points);
-  «all_ways» = cut (v .ways + w .ways);
+  sums = record {
+    points = v .points;
+    ways = v .ways;
+    «all_points» = cut (v .points + w .points);
+    «all_ways» = cut (v .ways + w .ways);
+  };
+  plain = v .plain && w .plain;
 }
 
-sums-of : (a b z : ℕ) (xs ys : List Row) → rowsUpto a b z ≡ length xs → of-parts (sumOf xs) (sumOf ys) ≡ zoomSums a b z (xs ++ ys)
+sums-of : (a b z : ℕ) (xs ys : List (Noted Row)) → rowsUpto a b z ≡ length xs → of-parts (sumOf xs) (sumOf ys) ≡ notedSums a b z (xs ++ ys)
 unfolding of-parts
 sums-of a b z xs ys h =
-    rw (h, take-append-seam xs ys, total-append (λ r. r .points) xs ys, total-append (λ r. r .ways) xs ys, cut-both (pointsOf xs) (pointsOf ys), cut-both (waysOf xs) (waysOf ys))
+    let l = valuesOf xs in
+    let r = valuesOf ys in
+    let k : rowsUpto a b z ≡ length l = h ∙ sym (values-length xs) in
+    rw (values-append xs ys, plain-append xs ys, k, take-append-seam l r, total-append (λ r. r .points) l r, total-append (λ r. r .ways) l r, cut-both (pointsOf l) (pointsOf r), cut-both (waysOf l) (waysOf r))
 
 -- a table of which the first k rows and then the others are summed
 module _ (m : List ℕ) (a b at k : ℕ) where
@@ -106,7 +124,7 @@ module _ (m : List ℕ) (a b at k : ℕ) where
       let e : k + (b - a + 1 - k) ≡ b - a + 1 = omega arith in
       sym (table-is m a b at h) ∙ (rw e at (many-append row m k (b - a + 1 - k) at))
 
-  module _ {B : Type 0} (f : List Row → ℕ → Res B) where
+  module _ {B : Type 0} (f : List (Noted Row) → ℕ → Res B) where
     pub sum-reversed : b < a → refused ReversedInterval ≡ andThen (numbersOfTable a b m at) f
     sum-reversed h = rw (← (table-reversed m a b at h))
 
@@ -114,29 +132,22 @@ module _ (m : List ℕ) (a b at k : ℕ) where
     front-no g e′ e q d z h l =
         rw (parts h l) (ap refused (z ∙ ap rowRefusal d) ∙ then-then (many row k m at) _ f (refused e) (view-stop sumOf (many row k m at) _ (sym q ∙ ap rowRes d)))
 
-    pub back-no : (n : ℕ) (g q : RowRead) (v : ZoomRow) (e′ e : Refusal) → rowRes g ≡ mapRes sumOf (many row k m at) → g ≡ row-read.Value v n → rowRes q ≡ mapRes sumOf (many row (b - a + 1 - k) m n) → q ≡ row-read.Refused e → e′ ≡ rowRefusal q → a ≤ b → k ≤ suc (b - a) → refused e′ ≡ andThen (numbersOfTable a b m at) f
+    pub back-no : (n : ℕ) (g q : RowRead) (v : NotedRow) (e′ e : Refusal) → rowRes g ≡ mapRes sumOf (many row k m at) → g ≡ row-read.Value v n → rowRes q ≡ mapRes sumOf (many row (b - a + 1 - k) m n) → q ≡ row-read.Refused e → e′ ≡ rowRefusal q → a ≤ b → k ≤ suc (b - a) → refused e′ ≡ andThen (numbersOfTable a b m at) f
     back-no n g q v e′ e c d i j z h l =
         rw (parts h l) (ap refused (z ∙ ap rowRefusal j) ∙ then-then (many row k m at) _ f (refused e) (viewed sumOf (many row k m at) _ (sym c ∙ ap rowRes d)
         (λ xs _. then-then (many row (b - a + 1 - k) m n) _ f (refused e) (view-stop sumOf (many row (b - a + 1 - k) m n) _ (sym i ∙ ap rowRes j)))))
 
-  pub both-ok : (n e p w z : ℕ) (g q : RowRead) (v u : ZoomRow) → rowRes g ≡ mapRes sumOf (many row k m at) → g ≡ row-read.Value v n → rowRes q ≡ mapRes sumOf (many row (b - a + 1 - k) m n) → q ≡ row-read.Value u e → a ≤ b → k ≡ rowsUpto a b z → k ≤ suc (b - a) → p ≡ cut (v .points + u .points) → w ≡ cut (v .ways + u .ways) → _≡_ {A = Res Sums} (ok (record { points = v .points; ways = v .ways; «all_points» = p; «all_ways» = w }) e) (mapRes (zoomSums a b z) (numbersOfTable a b m at))
+  pub both-ok : (n e p w z : ℕ) (o : Bool) (g q : RowRead) (v u : NotedRow) → rowRes g ≡ mapRes sumOf (many row k m at) → g ≡ row-read.Value v n → rowRes q ≡ mapRes sumOf (many row (b - a + 1 - k) m n) → q ≡ row-read.Value u e → a ≤ b → k ≡ rowsUpto a b z → k ≤ suc (b - a) → p ≡ cut (v .points + u .points) → w ≡ cut (v .ways + u .ways) → o ≡ (v .plain && u .plain) → _≡_ {A = Res NotedSums} (ok (record { sums = record { points = v .points; ways = v .ways; «all_points» = p; «all_ways» = w }; plain = o }) e) (mapRes (notedSums a b z) (numbersOfTable a b m at))
   unfolding of-parts
-  both-ok n e p w z g q v u c d i j h o l x y =
+  both-ok n e p w z o g q v u c d i j h f l x y y′ =
       let s = split (many row k m at) (λ xs r. ok (sumOf xs) r) v n (sym c ∙ ap rowRes d) in
       let t = split (many row (b - a + 1 - k) m n) (λ ys r. ok (sumOf ys) r) u e (sym i ∙ ap rowRes j) in
       done (s .val) (s .mid) (t .val) (t .mid) (s .first) (ok-val (s .second)) (ok-at (s .second)) (t .first) (ok-val (t .second)) (ok-at (t .second))
     where
-      done : (xs : List Row) (r : ℕ) (ys : List Row) (r′ : ℕ) → many row k m at ≡ ok xs r → sumOf xs ≡ v → r ≡ n → many row (b - a + 1 - k) m n ≡ ok ys r′ → sumOf ys ≡ u → r′ ≡ e → ok (record { points = v .points; ways = v .ways; «all_points» = p; «all_ways» = w }) e ≡ mapRes (zoomSums a b z) (numbersOfTable a b m at)
+      done : (xs : List (Noted Row)) (r : ℕ) (ys : List (Noted Row)) (r′ : ℕ) → many row k m at ≡ ok xs r → sumOf xs ≡ v → r ≡ n → many row (b - a + 1 - k) m n ≡ ok ys r′ → sumOf ys ≡ u → r′ ≡ e → ok (record { sums = record { points = v .points; ways = v .ways; «all_points» = p; «all_ways» = w }; plain = o }) e ≡ mapRes (notedSums a b z) (numbersOfTable a b m at)
       done xs r ys r′ f1 w1 o1 f2 w2 o2 =
-          let c1 : rowsUpto a b z ≡ length xs = sym o ∙ sym (many-count row m k at xs r f1) in
-          let c2 : of-parts v u ≡ zoomSums a b z (xs ++ ys) = rw (← w1, ← w2) (sums-of a b z xs ys c1) in
-          rw (parts h l, f1, o1, f2, o2, x, y) (ap (λ (q : Sums). ok q e) c2)
+          let c1 : rowsUpto a b z ≡ length xs = sym f ∙ sym (many-count row m k at xs r f1) in
+          let c2 : of-parts v u ≡ notedSums a b z (xs ++ ys) = rw (← w1, ← w2) (sums-of a b z xs ys c1) in
+          rw (parts h l, f1, o1, f2, o2, x, y, y′) (ap (λ (q : NotedSums). ok q e) c2)
 
 pub ruleset parted = (needs, sum-reversed, front-no, back-no, both-ok)
-
--- sums that were read, in a definition that goes on from the table
-pub sums-ok : {B : Type 0} (a b z : ℕ) → ViewPasses B sumsRes (zoomSums a b z) sums-read.Value
-sums-ok a b z = view-passes _ sumsRes (zoomSums a b z) sums-read.Value (λ v n. refl)
-
-pub sums-stop : {B : Type 0} (a b z : ℕ) → ViewStops B sumsRes (zoomSums a b z) sumsRefusal sums-read.Refused
-sums-stop a b z = view-stops _ sumsRes (zoomSums a b z) sumsRefusal sums-read.Refused (λ e. refl) (λ e. refl)

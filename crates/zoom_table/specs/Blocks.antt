@@ -8,13 +8,16 @@ use Rattle.error.specs.Refusals.{refused}
 use Rattle.error.specs.declared.Refusal.{Refusal}
 use Rattle.error.specs.declared.Refusal.the-variants.{Source}
 use Rattle.arithmetic.specs.Cut.{cut}
+use Rattle.utils.specs.Vbe.{Noted, valuesOf, allPlain}
 use Rattle.format.specs.Lent.{front}
 use Rattle.format.specs.Tile.{Row}
 use Rattle.format.specs.Rows.{rowsUpto, pointsOf, waysOf}
 use Rattle.types.specs.Beside.{Beside}
 use Rattle.zoom_table.specs.declared.ZoomRow.{ZoomRow}
+use Rattle.zoom_table.specs.declared.NotedRow.{NotedRow}
 use Rattle.zoom_table.specs.declared.ZoomTableRead.{ZoomTableRead}
 use Rattle.zoom_table.specs.declared.Sums.{Sums}
+use Rattle.zoom_table.specs.declared.NotedSums.{NotedSums}
 use Rattle.zoom_table.specs.declared.SumsRead.{SumsRead}
 use Rattle.zoom_table.specs.declared.SumsRead.the-variants as sums
 use Rattle.zoom_table.specs.declared.RowRead.{RowRead}
@@ -22,6 +25,9 @@ use Rattle.zoom_table.specs.declared.RowRead.the-variants as row
 
 abbrev pub zoomRow : Row → ZoomRow
 zoomRow r = record { points = r .points; ways = r .ways }
+
+abbrev pub notedRow : Noted Row → NotedRow
+notedRow r = record { points = r .value .points; ways = r .value .ways; plain = r .plain }
 
 abbrev pub emptyRow : ZoomRow
 emptyRow = record { points = 0; ways = 0 }
@@ -56,7 +62,11 @@ zoomSums low high zoom rows = record {
   «all_ways» = cut (waysOf rows);
 }
 
-abbrev pub sumsRes : SumsRead → Res Sums
+-- with what is said of the numbers of all rows, also of those above the zoom
+abbrev pub notedSums : ℕ → ℕ → ℕ → List (Noted Row) → NotedSums
+notedSums low high zoom rows = record { sums = zoomSums low high zoom (valuesOf rows); plain = allPlain rows }
+
+abbrev pub sumsRes : SumsRead → Res NotedSums
 sumsRes (sums.Value v n) = ok v n
 sumsRes (sums.Refused r) = refused r
 
@@ -65,10 +75,10 @@ sumsRefusal (sums.Value v n) = Source
 sumsRefusal (sums.Refused r) = r
 
 -- the answers on the way
-abbrev pub sumOf : List Row → ZoomRow
-sumOf rows = record { points = cut (pointsOf rows); ways = cut (waysOf rows) }
+abbrev pub sumOf : List (Noted Row) → NotedRow
+sumOf rows = record { points = cut (pointsOf (valuesOf rows)); ways = cut (waysOf (valuesOf rows)); plain = allPlain rows }
 
-abbrev pub rowRes : RowRead → Res ZoomRow
+abbrev pub rowRes : RowRead → Res NotedRow
 rowRes (row.Value v n) = ok v n
 rowRes (row.Refused r) = refused r
 

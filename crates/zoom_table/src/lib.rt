@@ -1,19 +1,27 @@
 // blocks.rs: the zoom table of a tile.
-use byte_source::NumberRead;
 use error::Refusal;
 use types::End;
+use utils::VbeRead;
 ghost use mathlib.Core.Path.{_≡_};
 ghost use Prim.Native.Nat.{_-_, _≤_, suc};
 ghost use Rattle.parsing.specs.Parse.{mapRes, many};
+ghost use Rattle.utils.specs.Vbe.{valuesOf};
 ghost use Rattle.format.specs.Tile.{row};
 ghost use Rattle.format.specs.Rows.{rowsUpto, numbersOfTable, intervalTable};
 ghost use Rattle.format.specs.CutOff.{whereByte};
-ghost use Rattle.zoom_table.specs.Blocks.{zoomRow, rowRes, rowRefusal, sumOf, noRows, shownRows, TableIs, zoomSums, sumsRes, sumsRefusal};
+ghost use Rattle.zoom_table.specs.Blocks.{notedRow, rowRes, rowRefusal, sumOf, noRows, shownRows, TableIs, notedSums, sumsRes, sumsRefusal};
 
 // The points and ways of a zoom level.
 pub struct ZoomRow {
     pub points: u64,
     pub ways: u64,
+}
+
+// The same, and whether its numbers were plain.
+pub struct NotedRow {
+    pub points: u64,
+    pub ways: u64,
+    pub plain: bool,
 }
 
 // Rows from the front, zeros behind them.
@@ -31,13 +39,19 @@ pub struct Sums {
     pub all_ways: u64,
 }
 
+// The sums, and whether the numbers of all rows were plain, also of those above the zoom.
+pub struct NotedSums {
+    pub sums: Sums,
+    pub plain: bool,
+}
+
 pub enum SumsRead {
-    Value(Sums, usize),
+    Value(NotedSums, usize),
     Refused(Refusal),
 }
 
 pub enum RowRead {
-    Value(ZoomRow, usize),
+    Value(NotedRow, usize),
     Refused(Refusal),
 }
 
@@ -60,17 +74,25 @@ fn row_refusal(got: RowRead) -> Refusal
 }
 
 pub fn read_row(map: &[u8], at: usize) -> RowRead
-    ensures { λ r. ⌜ rowRes r ≡ mapRes zoomRow (row (now (map .entry)) at) ⌝ }
+    ensures { λ r. ⌜ rowRes r ≡ mapRes notedRow (row (now (map .entry)) at) ⌝ }
 {
     let got = utils::read_vbe_u_int(map, at);
-    let NumberRead::Value(points, at) = got else {
-        return RowRead::Refused(byte_source::number_refusal(got));
+    let VbeRead::Value(points, at) = got else {
+        return RowRead::Refused(utils::vbe_refusal(got));
     };
     let got = utils::read_vbe_u_int(map, at);
-    let NumberRead::Value(ways, at) = got else {
-        return RowRead::Refused(byte_source::number_refusal(got));
+    let VbeRead::Value(ways, at) = got else {
+        return RowRead::Refused(utils::vbe_refusal(got));
     };
-    RowRead::Value(ZoomRow { points, ways }, at)
+    let plain = types::both(points.plain, ways.plain);
+    RowRead::Value(
+        NotedRow {
+            points: points.value,
+            ways: ways.value,
+            plain,
+        },
+        at,
+    )
 }
 
 pub fn refused_table(refusal: Refusal) -> ZoomTableRead
@@ -87,7 +109,7 @@ pub fn refused_table(refusal: Refusal) -> ZoomTableRead
 // `count` rows.
 fn fill_rows(map: &[u8], at: usize, count: usize) -> ZoomTableRead
     requires { ⌜ count ≤ 256 ⌝ }
-    ensures { λ r. ⌜ TableIs (many row count (now (map .entry)) at) r ⌝ }
+    ensures { λ r. ⌜ TableIs (mapRes valuesOf (many row count (now (map .entry)) at)) r ⌝ }
 {
     let empty = ZoomRow { points: 0, ways: 0 };
     let mut rows = [empty; 256];
@@ -98,7 +120,10 @@ fn fill_rows(map: &[u8], at: usize, count: usize) -> ZoomTableRead
         let RowRead::Value(one, after) = got else {
             return refused_table(row_refusal(got));
         };
-        rows[i] = one;
+        rows[i] = ZoomRow {
+            points: one.points,
+            ways: one.ways,
+        };
         next = after;
         i += 1;
     }
@@ -111,7 +136,7 @@ fn fill_rows(map: &[u8], at: usize, count: usize) -> ZoomTableRead
 
 // A row for each level of an interval, as numbers.
 fn read_table_numbers(map: &[u8], at: usize, min: u8, max: u8) -> ZoomTableRead
-    ensures { λ r. ⌜ TableIs (numbersOfTable min max (now (map .entry)) at) r ⌝ }
+    ensures { λ r. ⌜ TableIs (mapRes valuesOf (numbersOfTable min max (now (map .entry)) at)) r ⌝ }
 {
     if max < min {
         return refused_table(Refusal::ReversedInterval);
@@ -119,12 +144,13 @@ fn read_table_numbers(map: &[u8], at: usize, min: u8, max: u8) -> ZoomTableRead
     fill_rows(map, at, (max - min) as usize + 1)
 }
 
-// The sums of `count` rows.
+// The sums of `count` rows, and whether all their numbers were plain.
 fn sum_rows(map: &[u8], at: usize, count: usize) -> RowRead
     ensures { λ r. ⌜ rowRes r ≡ mapRes sumOf (many row count (now (map .entry)) at) ⌝ }
 {
     let mut points = 0;
     let mut ways = 0;
+    let mut plain = true;
     let mut next = at;
     let mut i = 0;
     while i < count {
@@ -134,13 +160,15 @@ fn sum_rows(map: &[u8], at: usize, count: usize) -> RowRead
         };
         points = arithmetic::saturating_add_usize(points, one.points as usize);
         ways = arithmetic::saturating_add_usize(ways, one.ways as usize);
+        plain = types::both(plain, one.plain);
         next = after;
         i += 1;
     }
     RowRead::Value(
-        ZoomRow {
+        NotedRow {
             points: points as u64,
             ways: ways as u64,
+            plain,
         },
         next,
     )
@@ -162,7 +190,7 @@ fn rows_upto(min: u8, max: u8, zoom: u8) -> usize
 
 // The sums of a zoom table, as numbers, and the place behind it.
 fn sum_table_numbers(map: &[u8], at: usize, min: u8, max: u8, zoom: u8) -> SumsRead
-    ensures { λ r. ⌜ sumsRes r ≡ mapRes (zoomSums min max zoom) (numbersOfTable min max (now (map .entry)) at) ⌝ }
+    ensures { λ r. ⌜ sumsRes r ≡ mapRes (notedSums min max zoom) (numbersOfTable min max (now (map .entry)) at) ⌝ }
 {
     if max < min {
         return SumsRead::Refused(Refusal::ReversedInterval);
@@ -178,12 +206,16 @@ fn sum_table_numbers(map: &[u8], at: usize, min: u8, max: u8, zoom: u8) -> SumsR
     };
     let points = arithmetic::saturating_add_usize(first.points as usize, rest.points as usize);
     let ways = arithmetic::saturating_add_usize(first.ways as usize, rest.ways as usize);
+    let plain = types::both(first.plain, rest.plain);
     SumsRead::Value(
-        Sums {
-            points: first.points,
-            ways: first.ways,
-            all_points: points as u64,
-            all_ways: ways as u64,
+        NotedSums {
+            sums: Sums {
+                points: first.points,
+                ways: first.ways,
+                all_points: points as u64,
+                all_ways: ways as u64,
+            },
+            plain,
         },
         at,
     )
@@ -201,7 +233,7 @@ pub fn missing_byte(map: &[u8], at: usize) -> u64
 
 // A row for each level of an interval. A map that ends in it is refused with 20.
 pub fn read_zoom_table(map: &[u8], at: usize, min: u8, max: u8) -> ZoomTableRead
-    ensures { λ r. ⌜ TableIs (intervalTable min max (now (map .entry)) at) r ⌝ }
+    ensures { λ r. ⌜ TableIs (mapRes valuesOf (intervalTable min max (now (map .entry)) at)) r ⌝ }
 {
     let table = read_table_numbers(map, at, min, max);
     let end = table.end;
@@ -213,7 +245,7 @@ pub fn read_zoom_table(map: &[u8], at: usize, min: u8, max: u8) -> ZoomTableRead
 
 // The sums of a zoom table, and the place behind it. A map that ends in it is refused with 20.
 pub fn sum_zoom_table(map: &[u8], at: usize, min: u8, max: u8, zoom: u8) -> SumsRead
-    ensures { λ r. ⌜ sumsRes r ≡ mapRes (zoomSums min max zoom) (intervalTable min max (now (map .entry)) at) ⌝ }
+    ensures { λ r. ⌜ sumsRes r ≡ mapRes (notedSums min max zoom) (intervalTable min max (now (map .entry)) at) ⌝ }
 {
     let got = sum_table_numbers(map, at, min, max, zoom);
     let SumsRead::Value(_, _) = got else {

@@ -1,6 +1,6 @@
 //! All tiles of a map, on several processors.
 
-use super::{explain, tile, Cause, Covered, Finding};
+use super::{explain, padding, tile, Cause, Covered, Finding, Padded, PaddingSum};
 use crate::{Map, Refusal, SubFile};
 use std::sync::atomic::{AtomicU64, Ordering};
 use std::sync::Mutex;
@@ -19,12 +19,22 @@ pub struct Sum {
     pub ways: u64,
     /// How many findings there are, those about the map and its sub files included.
     pub findings: u64,
+    /// What is padded, if that was looked for.
+    pub padding: PaddingSum,
 }
 
 /// Who is told while a map is checked.
 pub trait Watch {
     /// A finding. They come in the order of sub files and tiles, however many processors there are.
     fn found(&mut self, finding: Finding);
+
+    /// How much of what is padded is wanted; none if padding is not to be looked for. See [`padding`](super::padding()).
+    fn wanted_padding(&self) -> Option<u64> {
+        None
+    }
+
+    /// Something that is padded, in the same order: at least as much as is wanted, if there is as much.
+    fn padded(&mut self, _padded: Padded) {}
 
     /// So many tiles of so many are done.
     fn done(&mut self, _tiles: u64, _all: u64) {}
@@ -44,7 +54,7 @@ const WAVE: u64 = 8192;
 
 /// Checks a map and every tile of it by so many threads.
 pub fn every_tile(map: &Map<'_>, threads: usize, watch: &mut impl Watch) -> Sum {
-    let mut sum = Sum::default();
+    let (mut sum, padding) = (Sum::default(), watch.wanted_padding());
     let mut unwalked = Vec::new();
     for finding in super::map(map) {
         unwalked.extend(finding.covered.map(|covered| covered.sub_file));
@@ -63,10 +73,11 @@ pub fn every_tile(map: &Map<'_>, threads: usize, watch: &mut impl Watch) -> Sum 
         let mut from = 0;
         while from < tiles {
             let to = (from + WAVE).min(tiles);
-            let wave = Wave::new(sub_file, from, to, sum.tiles, all);
+            let wave = Wave { padding, ..Wave::new(sub_file, from, to, sum.tiles, all) };
             for part in wave.read(threads, watch) {
                 sum.add(&part.sum);
                 part.findings.into_iter().for_each(|finding| watch.found(finding));
+                part.padded.into_iter().for_each(|padded| watch.padded(padded));
             }
             from = to;
         }
@@ -81,6 +92,7 @@ impl Sum {
         self.points += other.points;
         self.ways += other.ways;
         self.findings += other.findings;
+        self.padding.add(&other.padding);
     }
 }
 
@@ -89,6 +101,7 @@ struct Part {
     first: u64,
     sum: Sum,
     findings: Vec<Finding>,
+    padded: Vec<Padded>,
 }
 
 /// Some tiles of a sub file, which several threads read.
@@ -99,6 +112,8 @@ struct Wave<'m, 'a> {
     /// How many tiles of how many were read before.
     before: u64,
     all: u64,
+    /// How much padding is wanted.
+    padding: Option<u64>,
     read: AtomicU64,
     parts: Mutex<Vec<Part>>,
 }
@@ -111,6 +126,7 @@ impl<'m, 'a> Wave<'m, 'a> {
             end,
             before,
             all,
+            padding: None,
             read: AtomicU64::new(0),
             parts: Mutex::new(Vec::new()),
         }
@@ -140,9 +156,10 @@ impl<'m, 'a> Wave<'m, 'a> {
         if first >= self.end {
             return false;
         }
-        let mut part = Part { first, sum: Sum::default(), findings: Vec::new() };
+        let mut part =
+            Part { first, sum: Sum::default(), findings: Vec::new(), padded: Vec::new() };
         for number in first..(first + CHUNK).min(self.end) {
-            part.read(&self.sub_file, number);
+            part.read(&self.sub_file, number, self.padding);
         }
         self.read.fetch_add(part.sum.tiles, Ordering::Relaxed);
         self.parts.lock().unwrap_or_else(|poisoned| poisoned.into_inner()).push(part);
@@ -151,7 +168,7 @@ impl<'m, 'a> Wave<'m, 'a> {
 }
 
 impl Part {
-    fn read(&mut self, sub_file: &SubFile<'_, '_>, number: u64) {
+    fn read(&mut self, sub_file: &SubFile<'_, '_>, number: u64, wanted: Option<u64>) {
         self.sum.tiles += 1;
         let Some(place) = sub_file.tile(number as usize) else {
             let cause = Cause::Grid { refusal: Refusal::InvalidTileIndex };
@@ -170,6 +187,15 @@ impl Part {
             let findings = explain(sub_file, &report);
             self.sum.findings += findings.len() as u64;
             self.findings.extend(findings);
+        }
+        // One that does not collect is a finding already.
+        let Some(wanted) = wanted else { return };
+        if let Ok(found) = padding(sub_file, place) {
+            self.sum.padding.add(&PaddingSum::of_tile(&found));
+            self.sum.findings += found.disagreements.len() as u64;
+            self.findings.extend(found.disagreements);
+            let more = wanted.saturating_sub(self.padded.len() as u64);
+            self.padded.extend(found.padded.into_iter().take(more as usize));
         }
     }
 }

@@ -44,27 +44,9 @@ impl<'m, 'a> Faulty<'m, 'a> {
         self.sub_file.stream(self.place.number, self.sub_file.interval().max_zoom)
     }
 
-    fn corner(&self) -> Option<Position> {
-        self.sub_file.corner(self.place).ok()
-    }
-
-    /// The zooms at which a feature shows: from the lowest at which the tile's stream has so many.
-    fn zooms(&self, kind: Kind, number: u64) -> Option<(u8, u8)> {
-        let interval = self.sub_file.interval();
-        let from = (interval.min_zoom..=interval.max_zoom).find(|&zoom| {
-            let stream = self.sub_file.stream(self.place.number, zoom).ok();
-            let to_come = stream.and_then(|stream| stream.to_come());
-            to_come.is_some_and(|to_come| match kind {
-                Kind::Point => to_come.points > number,
-                Kind::Way => to_come.ways > number,
-            })
-        });
-        from.map(|from| (from, interval.max_zoom))
-    }
-
     /// A feature of which only its number is known.
     fn unread(&self, kind: Kind, number: u64) -> FeatureNote {
-        let zooms = self.zooms(kind, number);
+        let zooms = zooms(&self.sub_file, self.place, kind, number);
         FeatureNote { kind, number, name: None, tags: Vec::new(), position: None, zooms }
     }
 
@@ -131,7 +113,7 @@ impl<'m, 'a> Faulty<'m, 'a> {
                         let note = FeatureNote {
                             name: first_form(body.name),
                             tags: tags(&head),
-                            position: self.first_node(&lists, body.blocks.1),
+                            position: first_node(&self.sub_file, self.place, &lists, body.blocks.1),
                             ..self.unread(Kind::Way, way)
                         };
                         let ends = (before.next_way, after.next_way);
@@ -143,13 +125,6 @@ impl<'m, 'a> Faulty<'m, 'a> {
             }
         }
         findings
-    }
-
-    /// A way's first node, of the lists that it was decoded into.
-    fn first_node(&self, lists: &Lists, nodes: usize) -> Option<Position> {
-        let (latitude, longitude) = (lists.latitudes.first()?, lists.longitudes.first()?);
-        let offset = crate::Offset { latitude: *latitude, longitude: *longitude };
-        (nodes > 0).then_some(self.corner()? + offset)
     }
 
     /// A wrong size: of a way between two places, from the streams that wait at it and that have accepted it.
@@ -172,6 +147,37 @@ impl<'m, 'a> Faulty<'m, 'a> {
     }
 }
 
+/// The zooms at which a feature shows: from the lowest at which the tile's stream has so many.
+pub(super) fn zooms(
+    sub_file: &SubFile<'_, '_>,
+    place: TilePlace,
+    kind: Kind,
+    number: u64,
+) -> Option<(u8, u8)> {
+    let interval = sub_file.interval();
+    let from = (interval.min_zoom..=interval.max_zoom).find(|&zoom| {
+        let stream = sub_file.stream(place.number, zoom).ok();
+        let to_come = stream.and_then(|stream| stream.to_come());
+        to_come.is_some_and(|to_come| match kind {
+            Kind::Point => to_come.points > number,
+            Kind::Way => to_come.ways > number,
+        })
+    });
+    from.map(|from| (from, interval.max_zoom))
+}
+
+/// A way's first node, of the lists that it was decoded into.
+pub(super) fn first_node(
+    sub_file: &SubFile<'_, '_>,
+    place: TilePlace,
+    lists: &Lists,
+    nodes: usize,
+) -> Option<Position> {
+    let (latitude, longitude) = (lists.latitudes.first()?, lists.longitudes.first()?);
+    let offset = crate::Offset { latitude: *latitude, longitude: *longitude };
+    (nodes > 0).then_some(sub_file.corner(place).ok()? + offset)
+}
+
 /// The place behind a number: its last byte alone has no top bit.
 fn behind_number(map: &[u8], at: u64) -> u64 {
     let rest = usize::try_from(at).ok().and_then(|at| map.get(at..)).unwrap_or(&[]);
@@ -182,7 +188,7 @@ fn tags(head: &WayHead<'_, '_>) -> Vec<String> {
     head.tags().map(|tag| tag.text.to_text()).collect()
 }
 
-fn first_form(name: Option<Part<'_>>) -> Option<String> {
+pub(super) fn first_form(name: Option<Part<'_>>) -> Option<String> {
     let name = name.and_then(Part::as_str).map(|name| Name::new(name).first());
     name.filter(|name| !name.is_empty()).map(String::from)
 }

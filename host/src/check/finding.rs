@@ -1,5 +1,6 @@
 //! What is found, and what it means for who uses the map.
 
+use super::Waste;
 use crate::{Kind, Map, Position, Refusal, SubFile, TilePlace};
 use std::fmt;
 
@@ -99,6 +100,13 @@ pub enum Cause {
     },
     /// The library says that some stored size of the tile is wrong, but a walk through it came to none.
     Sizes,
+    /// The library says whether all numbers are plain, but they are counted otherwise.
+    Padding {
+        /// What it says.
+        plain: bool,
+        /// What is counted, if that can be done.
+        counted: Option<Waste>,
+    },
 }
 
 /// A sub file and the zooms that it serves.
@@ -183,6 +191,7 @@ impl Finding {
             Cause::Stream { .. } => "stream",
             Cause::Offset { .. } => "first-way-offset",
             Cause::Size { .. } | Cause::Sizes => "stored-size",
+            Cause::Padding { .. } => "padding",
         }
     }
 
@@ -249,6 +258,15 @@ impl Finding {
                 if stored < decoded { "short" } else { "long" }
             ),
             Cause::Sizes => "a way's stored size is not its decoded length".into(),
+            Cause::Padding { plain, counted } => format!(
+                "the library says that {}, but {}",
+                if *plain { "all numbers are plain" } else { "a number is not plain" },
+                match counted {
+                    Some(waste) if waste.numbers == 1 => "1 is counted that is not".into(),
+                    Some(waste) => format!("{} are counted that are not", waste.numbers),
+                    None => "they cannot be counted so".into(),
+                }
+            ),
         }
     }
 
@@ -258,7 +276,7 @@ impl Finding {
             Cause::FileSize { .. } => self.of_size("shows nothing of the tiles that are missing"),
             Cause::Grid { .. } | Cause::Index { .. } => format!("shows nothing {}", self.zooms()),
             Cause::Refused { .. } => "refuses the tile: it shows nothing of it".into(),
-            Cause::Stream { .. } => "shows the tile".into(),
+            Cause::Stream { .. } | Cause::Padding { .. } => "shows the tile".into(),
             Cause::Offset { leads_to, points_end } => format!(
                 "reads the ways from there: {}",
                 if leads_to < points_end {
@@ -289,6 +307,7 @@ impl Finding {
                 ),
             },
             Cause::Stream { .. } => "is refused: it draws nothing more of the tile".into(),
+            Cause::Padding { .. } => "draws the tile".into(),
             Cause::Offset { .. } => "reads the ways from there too".into(),
             Cause::Size { stored, decoded, declined } => format!(
                 "if it declines this way, it goes on {} too {}: next comes {}, where the list \
@@ -314,7 +333,9 @@ impl Finding {
             Cause::Grid { .. } | Cause::Index { .. } => {
                 format!("the header is damaged, or the file cut off: {again}")
             }
-            Cause::Stream { .. } => "tell who maintains the reader: this should not be".into(),
+            Cause::Stream { .. } | Cause::Padding { .. } => {
+                "tell who maintains the reader: this should not be".into()
+            }
             _ => format!("use the last map that passed; {again}; {source}"),
         }
     }

@@ -3,7 +3,8 @@
 //! The verdict is the library's: [`map`] and [`tile`] ask it whether each tile's entry can be read, whether the tile
 //! collects, whether every stored size is the decoded length, and whether the first-way offset leads to the end of the
 //! points. Where all this is so, what a stream delivers is what the collected tile has, whichever ways are declined.
-//! [`explain`] walks through a tile that has a fault, to tell what and where it is; it takes no fault back.
+//! [`explain`] walks through a tile that has a fault, to tell what and where it is; it takes no fault back. [`padding`] tells
+//! which parts of a tile waste bytes on numbers, which stands in nobody's way.
 //!
 //! ```
 //! # use mapsforge::{check::{self, Cause}, MapFile};
@@ -23,10 +24,12 @@
 mod every_tile;
 mod explain;
 mod finding;
+mod padding;
 
 pub use every_tile::{every_tile, Sum, Unwatched, Watch};
 pub use explain::explain;
 pub use finding::{Cause, Covered, Declined, FeatureNote, Finding, Met, Spot};
+pub use padding::{padding, Padded, Padding, PaddingSum, Waste};
 
 use crate::{Map, Refusal, SubFile, TilePlace};
 

@@ -95,7 +95,7 @@ impl Told {
         self.entries[&("words", k)]
     }
 
-    /// All seven words of the state.
+    /// All eight words of the state.
     pub fn state(&self) -> State {
         std::array::from_fn(|k| self.entries[&("state", k)])
     }
@@ -113,6 +113,7 @@ impl Told {
     pub fn refusal(&self) -> [u64; word::VALUES] {
         let values = match self.number {
             3 | 7 | 19 | 20 => 1,
+            23 | 24 => 2,
             15 => word::VALUES,
             _ => 0,
         };
@@ -177,13 +178,14 @@ fn entries(piece: &str) -> Vec<Entry> {
     places.split(',').flat_map(place).map(|k| (*name, k)).collect()
 }
 
-const ARRAYS: [&str; 12] = [
+const ARRAYS: [&str; 13] = [
     "words",
     "degrees",
     "layout",
     "interval",
     "column",
     "longitude",
+    "column_row",
     "state",
     "signed_words",
     "ids",
@@ -249,12 +251,32 @@ pub fn text(text: &[u8], room: usize, lent: u64) -> Answered {
     got.bytes("buffer", &buffer)
 }
 
+pub fn check_rules(rules: &[u8], way_tags: u16, room: usize, lent: u64) -> Answered {
+    let mut classes = vec![lent as u8; room];
+    let got = of_words::<6>(lent, |words| raw::check_rules(rules, way_tags, &mut classes, words));
+    got.bytes("classes", &classes)
+}
+
+pub fn shows(classes: &[u8], zoom: u8, ids: &[u64], lent: u64) -> Answered {
+    of_words::<7>(lent, |words| raw::shows(classes, zoom, ids, words))
+}
+
 pub fn tile_count(interval: &Interval, grid: [i32; 4], lent: u64) -> Answered {
     of_words::<8>(lent, |words| raw::tile_count(interval, grid, words))
 }
 
 pub fn tile_index(interval: &Interval, grid: [i32; 4], x: i32, y: i32, lent: u64) -> Answered {
     of_words::<8>(lent, |words| raw::tile_index(interval, grid, x, y, words))
+}
+
+pub fn window_count(grid: [i32; 4], window: [i64; 4], lent: u64) -> Answered {
+    of_words::<7>(lent, |words| raw::window_count(grid, window, words))
+}
+
+pub fn window_tile(grid: [i32; 4], window: [i64; 4], k: u64, lent: u64) -> Answered {
+    let mut at = [lent as i64; 2];
+    let got = of_words::<9>(lent, |words| raw::window_tile(grid, window, k, words, &mut at));
+    got.signed("column_row", &at)
 }
 
 pub fn column(longitude: f64, zoom: u8, lent: u64) -> Answered {
@@ -277,7 +299,7 @@ impl Tiles<'_> {
 
     pub fn stream(&self, sub_file: usize, tile: usize, zoom: u8, lent: u64) -> Answered {
         let Tiles { opened: Opened { map, layout, .. }, interval, grid } = self;
-        let mut state = [lent; 7];
+        let mut state = [lent; 8];
         let got = of_words::<6>(lent, |words| {
             raw::stream_open(map, layout, interval, sub_file, *grid, tile, zoom, &mut state, words)
         });
@@ -287,7 +309,7 @@ impl Tiles<'_> {
     pub fn collect(&self, tile: usize, lent: u64) -> Answered {
         let Tiles { opened: Opened { map, layout, letters, .. }, interval, grid } = self;
         let (mut points, mut ways) = ([lent; 256], [lent; 256]);
-        let got = of_words::<14>(lent, |words| {
+        let got = of_words::<15>(lent, |words| {
             let (points, ways) = (&mut points, &mut ways);
             raw::collect(map, layout, letters, interval, *grid, tile, words, points, ways)
         });
@@ -298,7 +320,7 @@ impl Tiles<'_> {
         let Tiles { opened: Opened { map, layout, starts, letters }, interval, grid } = self;
         let degree = f64::from_bits(lent);
         let mut got = FetchWords {
-            words: [lent; 35],
+            words: [lent; 37],
             signed_words: [lent as i64; 2],
             degrees: [degree; 2],
             ids: [lent; 15],
@@ -337,11 +359,15 @@ impl Tiles<'_> {
 fn odd(state: &State, lent: u64) -> State {
     let mut odd = *state;
     if state[word::STATE_WAITS] != 0 {
-        // Word 4 says nothing while a way waits.
-        (odd[word::STATE_WAITS], odd[4]) = (lent, lent);
+        odd[word::STATE_WAITS] = lent;
+        if state[word::WAITING_HEAD_PLAIN] != 0 {
+            odd[word::WAITING_HEAD_PLAIN] = lent;
+        }
     }
-    if state[word::STATE_WATER] != 0 {
-        odd[word::STATE_WATER] = lent;
+    for k in [word::STATE_WATER, word::STATE_PLAIN] {
+        if state[k] != 0 {
+            odd[k] = lent;
+        }
     }
     odd
 }
@@ -351,7 +377,7 @@ pub fn next(opened: &Opened<'_>, state: &State, lent: u64) -> Answered {
     let (mut signed, mut ids) = ([lent as i64; 2], [lent; 15]);
     let (mut degrees, before) = ([f64::from_bits(lent); 2], odd(state, lent));
     let mut after = before;
-    let got = of_words::<21>(lent, |words| {
+    let got = of_words::<22>(lent, |words| {
         let (signed, degrees, ids) = (&mut signed, &mut degrees, &mut ids);
         raw::stream_next(map, layout, letters, &mut after, words, signed, degrees, ids)
     });
@@ -367,7 +393,7 @@ pub fn accept(map: &[u8], state: &State, lengths: &Lengths, lent: u64) -> Answer
     let [mut latitudes, mut longitudes] =
         [nodes, others].map(|length| vec![f64::from_bits(lent); length]);
     let mut after = before;
-    let got = of_words::<18>(lent, |words| {
+    let got = of_words::<19>(lent, |words| {
         raw::stream_accept(
             map,
             &mut after,
@@ -390,7 +416,7 @@ pub fn decline(state: &State, lent: u64) -> Answered {
 }
 
 pub fn measure_way_data(map: &[u8], at: usize, blocks: u64, lent: u64) -> Answered {
-    of_words::<9>(lent, |words| raw::measure_way_data(map, at, blocks, words))
+    of_words::<10>(lent, |words| raw::measure_way_data(map, at, blocks, words))
 }
 
 pub fn read_way_data(map: &[u8], blocks: u64, lengths: &Lengths, lent: u64) -> Answered {
@@ -398,7 +424,7 @@ pub fn read_way_data(map: &[u8], blocks: u64, lengths: &Lengths, lent: u64) -> A
     let mut counts = vec![lent; counts];
     let [mut latitudes, mut longitudes] =
         [nodes, others].map(|length| vec![f64::from_bits(lent); length]);
-    let got = of_words::<9>(lent, |words| {
+    let got = of_words::<10>(lent, |words| {
         raw::read_way_data(
             map,
             0,

@@ -105,6 +105,30 @@ pub fn with_box(mut bytes: Vec<u8>, degrees: [i32; 4]) -> Vec<u8> {
     bytes
 }
 
+/// The header of the shipped map with one sub file of base zoom 13: so many tiles in a row, of these offsets behind the
+/// index, and what stands there.
+pub fn one_row(offsets: &[u64], content: &[u8]) -> Vec<u8> {
+    let whole = map_bytes("islands.map");
+    let end = mapsforge::Map::open(&whole).unwrap().header().end as usize;
+    // A column has 43945.3125 microdegrees.
+    let east = 43_946 * (offsets.len() as i32 - 1) + 9;
+    let mut bytes = with_box(whole[..end].to_vec(), [0, 0, 0, east]);
+    bytes.truncate(end - 38);
+    let place = end - 3 * 19;
+    bytes[place - 1] = 1;
+    let (start, index) = (bytes.len() as u64, 5 * offsets.len() as u64);
+    bytes[place..][..3].copy_from_slice(&[13, 13, 21]);
+    bytes[place + 3..][..8].copy_from_slice(&start.to_be_bytes());
+    bytes[place + 11..][..8].copy_from_slice(&(index + content.len() as u64).to_be_bytes());
+    for offset in offsets {
+        bytes.extend_from_slice(&(index + offset).to_be_bytes()[3..]);
+    }
+    bytes.extend_from_slice(content);
+    let size = bytes.len() as u64;
+    bytes[FILE_SIZE..][..8].copy_from_slice(&size.to_be_bytes());
+    bytes
+}
+
 /// The command `mapsforge`.
 pub fn command() -> Command {
     Command::new(env!("CARGO_BIN_EXE_mapsforge"))

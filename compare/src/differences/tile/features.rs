@@ -15,17 +15,22 @@ pub struct WayHead {
     pub stored_end: u128,
     layer: u64,
     signature: Option<Text>,
+    /// Whether its numbers are plain, and how many of those before it are not.
+    plain: bool,
+    padded: u64,
 }
 
 impl WayHead {
     /// What a stream delivers of it.
     pub fn shown(&self) -> Head {
-        Head { bitmap: self.bitmap, ids: self.ids.clone(), layer: Some(self.layer) }
+        let (layer, plain) = (Some(self.layer), Some(self.plain));
+        Head { bitmap: self.bitmap, ids: self.ids.clone(), layer, plain }
     }
 }
 
 impl Reader<'_> {
     pub fn point(&mut self) -> Read<Point> {
+        let padded = self.padded;
         let signature = self.signature()?;
         let position = self.position()?;
         let (layer, ids) = self.tags(Table::Points)?;
@@ -33,10 +38,13 @@ impl Reader<'_> {
         let name = self.text_if(flags & 0x80)?;
         let house_number = self.text_if(flags & 0x40)?;
         let elevation = self.read_if(flags & 0x20, Reader::elevation)?;
-        Ok(Point { position, layer, ids, name, house_number, elevation, signature })
+        let plain = Some(self.plain_since(padded));
+        Ok(Point { position, layer, ids, name, house_number, elevation, signature, plain })
     }
 
+    /// Wish 6: "a way head says it for the head", its size, tag ids and lengths of values.
     pub fn way_head(&mut self) -> Read<WayHead> {
+        let padded = self.padded;
         let signature = self.signature()?;
         let place = self.at() as usize;
         let size = self.unsigned()?;
@@ -45,11 +53,13 @@ impl Reader<'_> {
         let bitmap = self.bytes(2)?;
         let bitmap = u16::from_be_bytes([bitmap[0], bitmap[1]]);
         let (layer, ids) = self.tags(Table::Ways)?;
-        Ok(WayHead { bitmap, ids, stored_end, layer, signature })
+        let plain = self.plain_since(padded);
+        Ok(WayHead { bitmap, ids, stored_end, layer, signature, plain, padded })
     }
 
+    /// Wish 6: "accept for the whole way". The body is read right behind the head.
     pub fn way_body(&mut self, head: WayHead) -> Read<Way> {
-        let WayHead { bitmap, ids, layer, signature, .. } = head;
+        let WayHead { bitmap, ids, layer, signature, plain: head_plain, padded, .. } = head;
         let flags = self.byte()?;
         let name = self.text_if(flags & 0x80)?;
         let house_number = self.text_if(flags & 0x40)?;
@@ -69,6 +79,8 @@ impl Reader<'_> {
             double,
             blocks,
             signature,
+            plain: Some(self.plain_since(padded)),
+            head_plain: Some(head_plain),
         })
     }
 

@@ -77,6 +77,8 @@ pub struct Reader<'a> {
     pub sizes: Vec<Range<usize>>,
     /// The places of the numbers that were read, if they are wanted.
     pub trace: Option<Vec<Range<usize>>>,
+    /// How many of the numbers that were read are not plain.
+    pub padded: u64,
     view: View,
     at: u128,
     furthest: u128,
@@ -93,10 +95,16 @@ impl<'a> Reader<'a> {
             texts: Vec::new(),
             sizes: Vec::new(),
             trace: None,
+            padded: 0,
             view,
             at: 0,
             furthest: 0,
         }
+    }
+
+    /// Whether all numbers were plain that were read since so many were not.
+    pub fn plain_since(&self, padded: u64) -> bool {
+        self.padded == padded
     }
 
     /// The place behind the furthest byte that was read.
@@ -145,12 +153,15 @@ impl<'a> Reader<'a> {
     }
 
     pub fn unsigned(&mut self) -> Read<u64> {
-        self.groups().map(differences::unsigned)
+        let groups = self.groups()?;
+        self.padded += u64::from(!differences::is_plain_unsigned(groups));
+        Ok(differences::unsigned(groups))
     }
 
     /// "Signed: the last byte's 40 is the sign, its 3F the data, so 40 is 0."
     pub fn signed(&mut self) -> Read<i64> {
         let groups = self.groups()?;
+        self.padded += u64::from(!differences::is_plain_signed(groups));
         // nine groups less the sign are 62 bits
         let magnitude = differences::magnitude(groups).expect("a whole number") as i64;
         let negative = groups.last().is_some_and(|last| last & 0x40 != 0);

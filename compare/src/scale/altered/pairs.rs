@@ -44,7 +44,7 @@ impl Pair<'_> {
 
     /// The states of the two streams, the copy's first.
     fn streams(&self, check: &mut Check) -> Checked<[State; 2]> {
-        let mut states = [[WORD; 7]; 2];
+        let mut states = [[WORD; 8]; 2];
         let mut open = |k: usize, map| {
             let ask = Ask { map, ..self.ask };
             library::stream_open(&ask, ask.at.sub_file, self.zoom, &mut states[k])

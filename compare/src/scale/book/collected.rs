@@ -25,6 +25,8 @@ pub struct Collected<'a> {
     rows: Vec<[u64; 2]>,
     points: usize,
     water: u64,
+    /// Whether the numbers of the tile's head are plain, by the model.
+    head_plain: bool,
     lowest: u8,
     highest: u8,
     /// Whether the tile is marked empty, by the model.
@@ -47,7 +49,7 @@ impl<'a> Collected<'a> {
             counts.refused += 1;
             return Ok(None);
         }
-        let [rows, points, ways, exact] = [9, 11, 12, 13].map(|k| tile.got.words[k]);
+        let [rows, points, ways, exact, plain] = [9, 11, 12, 13, 14].map(|k| tile.got.words[k]);
         if exact == 0 {
             counts.inexact += 1;
             return Ok(None);
@@ -58,6 +60,13 @@ impl<'a> Collected<'a> {
         let stored = stored.map_err(|refusal| format!("collects, but document 01: {refusal:?}"))?;
         let features =
             (0..points + ways).map(|k| fetched(&ask, k, &stored)).collect::<Checked<Vec<_>>>()?;
+        let head_plain = Opened::of(file).head_plain(&ask.at);
+        let head_plain = head_plain.map_err(|refusal| format!("no head: {refusal:?}"))?;
+        // "Each point, way and tile then says whether all its numbers were plain, the tile's own head included"
+        let all_plain = features.iter().all(|feature| feature.fetch.got.words[35] != 0);
+        if (plain != 0) != (head_plain && all_plain) {
+            return Err(format!("plain {plain}: head {head_plain}, all features {all_plain}"));
+        }
         let rows = (0..rows as usize).map(|k| [tile.points[k], tile.ways[k]]).collect();
         Ok(Some(Collected {
             ask,
@@ -65,6 +74,7 @@ impl<'a> Collected<'a> {
             rows,
             points: points as usize,
             water: library::index_entry(&ask).words[6],
+            head_plain,
             lowest: ask.interval[2] as u8,
             highest: ask.interval[3] as u8,
             empty,
@@ -91,6 +101,10 @@ impl<'a> Collected<'a> {
 
     pub fn water(&self) -> u64 {
         self.water
+    }
+
+    pub fn head_plain(&self) -> bool {
+        self.head_plain
     }
 
     /// All zooms of the interval, and one beside it on each side.

@@ -1,6 +1,6 @@
 //! Lists of calls. Each call is made of the stream, and its answer held to what the book says to it.
 
-use super::super::check::{Call as Kind, Check, Checked};
+use super::super::check::{Call as Kind, Check, Checked, Said};
 use super::super::collected::stored_part;
 use super::super::lent::{suffice, Fronts, Lengths, Lent};
 use super::super::library::{self, degrees, kept_but, Next, State, SIGNED};
@@ -37,11 +37,13 @@ pub fn long(features: usize) -> usize {
 /// Lengths to go by where no way waits.
 pub const NONE_WAITS: Lengths = [1, 2, 2, 0, 0, 0];
 
-/// "Its state: a number k, first 0, and whether a way waits, first no."
+/// "Its state: a number k, first 0, and whether a way waits, first no." Wish 6: and whether all "stored numbers that the
+/// stream has read for it in calls not refused" are plain, first those of the tile's head.
 #[derive(Clone, Copy)]
 struct Page {
     k: usize,
     waits: bool,
+    plain: bool,
 }
 
 /// The stream and the book, side by side.
@@ -52,8 +54,8 @@ struct Both {
 }
 
 impl Both {
-    fn at_first(stream: State) -> Self {
-        Both { stream, page: Page { k: 0, waits: false } }
+    fn at_first(stream: State, plain: bool) -> Self {
+        Both { stream, page: Page { k: 0, waits: false, plain } }
     }
 }
 
@@ -71,7 +73,7 @@ impl Run<'_> {
     /// two lists start with is run once for both.
     pub fn all(&mut self, stream: State, longest: u32) -> Checked<u64> {
         self.calls.clear();
-        self.longer(Both::at_first(stream), longest)
+        self.longer(Both::at_first(stream, self.book.tile.head_plain()), longest)
     }
 
     fn longer(&mut self, both: Both, left: u32) -> Checked<u64> {
@@ -91,7 +93,7 @@ impl Run<'_> {
     /// A list of random calls.
     pub fn random(&mut self, stream: State, length: usize, random: &mut Random) -> Checked {
         self.calls.clear();
-        let mut both = Both::at_first(stream);
+        let mut both = Both::at_first(stream, self.book.tile.head_plain());
         for _ in 0..length {
             self.step(random.call(), &mut both)?;
         }
@@ -111,7 +113,8 @@ impl Run<'_> {
     }
 
     /// "Next: 16 if a way waits; with k below P, point k, and k grows by 1; with k below P + W, the head of
-    /// way k − P (the first is 0), which then waits; else the end, with sub file and water mark."
+    /// way k − P (the first is 0), which then waits; else the end, with sub file and water mark", and with whether what was
+    /// read is plain.
     fn next(&mut self, both: &mut Both) -> Checked {
         let before = both.stream;
         let tile = self.book.tile;
@@ -124,16 +127,26 @@ impl Run<'_> {
             return self.check.words("the state behind 16", &both.stream, &before);
         }
         if page.k < points {
-            self.point(&ours, tile.point(page.k))?;
+            let point = tile.point(page.k);
+            self.point(&ours, point)?;
             page.k += 1;
+            let said = point.fetch.got.words[35] != 0;
+            self.check.said(Said::StreamedPoint, said);
+            page.plain &= said;
             return Ok(());
         }
         if page.k < points + ways {
-            self.head(&ours, tile.way(page.k - points))?;
+            let way = tile.way(page.k - points);
+            self.head(&ours, way)?;
             page.waits = true;
+            let said = way.fetch.got.words[36] != 0;
+            self.check.said(Said::Head, said);
+            page.plain &= said;
             return Ok(());
         }
-        let mut words: [u64; 21] = kept_but(19, &[tile.ask.at.sub_file, tile.water()]);
+        self.check.said(Said::End, page.plain);
+        let plain = u64::from(page.plain);
+        let mut words: [u64; 22] = kept_but(19, &[tile.ask.at.sub_file, tile.water(), plain]);
         words[6] = 2;
         self.check.got(Kind::StreamNext, &ours.got, 0, &words)?;
         nothing(self.check, &ours)
@@ -159,7 +172,10 @@ impl Run<'_> {
                 let words = self.body(&ours.got.words, way)?;
                 self.check.got(Kind::StreamAccept, &ours.got, 0, &words)?;
                 self.check.floats("a label", &ours.degrees, &way.fetch.degrees)?;
-                *page = Page { k: page.k + 1, waits: false };
+                let said = way.fetch.got.words[35] != 0;
+                self.check.said(Said::Accepted, said);
+                let plain = page.plain && said;
+                *page = Page { k: page.k + 1, waits: false, plain };
                 return self.lent.check(self.check, lengths, &way.streamed_lists());
             }
         };
@@ -175,7 +191,7 @@ impl Run<'_> {
         let number = library::stream_decline(&mut both.stream);
         self.check.call(Kind::StreamDecline, number);
         if both.page.waits {
-            both.page = Page { k: both.page.k + 1, waits: false };
+            both.page = Page { k: both.page.k + 1, waits: false, ..both.page };
             return self.check.same("a decline", number, 0);
         }
         self.check.same("a decline out of turn", number, 16)?;
@@ -184,8 +200,9 @@ impl Run<'_> {
 
     fn point(&mut self, ours: &Next, point: &Fetched) -> Checked {
         let fetched = &point.fetch;
-        let mut words: [u64; 21] = kept_but(6, &[0; 12]);
+        let mut words: [u64; 22] = kept_but(6, &[0; 12]);
         words[7] = fetched.got.words[7];
+        words[21] = fetched.got.words[35];
         self.part(&ours.got.words, &mut words, 11, point, 0)?;
         self.part(&ours.got.words, &mut words, 14, point, 1)?;
         words[17] = fetched.got.words[29];
@@ -198,8 +215,8 @@ impl Run<'_> {
 
     fn head(&mut self, ours: &Next, way: &Fetched) -> Checked {
         let fetched = &way.fetch;
-        let mut words: [u64; 21] = kept_but(6, &[1, fetched.got.words[7]]);
-        words[18] = fetched.got.words[30];
+        let mut words: [u64; 22] = kept_but(6, &[1, fetched.got.words[7]]);
+        (words[18], words[21]) = (fetched.got.words[30], fetched.got.words[36]);
         self.check.same("a way", fetched.got.words[6], 1)?;
         self.check.got(Kind::StreamNext, &ours.got, 0, &words)?;
         self.check.same("a layer", ours.signed, [fetched.signed[0], SIGNED[1]])?;
@@ -208,13 +225,13 @@ impl Run<'_> {
     }
 
     /// The words of a body.
-    fn body(&mut self, ours: &[u64; 18], way: &Fetched) -> Checked<[u64; 18]> {
+    fn body(&mut self, ours: &[u64; 19], way: &Fetched) -> Checked<[u64; 19]> {
         let fetched = &way.fetch.got.words;
-        let mut words: [u64; 18] = kept_but(6, &fetched[32..34]);
+        let mut words: [u64; 19] = kept_but(6, &fetched[32..34]);
         self.part(ours, &mut words, 8, way, 0)?;
         self.part(ours, &mut words, 11, way, 1)?;
         self.part(ours, &mut words, 14, way, 2)?;
-        words[17] = fetched[34];
+        (words[17], words[18]) = (fetched[34], fetched[35]);
         Ok(words)
     }
 

@@ -2,6 +2,7 @@
 
 use crate::leaves::sample::{signed, signed_in, unsigned, unsigned_in};
 use crate::maps::writer::{entry, INDEX_SIGNATURE};
+use crate::random::Random;
 
 /// The size of a signature of a tile, point or way.
 const SIGNATURE: usize = 32;
@@ -17,10 +18,15 @@ const LABEL: u8 = 0x10;
 const DATA_BLOCKS: u8 = 0x08;
 const DOUBLE: u8 = 0x04;
 
-/// Writes the numbers of a tile: all of them, or a single one, in at least so many bytes.
+/// Writes the numbers of a tile: all of them, a single one, or some at random, in at least so many bytes, or a single one as
+/// bytes that are given.
 pub struct Numbers {
     width: usize,
     only: Option<usize>,
+    /// In place of that number.
+    bytes: Option<Vec<u8>>,
+    /// One in so many numbers is padded.
+    some: Option<(usize, Random)>,
     written: usize,
 }
 
@@ -31,12 +37,22 @@ impl Numbers {
     }
 
     pub fn padded(width: usize) -> Self {
-        Numbers { width, only: None, written: 0 }
+        Numbers { width, only: None, bytes: None, some: None, written: 0 }
     }
 
     /// Only the number that is written as the `only`-th, counting from 0.
     pub fn one_padded(only: usize, width: usize) -> Self {
-        Numbers { width, only: Some(only), written: 0 }
+        Numbers { only: Some(only), ..Numbers::padded(width) }
+    }
+
+    /// These bytes in place of the `only`-th number, which is then another one, or none.
+    pub fn one_as(only: usize, bytes: &[u8]) -> Self {
+        Numbers { only: Some(only), bytes: Some(bytes.to_vec()), ..Numbers::plain() }
+    }
+
+    /// One in so many, by the numbers that start here, in up to three bytes more.
+    pub fn some_padded(one_in: usize, seed: u64) -> Self {
+        Numbers { some: Some((one_in, Random::new(seed))), ..Numbers::plain() }
     }
 
     /// How many numbers were written.
@@ -44,23 +60,28 @@ impl Numbers {
         self.written
     }
 
-    fn next_width(&mut self) -> usize {
+    /// The next number, which needs so many bytes, in as many as it shall have.
+    fn next(&mut self, needed: usize, write: impl FnOnce(usize) -> Vec<u8>) -> Vec<u8> {
         let chosen = self.only.is_none_or(|only| only == self.written);
         self.written += 1;
-        if chosen {
-            self.width
-        } else {
-            1
+        if let Some(bytes) = self.bytes.as_ref().filter(|_| chosen) {
+            return bytes.clone();
         }
+        let more = self.some.as_mut().map_or(0, |(one_in, random)| match random.below(*one_in) {
+            0 => 1 + random.below(3),
+            _ => 0,
+        });
+        write(needed.max(if chosen { self.width } else { 1 }) + more)
     }
 
     fn unsigned(&mut self, value: u64) -> Vec<u8> {
-        unsigned_in(value, unsigned(value).len().max(self.next_width()))
+        self.next(unsigned(value).len(), |length| unsigned_in(value, length))
     }
 
     fn signed(&mut self, value: i64) -> Vec<u8> {
         let (negative, magnitude) = (value < 0, value.unsigned_abs());
-        signed_in(negative, magnitude, signed(negative, magnitude).len().max(self.next_width()))
+        let needed = signed(negative, magnitude).len();
+        self.next(needed, |length| signed_in(negative, magnitude, length))
     }
 
     fn position(&mut self, [latitude, longitude]: [i64; 2]) -> Vec<u8> {

@@ -53,7 +53,8 @@ impl Tile<'_> {
             for (j, lower) in streams[..k].iter().enumerate() {
                 let low = self.zooms[j];
                 let place = |why| format!("rule {rule:?}, zoom {low} by zoom {high}: {why}");
-                self.pair(&mut tally.check, lower, richer).map_err(place)?;
+                let [low, high] = self.pair(&mut tally.check, lower, richer).map_err(place)?;
+                tally.plain_ends(low, high);
                 tally.pair(&self.counted[j], &self.counted[k]);
             }
         }
@@ -67,15 +68,21 @@ impl Tile<'_> {
         check.same("points and ways", &Ok(delivered), &self.counted[k])
     }
 
-    /// The stream at the lower zoom opens and ends well too, says the same at its end, and delivers exactly
-    /// the first points and ways of the richer one.
-    fn pair(&self, check: &mut Check, lower: &Ended, richer: &Stream) -> Checked {
+    /// The stream at the lower zoom opens and ends well too, says the same at its end, but that it may be plain where the richer
+    /// one is not, and delivers exactly the first points and ways of the richer one. Answers what the two ends say of that.
+    fn pair(&self, check: &mut Check, lower: &Ended, richer: &Stream) -> Checked<[u64; 2]> {
         let refused = |(call, number): &Refusal| format!("{call} is refused: {number}");
         let lower = lower.as_ref().map_err(refused)?;
         let mut alike = Alike { check, maps: [self.ask.map; 2] };
         first("point", &lower.points, &richer.points, |lower, richer| alike.next(lower, richer))?;
         first("way", &lower.ways, &richer.ways, |lower, richer| way(&mut alike, lower, richer))?;
-        alike.next(&lower.end, &richer.end).map_err(|why| format!("the end's {why}"))
+        // what is read at the lower zoom is read at the richer one too
+        let plain = [&lower.end, &richer.end].map(|end| end.got.words[21]);
+        alike.check.same("a plain end of all at the richer zoom alone", plain == [0, 1], false)?;
+        let mut end = richer.end.clone();
+        end.got.words[21] = plain[0];
+        alike.next(&lower.end, &end).map_err(|why| format!("the end's {why}"))?;
+        Ok(plain)
     }
 }
 

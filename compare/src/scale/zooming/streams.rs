@@ -43,7 +43,7 @@ struct Run<'a> {
 }
 
 pub fn stream(ask: &Ask, zoom: u8, rule: Rule, given: &Given) -> Ended {
-    let mut run = Run { ask, rule, given, state: [WORD; 7], accepts: 0 };
+    let mut run = Run { ask, rule, given, state: [WORD; 8], accepts: 0 };
     let opened = library::stream_open(ask, ask.at.sub_file, zoom, &mut run.state);
     answered("open", opened.number)?;
     let (mut points, mut ways) = (Vec::new(), Vec::new());

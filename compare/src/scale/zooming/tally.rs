@@ -20,6 +20,8 @@ pub struct Tally {
     /// Pairs of zooms, and of them those of which the zoom table counts more at the richer zoom.
     pairs: u64,
     growing: u64,
+    /// Of them those whose ends both have a padded number, the richer one alone, and neither.
+    padded: [u64; 3],
     /// Streams, of them those that end well, and what these deliver.
     streams: u64,
     ended: u64,
@@ -73,6 +75,11 @@ impl Tally {
         self.growing += u64::from(lower != richer);
     }
 
+    /// The words in which the ends of a pair say whether all that was read is plain.
+    pub fn plain_ends(&mut self, lower: u64, richer: u64) {
+        self.padded[(lower + richer).min(2) as usize] += 1;
+    }
+
     /// A stream, and that of the same zoom which accepts all.
     pub fn beside_all(&mut self, stream: &Ended, all: &Ended) {
         match (stream, all) {
@@ -91,6 +98,8 @@ impl Tally {
         println!("  that do not collect             {:>12}", self.uncollected);
         println!("pairs of zooms compared: {}", self.pairs);
         println!("  with more at the richer zoom    {:>12}", self.growing);
+        println!("  both with a padded number       {:>12}", self.padded[0]);
+        println!("  only the richer one with one    {:>12}", self.padded[1]);
         println!("streams: {}, of which {} end well", self.streams, self.ended);
         println!("  astray by a wrong stored size   {:>12}", self.astray);
         println!("  where accepting all is refused  {:>12}", self.past);

@@ -4,10 +4,10 @@ use Rattle.feature_place.proofs.point_place.Statement.{statement}
 use Rattle.feature_place.proofs.point_place.Tie as tie
 
 returns : tie.Need-returns
-returns c = points-stop (let a = c .before .before .before .before .before .before .args in kindsOf (a .layout) (a .letters .now)) _ _ _ _ (c .before .before .before .pass-points .ensures) _ _ (c .before .enum-told .given .1) (c .end-refusal .ensures)
+returns c = let a = c .before .before .before .before .before .before .args in points-stop (kindsOf (a .layout) (a .letters .now)) (a .map .now) (a .at) (a .n) _ (c .before .before .before .measure-points .ensures) _ _ (c .before .enum-told .given .1) (c .points-refusal .ensures)
 
 returns-2 : tie.Need-returns-2
-returns-2 c = points-end (let a = c .before .before .before .before .before .before .args in kindsOf (a .layout) (a .letters .now)) _ _ _ _ (c .before .before .before .pass-points .ensures) _ (c .before .end .given .1)
+returns-2 c = let a = c .before .before .before .before .before .before .args in points-end (kindsOf (a .layout) (a .letters .now)) (a .map .now) (a .at) (a .n) _ (c .before .before .before .measure-points .ensures) _ _ (c .before .got .given .1)
 
 pub point-place-spec : {M : Type 1} → statement M
 point-place-spec =

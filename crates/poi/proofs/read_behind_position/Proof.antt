@@ -38,6 +38,12 @@ refused-poi-requires-2 = search ends
 returns-2 : tie.Need-returns-2
 returns-2 c = search ends
 
+both-requires : tie.Need-both-requires
+both-requires c κs = tt
+
+both-requires-2 : tie.Need-both-requires-2
+both-requires-2 c κs = tt
+
 returns-3 : tie.Need-returns-3
 returns-3 c = search ends depth 8 fits 5000
 
@@ -57,4 +63,6 @@ read-behind-position-spec =
     poi-fields-refusal-requires
     refused-poi-requires-2
     returns-2
+    both-requires
+    both-requires-2
     returns-3)

@@ -1,5 +1,5 @@
 use Rattle.format.specs.Tile.{pointFields}
-use Rattle.poi.proofs.PoiLaws.{reads}
+use Rattle.poi.proofs.PoiLaws.{fields-whole, reads}
 use Rattle.poi.proofs.read_poi_fields.Statement.{statement}
 use Rattle.poi.proofs.read_poi_fields.Tie as tie
 
@@ -23,9 +23,9 @@ returns : tie.Need-returns
 unfolding pointFields
 returns c = search reads depth 12 fits 5000
 
-read-optional-text-requires : tie.Need-read-optional-text-requires
+read-noted-text-requires : tie.Need-read-noted-text-requires
 unfolding pointFields
-read-optional-text-requires = search reads
+read-noted-text-requires = search reads
 
 enum-known-got-2 : tie.Need-enum-known-got-2
 unfolding pointFields
@@ -35,17 +35,17 @@ enum-told-2 : tie.Need-enum-told-2
 unfolding pointFields
 enum-told-2 = search reads
 
-optional-span-refusal-requires : tie.Need-optional-span-refusal-requires
+noted-span-refusal-requires : tie.Need-noted-span-refusal-requires
 unfolding pointFields
-optional-span-refusal-requires = search reads
+noted-span-refusal-requires = search reads
 
 returns-2 : tie.Need-returns-2
 unfolding pointFields
 returns-2 c = search reads depth 12 fits 5000
 
-read-optional-text-requires-2 : tie.Need-read-optional-text-requires-2
+read-noted-text-requires-2 : tie.Need-read-noted-text-requires-2
 unfolding pointFields
-read-optional-text-requires-2 = search reads
+read-noted-text-requires-2 = search reads
 
 enum-known-got-3 : tie.Need-enum-known-got-3
 unfolding pointFields
@@ -55,9 +55,9 @@ enum-told-3 : tie.Need-enum-told-3
 unfolding pointFields
 enum-told-3 = search reads
 
-optional-span-refusal-requires-2 : tie.Need-optional-span-refusal-requires-2
+noted-span-refusal-requires-2 : tie.Need-noted-span-refusal-requires-2
 unfolding pointFields
-optional-span-refusal-requires-2 = search reads
+noted-span-refusal-requires-2 = search reads
 
 returns-3 : tie.Need-returns-3
 unfolding pointFields
@@ -83,9 +83,24 @@ returns-4 : tie.Need-returns-4
 unfolding pointFields
 returns-4 c = search reads depth 12 fits 5000
 
+poi-fields-requires : tie.Need-poi-fields-requires
+unfolding pointFields
+poi-fields-requires c κs = tt
+
 returns-5 : tie.Need-returns-5
 unfolding pointFields
-returns-5 c = search reads depth 12 fits 5000
+returns-5 c =
+    let e = c .before .before in
+    let d = e .before .before .before .before in
+    let b = d .before .before .before .before in
+    let f = b .before .before .before .before in
+    let a = f .before .before .before .before .args in
+    fields-whole (a .map .now) (a .at) _ _ _ _ _ _ _ _ _ _ _ _ _
+    (f .before .before .read-u8 .ensures) (f .got .given .1)
+    (b .before .before .read-noted-text .ensures) (b .got2 .given .1)
+    (d .before .before .read-noted-text2 .ensures) (d .got3 .given .1)
+    (e .before .before .read-elevation .ensures) (e .got4 .given .1)
+    (c .poi-fields .ensures)
 
 pub read-poi-fields-spec : {M : Type 1} → statement M
 read-poi-fields-spec =
@@ -96,19 +111,20 @@ read-poi-fields-spec =
     enum-told
     byte-refusal-requires
     returns
-    read-optional-text-requires
+    read-noted-text-requires
     enum-known-got-2
     enum-told-2
-    optional-span-refusal-requires
+    noted-span-refusal-requires
     returns-2
-    read-optional-text-requires-2
+    read-noted-text-requires-2
     enum-known-got-3
     enum-told-3
-    optional-span-refusal-requires-2
+    noted-span-refusal-requires-2
     returns-3
     read-elevation-requires
     enum-known-got-4
     enum-told-4
     elevation-refusal-requires
     returns-4
+    poi-fields-requires
     returns-5)

@@ -47,12 +47,12 @@ use denote.Triple.Table.{entered, cited}
 use denote.Triple.Walked.{says, Stays, stay-none, stay-none-slice, walkOf, goes-none, goes-none-slice, Walks, ends-at, walked, walk-meets}
 use denote.Triple.Clauses.{ensured, lasts}
 use denote.Exit.{yes}
-use Rattle.byte_source.specs.Answers.{numberRes}
-use Rattle.byte_source.specs.declared.NumberRead.{NumberRead}
-use Rattle.byte_source.proofs.NumberRead as S
-use Rattle.byte_source.proofs.NumberRead.Laws as S′
-use Rattle.utils.specs.Vbe.{unsigned}
-use Rattle.reader.specs.Places.{movedTo, numberNext}
+use Rattle.utils.specs.Answers.{vbeRes}
+use Rattle.utils.specs.declared.VbeRead.{VbeRead}
+use Rattle.utils.proofs.VbeRead as S
+use Rattle.utils.proofs.VbeRead.Laws as S′
+use Rattle.utils.specs.Vbe.{notedUnsigned}
+use Rattle.reader.specs.Places.{movedTo, vbeNext}
 use Rattle.reader.specs.declared.Reader.{Reader}
 use Rattle.reader.specs.declared.NumberAt.{NumberAt}
 use Rattle.reader.proofs.Reader as T
@@ -136,11 +136,11 @@ module _ {M : Type 1} (𝓤 : URA M) (H : Heap 𝓤) (A : Atoms 𝓤) (W : Given
       nothing ! $ move ! (1 ∷ 0 ∷ []) $ fjoin ! $ nothing ! $ move ! (3 ∷ 0 ∷ []) $ join ! $ move ! (2 ∷ 0 ∷ []) $ join ! $ join ! $ frame ! $ done !
 
   -- what is known of the answer, and of the struct that the call left
-  abbrev Known : NumberRead → Reader → Type 0
-  Known r w = (numberRes r ≡ unsigned (now s) n) × (w ≡ movedTo d (numberNext n r))
+  abbrev Known : VbeRead → Reader → Type 0
+  Known r w = (vbeRes r ≡ notedUnsigned (now s) n) × (w ≡ movedTo d (vbeNext n r))
 
   -- the result, and its machine value
-  module _ (r : NumberRead) (w : Reader) where
+  module _ (r : VbeRead) (w : Reader) where
     abbrev a : NumberAt
     a = record { got = r; next = w .at }
 
@@ -174,7 +174,7 @@ module _ {M : Type 1} (𝓤 : URA M) (H : Heap 𝓤) (A : Atoms 𝓤) (W : Given
         -- [the reference; the lender's part; the lifetime's token; the rest of it; 'a's token; …; what s owns; …; _6; …; _5; …; _4; …; _3's end; _2; …; _1; …; room for _0; …]
         move ! (0 ∷ 2 ∷ 4 ∷ []) $ use3 W (raw (Read 𝓤 H A at-mem run .pre (to-read l₃ γ ν))) (goes-read l₃ γ ν) $
         calls-at ! fm (Read 𝓤 H A at-mem run) known-read (to-read l₃ γ ν) (and-then ! (load ! (from ! (stop !)) (look ! 8 refl)) (no-more !)) (λ u.
-        use1 W (later (some (λ (r : NumberRead). ((‵ (flft (ν ∷ κ) (PosShare·right q)) ⊛ ‵ (flft κ (PosShare·left q)) ⊛ ‵ ftrue) ⊛ ‵ (S.the-row .own r (u ∷ []))) ⊛ raw (ensured 𝓤 H A read.ended (read.clauses 𝓤 H A at-mem run) (ν ∷ κ, (κ, tt)) (x l₃ γ) tt r)))) (id⊢ 𝓤 _) $ await ! tt $ pick ! (λ r.
+        use1 W (later (some (λ (r : VbeRead). ((‵ (flft (ν ∷ κ) (PosShare·right q)) ⊛ ‵ (flft κ (PosShare·left q)) ⊛ ‵ ftrue) ⊛ ‵ (S.the-row .own r (u ∷ []))) ⊛ raw (ensured 𝓤 H A read.ended (read.clauses 𝓤 H A at-mem run) (ν ∷ κ, (κ, tt)) (x l₃ γ) tt r)))) (id⊢ 𝓤 _) $ await ! tt $ pick ! (λ r.
         split ! $ move ! (1 ∷ []) $ use1 W (some (λ (ws : Reader × Unit {0}). ‵ (lasts read.ended (ν ∷ κ, (κ, tt)) (x l₃ γ) ws) ⊛ raw (fact 𝓤 (Known r (ws .0))))) (id⊢ 𝓤 _) $ pick ! (λ ws.
         split ! $ move ! (1 ∷ []) $ heard ! (Known r (ws .0)) (λ e. fsplit ! $ move ! (2 ∷ []) $ split ! $ split ! $ move ! (1 ∷ []) $ split ! $
         -- the lifetime is ended, and the local comes back at the struct that the call left

@@ -6,7 +6,7 @@ use denote.Triple.Table.{entered, cited}
 use Rattle.utils.specs.Answers.{microRes}
 use Rattle.utils.proofs.MicroRead as S
 use Rattle.utils.proofs.MicroRead.Laws as S′
-use Rattle.utils.specs.Vbe.{coordinate}
+use Rattle.utils.specs.Vbe.{notedCoordinate}
 use Rattle.utils.proofs.read_microdegrees.Symbol as read
 use Rattle.utils.proofs.read_microdegrees.Met as read-thm
 use Rattle.reader.specs.Places.{microNext}
@@ -24,7 +24,7 @@ it = record {
   laws = S′.the-laws;
   few = tt;
   facts = S′.the-plain;
-  Told = λ map at r. microRes r ≡ coordinate map at;
+  Told = λ map at r. microRes r ≡ notedCoordinate map at;
   behind = microNext;
   #read = read.name;
   #next = next.name;

@@ -6,7 +6,7 @@ use denote.Triple.Table.{entered, cited}
 use Rattle.utils.specs.Answers.{signedRes}
 use Rattle.utils.proofs.SignedRead as S
 use Rattle.utils.proofs.SignedRead.Laws as S′
-use Rattle.utils.specs.Vbe.{signed}
+use Rattle.utils.specs.Vbe.{notedSigned}
 use Rattle.utils.proofs.read_vbe_s_int.Symbol as read
 use Rattle.utils.proofs.read_vbe_s_int.Met as read-thm
 use Rattle.reader.specs.Places.{signedNext}
@@ -24,7 +24,7 @@ it = record {
   laws = S′.the-laws;
   few = tt;
   facts = S′.the-plain;
-  Told = λ map at r. signedRes r ≡ signed map at;
+  Told = λ map at r. signedRes r ≡ notedSigned map at;
   behind = signedNext;
   #read = read.name;
   #next = next.name;

@@ -3,16 +3,16 @@ use mathlib.Core.Path.{_≡_}
 use contract.Running.{givenOf, tables, tablesOf}
 use denote.Triple.Spec.{tripleOf}
 use denote.Triple.Table.{entered, cited}
-use Rattle.byte_source.specs.Answers.{numberRes}
-use Rattle.byte_source.proofs.NumberRead as S
-use Rattle.byte_source.proofs.NumberRead.Laws as S′
-use Rattle.utils.specs.Vbe.{unsigned}
+use Rattle.utils.specs.Answers.{vbeRes}
+use Rattle.utils.proofs.VbeRead as S
+use Rattle.utils.proofs.VbeRead.Laws as S′
+use Rattle.utils.specs.Vbe.{notedUnsigned}
 use Rattle.utils.proofs.read_vbe_u_int.Symbol as read
 use Rattle.utils.proofs.read_vbe_u_int.Met as read-thm
-use Rattle.reader.specs.Places.{numberNext}
+use Rattle.reader.specs.Places.{vbeNext}
 use Rattle.reader.proofs.Reading.{Reads, Read, Next, read-meets}
-use Rattle.reader.proofs.number_next.Symbol as next
-use Rattle.reader.proofs.number_next.Met as next-thm
+use Rattle.reader.proofs.vbe_next.Symbol as next
+use Rattle.reader.proofs.vbe_next.Met as next-thm
 use Rattle.reader.proofs.read_vbe_u_int.Key.{name}
 use Rattle.reader.proofs.read_vbe_u_int as this
 use Rattle.reader.proofs.read_vbe_u_int.Statement as stated
@@ -24,8 +24,8 @@ it = record {
   laws = S′.the-laws;
   few = tt;
   facts = S′.the-plain;
-  Told = λ map at r. numberRes r ≡ unsigned map at;
-  behind = numberNext;
+  Told = λ map at r. vbeRes r ≡ notedUnsigned map at;
+  behind = vbeNext;
   #read = read.name;
   #next = next.name;
 }
@@ -37,4 +37,4 @@ read-vbe-u-int-spec 𝓤 H 𝓜 𝓖 𝓡 =
     (tables 𝓤 H 𝓜 𝓡 code.env .C) (tables 𝓤 H 𝓜 𝓡 code.env .Λ) name code.function (code.unfolded 𝓤 H 𝓜 𝓡)
     (read-meets it 𝓤 H (𝓖 .A) (givenOf 𝓤 H 𝓜 𝓖) (tablesOf 𝓤 H 𝓜 (tables 𝓤 H 𝓜 𝓡 code.env))
     (cited 𝓤 H (Read it 𝓤 H (𝓖 .A)) 𝓜 𝓡 code.env read.name read.routine code.calls-utils·read-vbe-u-int (read-thm.met 𝓤 H 𝓜 𝓖 𝓡))
-    (cited 𝓤 H (Next it 𝓤 H (𝓖 .A)) 𝓜 𝓡 code.env next.name next.routine code.calls-reader·number-next (next-thm.met 𝓤 H 𝓜 𝓖 𝓡)))
+    (cited 𝓤 H (Next it 𝓤 H (𝓖 .A)) 𝓜 𝓡 code.env next.name next.routine code.calls-reader·vbe-next (next-thm.met 𝓤 H 𝓜 𝓖 𝓡)))

@@ -11,6 +11,8 @@ turn-in-spec =
     (λ c. search turns)
     (λ c. search turns)
     (λ c. search turns)
+    (λ c κs. tt)
+    (λ c. search turns)
     (λ c. search turns)
     (λ c. search turns)
     (λ c. search turns)

@@ -1,44 +1,15 @@
+use Rattle.utils.proofs.NumberLaws.{vbe-ok, vbe-no}
 use Rattle.tag.specs.Value.{sized}
-use Rattle.tag.proofs.ValueLaws.{values}
 use Rattle.tag.proofs.read_sized.Statement.{statement}
 use Rattle.tag.proofs.read_sized.Tie as tie
 
-read-vbe-u-int-requires : tie.Need-read-vbe-u-int-requires
-unfolding sized
-read-vbe-u-int-requires c κs = tt
-
-enum-known-got : tie.Need-enum-known-got
-unfolding sized
-enum-known-got c = c .match .keys1
-
-enum-told : tie.Need-enum-told
-unfolding sized
-enum-told c = c .match .keys2
-
-number-refusal-requires : tie.Need-number-refusal-requires
-unfolding sized
-number-refusal-requires c κs = tt
-
 returns : tie.Need-returns
 unfolding sized
-returns c = search values
-
-read-bytes-requires : tie.Need-read-bytes-requires
-unfolding sized
-read-bytes-requires c κs = tt
+returns c = vbe-no _ _ _ _ _ (c .before .before .before .read-vbe-u-int .ensures) (c .before .enum-told .given .1) (c .vbe-refusal .ensures)
 
 returns-2 : tie.Need-returns-2
 unfolding sized
-returns-2 c = search values
+returns-2 c = vbe-ok _ _ _ _ _ _ (c .before .before .before .before .read-vbe-u-int .ensures) (c .before .before .got .given .1) (c .read-part .ensures)
 
 pub read-sized-spec : {M : Type 1} → statement M
-read-sized-spec =
-    tie.close
-    (tie.spec
-    read-vbe-u-int-requires
-    enum-known-got
-    enum-told
-    number-refusal-requires
-    returns
-    read-bytes-requires
-    returns-2)
+read-sized-spec = tie.close (tie.spec (λ c κs. tt) (λ c. c .match .keys1) (λ c. c .match .keys2) (λ c κs. tt) returns (λ c κs. tt) returns-2)

@@ -2,6 +2,7 @@ use Prim.Native.Nat.{_≤_, _-_}
 use mathlib.Core.Path.{_≡_, refl}
 use native.Mathlib.Omega.{arith}
 use Rattle.parsing.specs.Parse.{ok, many, mapRes}
+use Rattle.utils.specs.Vbe.{valuesOf}
 use Rattle.format.specs.Tile.{row}
 use Rattle.tile.proofs.RowLaws.{putPoints, putWays, row-put, put-stops, put-done}
 use Rattle.tile.proofs.put_rows.Statement.{statement}
@@ -9,7 +10,7 @@ use Rattle.tile.proofs.put_rows.Tie as tie
 
 abbrev Inv-loop : tie.InvT-loop
 Inv-loop map at count points₀ ways₀ next₀ i₀ points ways next i =
-    (i ≤ count) × (mapRes (putPoints points₀) (many row i map at) ≡ ok points next) × (mapRes (putWays ways₀) (many row i map at) ≡ ok ways next)
+    (i ≤ count) × (mapRes (λ rows. putPoints points₀ (valuesOf rows)) (many row i map at) ≡ ok points next) × (mapRes (λ rows. putWays ways₀ (valuesOf rows)) (many row i map at) ≡ ok ways next)
 
 abbrev μ-loop : tie.MeasureT-loop
 μ-loop map at count points₀ ways₀ next₀ i₀ points ways next i = count - i

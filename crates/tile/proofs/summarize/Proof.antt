@@ -17,9 +17,9 @@ returns-2 c =
 
 returns-3 : tie.Need-returns-3
 returns-3 c =
-    let s = c .before .before .before .before .before .before .before .before .before .before .before in
-    summarized _ _ _ _ _ _ (s .pre) (s .good .0 .0) _ (c .before .before .before .before .before .before .before .before .read-tile-head .ensures) _ _ (c .before .before .before .before .before .before .got .given .1) _ (c .before .before .before .walk .ensures) _ _
-    (c .before .walked .given .1)
+    let s = c .before .before .before .before .before .before .before .before .before .before .before .before in
+    summarized _ _ _ _ _ _ (s .pre) (s .good .0 .0) _ (c .before .before .before .before .before .before .before .before .before .read-tile-head .ensures) _ _ (c .before .before .before .before .before .before .before .got .given .1) _ (c .before .before .before .before .walk .ensures) _ _ _
+    (c .before .before .walked .given .1) (c .both .ensures)
 
 pub summarize-spec : {M : Type 1} → statement M
 summarize-spec =
@@ -38,4 +38,5 @@ summarize-spec =
     (λ c. c .match2 .keys2)
     (λ c κs. tt)
     returns-2
+    (λ c κs. tt)
     returns-3)

@@ -26,4 +26,5 @@ read-tile-head-spec =
     (search heads)
     (search heads)
     (λ c. search heads depth 12)
+    (search heads)
     (λ c. search heads depth 12))

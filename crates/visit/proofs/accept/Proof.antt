@@ -18,16 +18,16 @@ returns-2 : tie.Need-returns-2
 returns-2 c = search accepts
 
 same-length-4 : tie.Need-same-length-4
-same-length-4 c = c .before .before .before .before .before .before .before .before .before .before .before .read-way-body .kept .1 .1 .0
+same-length-4 c = c .before .before .before .before .before .before .before .before .before .before .before .before .read-way-body .kept .1 .1 .0
 
 same-length-5 : tie.Need-same-length-5
-same-length-5 c = c .before .before .before .before .before .before .before .before .before .before .before .read-way-body .kept .1 .1 .1 .0
+same-length-5 c = c .before .before .before .before .before .before .before .before .before .before .before .before .read-way-body .kept .1 .1 .1 .0
 
 same-length-6 : tie.Need-same-length-6
-same-length-6 c = c .before .before .before .before .before .before .before .before .before .before .before .read-way-body .kept .1 .1 .1 .1 .0
+same-length-6 c = c .before .before .before .before .before .before .before .before .before .before .before .before .read-way-body .kept .1 .1 .1 .1 .0
 
 returns-3 : tie.Need-returns-3
-returns-3 c = let t = c .before .before .before .before .before .before .before .before .before .before .before .before .before .before .before .before .turn in let g = c .before .before .before .got in accept-ok _ _ _ _ _ _ _ _ (t .given .0 .0) (t .given .1) _ (c .before .before .before .before .before .before .before .before .before .before .before .read-way-body .ensures) (g .given .0 .0) (g .given .0 .1 .0) _ (g .given .1) (c .streamed-body .ensures)
+returns-3 c = let t = c .before .before .before .before .before .before .before .before .before .before .before .before .before .before .before .before .before .turn in let g = c .before .before .before .before .got in accept-ok _ _ _ _ _ _ _ _ (t .given .0 .0) (t .given .1) _ (c .before .before .before .before .before .before .before .before .before .before .before .before .read-way-body .ensures) (g .given .0 .0) (g .given .0 .1 .0) _ _ (g .given .1) (c .before .before .streamed-body .ensures) (c .noted-end .ensures)
 
 pub accept-spec : {M : Type 1} → statement M
 accept-spec =
@@ -46,6 +46,7 @@ accept-spec =
     same-length-2
     same-length-3
     returns-2
+    (λ c κs. tt)
     (λ c κs. tt)
     same-length-4
     same-length-5

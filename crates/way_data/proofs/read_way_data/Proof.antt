@@ -1,4 +1,6 @@
-use Rattle.format.specs.WayData.{wayData, wayData}
+use Rattle.format.specs.WayData.{dataBlock, wayData}
+use Rattle.way_data.specs.Writes.{dataBlockAlone}
+use Rattle.way_data.proofs.AloneLaws.{many-alone, dataBlock-alone}
 use Rattle.way_data.proofs.ReplyLaws.{reply-no, reply-short, reply-fit, reply-done}
 use Rattle.way_data.proofs.read_way_data.Statement.{statement}
 use Rattle.way_data.proofs.read_way_data.Tie as tie
@@ -37,7 +39,7 @@ returns-2 c = let g = c .before .before .before .before .got in let a = c .befor
 
 write-way-data-requires : tie.Need-write-way-data-requires
 unfolding wayData
-write-way-data-requires c κs = let a = c .before .before .before .before .before .before .before .before .before .before .before .before .before .args in let g = c .before .before .before .before .before .before .got in reply-fit (a .double) _ _ _ (g .given .0 .0) (g .given .0 .1 .0) (wayData (a .data-blocks) (a .map .now) (a .at)) _ (c .before .before .before .before .before .before .before .before .measure-way-data .ensures) (g .given .1) _ (c .before .before .before .before .shorter .ensures) _ (c .before .before .before .if1 .left)
+write-way-data-requires c κs = let a = c .before .before .before .before .before .before .before .before .before .before .before .before .before .args in let g = c .before .before .before .before .before .before .got in reply-fit (a .double) _ _ _ (g .given .0 .0) (g .given .0 .1 .0) (wayData (a .data-blocks) (a .map .now) (a .at)) _ (c .before .before .before .before .before .before .before .before .measure-way-data .ensures) (g .given .1) _ (c .before .before .before .before .shorter .ensures) _ (many-alone dataBlock dataBlockAlone dataBlock-alone (a .data-blocks) (a .map .now) (a .at)) _ (c .before .before .before .if1 .left)
 
 same-length : tie.Need-same-length
 unfolding wayData
@@ -53,7 +55,7 @@ same-length-3 c = c .before .before .before .before .before .before .write-way-d
 
 returns-3 : tie.Need-returns-3
 unfolding wayData
-returns-3 c = let g = c .before .before .before .before .before .before .before .before .before .before .before .before .before .got in let a = c .before .before .before .before .before .before .before .before .before .before .before .before .before .before .before .before .before .before .before .before .args in let w = c .before .before .before .before .before .before .write-way-data in reply-done _ _ _ _ (g .given .0 .0) (g .given .0 .1 .0) (wayData (a .data-blocks) (a .map .now) (a .at)) _ (c .before .before .before .before .before .before .before .before .before .before .before .before .before .before .before .measure-way-data .ensures) (g .given .1) _ (c .before .before .before .before .before .before .before .before .before .before .before .shorter .ensures) (a .at) (w .result) _ _ _ (c .before .before .before .before .before .before .before .before .before .before .if1 .left) (w .ensures)
+returns-3 c = let g = c .before .before .before .before .before .before .before .before .before .before .before .before .before .got in let a = c .before .before .before .before .before .before .before .before .before .before .before .before .before .before .before .before .before .before .before .before .args in let w = c .before .before .before .before .before .before .write-way-data in reply-done _ _ _ _ (g .given .0 .0) (g .given .0 .1 .0) (wayData (a .data-blocks) (a .map .now) (a .at)) _ (c .before .before .before .before .before .before .before .before .before .before .before .before .before .before .before .measure-way-data .ensures) (g .given .1) _ (c .before .before .before .before .before .before .before .before .before .before .before .shorter .ensures) _ (many-alone dataBlock dataBlockAlone dataBlock-alone (a .data-blocks) (a .map .now) (a .at)) (a .at) (w .result) _ _ _ (c .before .before .before .before .before .before .before .before .before .before .if1 .left) (w .ensures)
 
 pub read-way-data-spec : {M : Type 1} → statement M
 read-way-data-spec =

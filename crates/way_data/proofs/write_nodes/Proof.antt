@@ -8,7 +8,7 @@ write-nodes-spec =
     (tie.spec
     (λ c. search nodes)
     (λ c κs. search nodes)
-    (λ c κs. tt)
+    (λ c κs. search nodes)
     (λ c. search nodes)
     (λ c. search nodes)
     (λ c. search nodes)

@@ -1,5 +1,5 @@
 use Rattle.format.specs.Tile.{wayFields}
-use Rattle.way_fields.proofs.WayFieldLaws.{reads}
+use Rattle.way_fields.proofs.WayFieldLaws.{reads, no-label, all-announced}
 use Rattle.way_fields.proofs.read_announced.Statement.{statement}
 use Rattle.way_fields.proofs.read_announced.Tie as tie
 
@@ -23,9 +23,9 @@ returns : tie.Need-returns
 unfolding wayFields
 returns c = search reads depth 12 fits 5000
 
-read-optional-text-requires : tie.Need-read-optional-text-requires
+read-noted-text-requires : tie.Need-read-noted-text-requires
 unfolding wayFields
-read-optional-text-requires = search reads
+read-noted-text-requires = search reads
 
 enum-known-got-2 : tie.Need-enum-known-got-2
 unfolding wayFields
@@ -35,17 +35,17 @@ enum-told-2 : tie.Need-enum-told-2
 unfolding wayFields
 enum-told-2 = search reads
 
-optional-span-refusal-requires : tie.Need-optional-span-refusal-requires
+noted-span-refusal-requires : tie.Need-noted-span-refusal-requires
 unfolding wayFields
-optional-span-refusal-requires = search reads
+noted-span-refusal-requires = search reads
 
 returns-2 : tie.Need-returns-2
 unfolding wayFields
 returns-2 c = search reads depth 12 fits 5000
 
-read-optional-text-requires-2 : tie.Need-read-optional-text-requires-2
+read-noted-text-requires-2 : tie.Need-read-noted-text-requires-2
 unfolding wayFields
-read-optional-text-requires-2 = search reads
+read-noted-text-requires-2 = search reads
 
 enum-known-got-3 : tie.Need-enum-known-got-3
 unfolding wayFields
@@ -55,17 +55,17 @@ enum-told-3 : tie.Need-enum-told-3
 unfolding wayFields
 enum-told-3 = search reads
 
-optional-span-refusal-requires-2 : tie.Need-optional-span-refusal-requires-2
+noted-span-refusal-requires-2 : tie.Need-noted-span-refusal-requires-2
 unfolding wayFields
-optional-span-refusal-requires-2 = search reads
+noted-span-refusal-requires-2 = search reads
 
 returns-3 : tie.Need-returns-3
 unfolding wayFields
 returns-3 c = search reads depth 12 fits 5000
 
-read-optional-text-requires-3 : tie.Need-read-optional-text-requires-3
+read-noted-text-requires-3 : tie.Need-read-noted-text-requires-3
 unfolding wayFields
-read-optional-text-requires-3 = search reads
+read-noted-text-requires-3 = search reads
 
 enum-known-got-4 : tie.Need-enum-known-got-4
 unfolding wayFields
@@ -75,9 +75,9 @@ enum-told-4 : tie.Need-enum-told-4
 unfolding wayFields
 enum-told-4 = search reads
 
-optional-span-refusal-requires-3 : tie.Need-optional-span-refusal-requires-3
+noted-span-refusal-requires-3 : tie.Need-noted-span-refusal-requires-3
 unfolding wayFields
-optional-span-refusal-requires-3 = search reads
+noted-span-refusal-requires-3 = search reads
 
 returns-4 : tie.Need-returns-4
 unfolding wayFields
@@ -101,11 +101,27 @@ label-refusal-requires = search reads
 
 returns-5 : tie.Need-returns-5
 unfolding wayFields
-returns-5 c = search reads depth 12 fits 5000
+returns-5 c =
+    let a = c .before .before .before .before .before .before .before .before .before .before .before .before .before .before .before .before .before .before .before .before .before .args in
+    no-label (a .map .now) (a .at)
+    _ (c .before .before .before .before .before .before .before .before .before .before .before .before .before .before .before .before .before .before .before .read-u8 .ensures) _ _ (c .before .before .before .before .before .before .before .before .before .before .before .before .before .before .before .before .before .got .given .1)
+    _ (c .before .before .before .before .before .before .before .before .before .before .before .before .before .before .before .read-noted-text .ensures) _ _ (c .before .before .before .before .before .before .before .before .before .before .before .before .before .got2 .given .1)
+    _ (c .before .before .before .before .before .before .before .before .before .before .before .read-noted-text2 .ensures) _ _ (c .before .before .before .before .before .before .before .before .before .got3 .given .1)
+    _ (c .before .before .before .before .before .before .before .read-noted-text3 .ensures) _ _ (c .before .before .before .before .before .got4 .given .1)
+    _ (c .before .before .before .read-label .ensures)
+    (c .before .enum-told5 .given .0 .0) _ (c .before .enum-told5 .given .1) (c .label-refusal .ensures)
 
 returns-6 : tie.Need-returns-6
 unfolding wayFields
-returns-6 c = search reads depth 12 fits 5000
+returns-6 c =
+    let a = c .before .before .before .before .before .before .before .before .before .before .before .before .before .before .before .before .before .before .before .before .before .before .before .before .args in
+    all-announced (a .map .now) (a .at)
+    _ (c .before .before .before .before .before .before .before .before .before .before .before .before .before .before .before .before .before .before .before .before .before .before .read-u8 .ensures) _ _ (c .before .before .before .before .before .before .before .before .before .before .before .before .before .before .before .before .before .before .before .before .got .given .1)
+    _ (c .before .before .before .before .before .before .before .before .before .before .before .before .before .before .before .before .before .before .read-noted-text .ensures) _ _ (c .before .before .before .before .before .before .before .before .before .before .before .before .before .before .before .before .got2 .given .1)
+    _ (c .before .before .before .before .before .before .before .before .before .before .before .before .before .before .read-noted-text2 .ensures) _ _ (c .before .before .before .before .before .before .before .before .before .before .before .before .got3 .given .1)
+    _ (c .before .before .before .before .before .before .before .before .before .before .read-noted-text3 .ensures) _ _ (c .before .before .before .before .before .before .before .before .got4 .given .1)
+    _ (c .before .before .before .before .before .before .read-label .ensures)
+    _ _ _ (c .before .before .before .before .got5 .given .1)
 
 pub read-announced-spec : {M : Type 1} → statement M
 read-announced-spec =
@@ -116,20 +132,20 @@ read-announced-spec =
     enum-told
     byte-refusal-requires
     returns
-    read-optional-text-requires
+    read-noted-text-requires
     enum-known-got-2
     enum-told-2
-    optional-span-refusal-requires
+    noted-span-refusal-requires
     returns-2
-    read-optional-text-requires-2
+    read-noted-text-requires-2
     enum-known-got-3
     enum-told-3
-    optional-span-refusal-requires-2
+    noted-span-refusal-requires-2
     returns-3
-    read-optional-text-requires-3
+    read-noted-text-requires-3
     enum-known-got-4
     enum-told-4
-    optional-span-refusal-requires-3
+    noted-span-refusal-requires-3
     returns-4
     read-label-requires
     enum-known-got-5

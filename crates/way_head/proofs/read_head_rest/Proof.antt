@@ -51,6 +51,10 @@ returns-2 : tie.Need-returns-2
 unfolding headRest
 returns-2 c = search rests
 
+both-requires : tie.Need-both-requires
+unfolding headRest
+both-requires c κs = tt
+
 returns-3 : tie.Need-returns-3
 unfolding headRest
 returns-3 c = search rests depth 8 fits 5000
@@ -71,4 +75,5 @@ read-head-rest-spec =
     end-refusal-requires
     refused-head-requires-2
     returns-2
+    both-requires
     returns-3)

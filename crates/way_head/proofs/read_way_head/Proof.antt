@@ -39,9 +39,9 @@ enum-told-2 : tie.Need-enum-told-2
 unfolding head
 enum-told-2 = search heads
 
-number-refusal-requires : tie.Need-number-refusal-requires
+vbe-refusal-requires : tie.Need-vbe-refusal-requires
 unfolding head
-number-refusal-requires = search heads
+vbe-refusal-requires = search heads
 
 refused-head-requires-2 : tie.Need-refused-head-requires-2
 unfolding head
@@ -72,7 +72,7 @@ read-way-head-spec =
     read-vbe-u-int-requires
     enum-known-got-2
     enum-told-2
-    number-refusal-requires
+    vbe-refusal-requires
     refused-head-requires-2
     returns-2
     read-head-rest-requires

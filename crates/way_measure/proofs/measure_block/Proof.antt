@@ -15,9 +15,9 @@ enum-told : tie.Need-enum-told
 unfolding block
 enum-told c = c .match .keys2
 
-number-refusal-requires : tie.Need-number-refusal-requires
+vbe-refusal-requires : tie.Need-vbe-refusal-requires
 unfolding block
-number-refusal-requires c κs = tt
+vbe-refusal-requires c κs = tt
 
 returns : tie.Need-returns
 unfolding block
@@ -53,7 +53,7 @@ returns-3 c = search measures
 
 returns-4 : tie.Need-returns-4
 unfolding block
-returns-4 c = search measures
+returns-4 c = search measures depth 8
 
 pub measure-block-spec : {M : Type 1} → statement M
 measure-block-spec =
@@ -62,7 +62,7 @@ measure-block-spec =
     read-vbe-u-int-requires
     enum-known-got
     enum-told
-    number-refusal-requires
+    vbe-refusal-requires
     returns
     returns-2
     mul-skip-coordinates

@@ -4,23 +4,23 @@ use Prim.Native.Nat.{_≤_, _-_}
 use mathlib.Core.Path.{_≡_}
 use Rattle.parsing.specs.Parse.{ok, mapRes, many}
 use Rattle.format.specs.WayData.{block}
-use Rattle.way_measure.specs.Answers.{sizesOf}
-use Rattle.way_measure.proofs.MeasureLaws.{over-blocks, blocks-more, blocks-stop}
+use Rattle.way_measure.specs.Answers.{blocksSizes}
+use Rattle.way_measure.proofs.MeasureLaws.{over-blocks, blocks-none, blocks-more, blocks-stop}
 use Rattle.way_measure.proofs.measure_blocks.Statement.{statement}
 use Rattle.way_measure.proofs.measure_blocks.Tie as tie
 
 abbrev Inv-loop : tie.InvT-loop
-Inv-loop map at n next₀ nodes₀ i₀ next nodes i =
-    (i ≤ n) × (mapRes sizesOf (many block i map at) ≡ ok (record { blocks = i; nodes = nodes }) next)
+Inv-loop map at n plain next₀ nodes₀ all₀ i₀ next nodes all i =
+    (i ≤ n) × (mapRes (blocksSizes plain) (many block i map at) ≡ ok (record { blocks = i; nodes = nodes; plain = all }) next)
 
 abbrev μ-loop : tie.MeasureT-loop
-μ-loop map at n next₀ nodes₀ i₀ next nodes i = n - i
+μ-loop map at n plain next₀ nodes₀ all₀ i₀ next nodes all i = n - i
 
 loop-holds : tie.Need-loop-holds Inv-loop μ-loop
-loop-holds c = search over-blocks
+loop-holds c = let a = c .before .args in (omega arith, blocks-none (a .plain) (a .map .now) (a .at))
 
 returns : tie.Need-returns Inv-loop μ-loop
-returns c = let a = c .before .before .before .before .before .before .before .args in let l = c .before .before .before .before .before .loop in let e = c .before .enum-told in blocks-stop (a .map .now) (l .i) (a .at) (l .next) _ _ _ (e .given .0 .0) _ (l .inv .1) (c .before .before .before .measure-block .ensures) (e .given .1) (c .number-refusal .ensures) (c .before .before .before .before .loop-test .taken)
+returns c = let a = c .before .before .before .before .before .before .before .args in let l = c .before .before .before .before .before .loop in let e = c .before .enum-told in blocks-stop (a .plain) (a .map .now) (l .i) (a .at) (l .next) _ _ _ _ (e .given .0 .0) _ (l .inv .1) (c .before .before .before .measure-block .ensures) (e .given .1) (c .vbe-refusal .ensures) (c .before .before .before .before .loop-test .taken)
 
 add-nodes : tie.Need-add-nodes Inv-loop μ-loop
 add-nodes c = search over-blocks
@@ -32,10 +32,10 @@ loop-less : tie.Need-loop-less Inv-loop μ-loop
 loop-less c = search over-blocks
 
 loop-again : tie.Need-loop-again Inv-loop μ-loop
-loop-again c = let a = c .before .before .before .before .before .before .before .args in let l = c .before .before .before .before .before .loop in (omega arith, blocks-more (a .map .now) (l .i) (a .at) (l .next) _ _ _ _ _ (l .inv .1) (c .before .before .before .measure-block .ensures) (c .before .got .given .1))
+loop-again c = let a = c .before .before .before .before .before .before .before .before .before .args in let l = c .before .before .before .before .before .before .before .loop in (omega arith, blocks-more (a .plain) (a .map .now) (l .i) (a .at) (l .next) _ _ _ _ _ _ (l .inv .1) (c .before .before .before .before .before .measure-block .ensures) (c .before .before .before .got .given .1))
 
 returns-2 : tie.Need-returns-2 Inv-loop μ-loop
-returns-2 c = let a = c .before .before .before .args in let l = c .before .loop in counted sizesOf block (a .map .now) (l .i) _ (a .at) _ _ (l .inv .1) (l .inv .0) (c .loop-test .left)
+returns-2 c = let a = c .before .before .before .args in let l = c .before .loop in counted (blocksSizes (a .plain)) block (a .map .now) (l .i) _ (a .at) _ _ (l .inv .1) (l .inv .0) (c .loop-test .left)
 
 pub measure-blocks-spec : {M : Type 1} → statement M
 measure-blocks-spec =

@@ -15,9 +15,9 @@ enum-told : tie.Need-enum-told
 unfolding dataBlock
 enum-told c = c .match .keys2
 
-number-refusal-requires : tie.Need-number-refusal-requires
+vbe-refusal-requires : tie.Need-vbe-refusal-requires
 unfolding dataBlock
-number-refusal-requires c κs = tt
+vbe-refusal-requires c κs = tt
 
 returns : tie.Need-returns
 unfolding dataBlock
@@ -38,7 +38,7 @@ measure-data-block-spec =
     read-vbe-u-int-requires
     enum-known-got
     enum-told
-    number-refusal-requires
+    vbe-refusal-requires
     returns
     measure-blocks-requires
     returns-2)

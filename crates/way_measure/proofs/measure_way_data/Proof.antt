@@ -9,11 +9,11 @@ use Rattle.way_measure.proofs.measure_way_data.Statement.{statement}
 use Rattle.way_measure.proofs.measure_way_data.Tie as tie
 
 abbrev Inv-loop : tie.InvT-loop
-Inv-loop map at n next₀ blocks₀ nodes₀ i₀ next b w i =
-    (i ≤ n) × (mapRes waySizes (many dataBlock i map at) ≡ ok (record { blocks = b; nodes = w }) next)
+Inv-loop map at n next₀ blocks₀ nodes₀ plain₀ i₀ next b w plain i =
+    (i ≤ n) × (mapRes waySizes (many dataBlock i map at) ≡ ok (record { blocks = b; nodes = w; plain = plain }) next)
 
 abbrev μ-loop : tie.MeasureT-loop
-μ-loop map at n next₀ blocks₀ nodes₀ i₀ next b w i = n - i
+μ-loop map at n next₀ blocks₀ nodes₀ plain₀ i₀ next b w plain i = n - i
 
 loop-holds : tie.Need-loop-holds Inv-loop μ-loop
 unfolding wayData
@@ -37,7 +37,7 @@ way-data-refusal-requires c κs = tt
 
 returns : tie.Need-returns Inv-loop μ-loop
 unfolding wayData
-returns c = let a = c .before .before .before .before .before .before .before .args in let l = c .before .before .before .before .before .loop in let e = c .before .enum-told in data-stop (a .map .now) (l .i) (a .at) (l .next) _ _ _ _ (e .given .0 .0) _ (l .inv .1) (c .before .before .before .measure-data-block .ensures) (e .given .1) (c .way-data-refusal .ensures) (c .before .before .before .before .loop-test .taken)
+returns c = let a = c .before .before .before .before .before .before .before .args in let l = c .before .before .before .before .before .loop in let e = c .before .enum-told in data-stop (a .map .now) (l .i) (a .at) (l .next) _ _ _ _ _ (e .given .0 .0) _ (l .inv .1) (c .before .before .before .measure-data-block .ensures) (e .given .1) (c .way-data-refusal .ensures) (c .before .before .before .before .loop-test .taken)
 
 add-blocks : tie.Need-add-blocks Inv-loop μ-loop
 unfolding wayData
@@ -57,7 +57,7 @@ loop-less c = search over-data
 
 loop-again : tie.Need-loop-again Inv-loop μ-loop
 unfolding wayData
-loop-again c = let a = c .before .before .before .before .before .before .before .before .before .args in let l = c .before .before .before .before .before .before .before .loop in (omega arith, data-more (a .map .now) (l .i) (a .at) (l .next) _ _ _ _ _ (l .inv .1) (c .before .before .before .before .before .measure-data-block .ensures) (c .before .before .before .got .given .1))
+loop-again c = let a = c .before .before .before .before .before .before .before .before .before .before .args in let l = c .before .before .before .before .before .before .before .before .loop in (omega arith, data-more (a .map .now) (l .i) (a .at) (l .next) _ _ _ _ _ _ (l .inv .1) (c .before .before .before .before .before .before .measure-data-block .ensures) (c .before .before .before .before .got .given .1))
 
 returns-2 : tie.Need-returns-2 Inv-loop μ-loop
 unfolding wayData

@@ -1,16 +1,16 @@
 use Prim.Native.Nat.{_≤_, _-_}
-use mathlib.Core.Path.{_≡_}
+use mathlib.Core.Path.{_≡_, ap}
 use Rattle.parsing.specs.Parse.{ok, many, mapRes}
+use Rattle.utils.specs.Vbe.{valuesOf}
 use Rattle.format.specs.Tile.{row}
-use Rattle.zoom_table.specs.Blocks.{filledRows}
 use native.Mathlib.Omega.{arith}
 use Rattle.types.proofs.BesideLaws.{beside-done, beside-no}
-use Rattle.zoom_table.proofs.BlockLaws.{rows-more, row-no, rows-done, fills}
+use Rattle.zoom_table.proofs.BlockLaws.{filled, rows-more, row-no, rows-done, fills}
 use Rattle.zoom_table.proofs.fill_rows.Statement.{statement}
 use Rattle.zoom_table.proofs.fill_rows.Tie as tie
 
 abbrev Inv-loop : tie.InvT-loop
-Inv-loop map at count rows₀ next₀ i₀ rows next i = (i ≤ count) × (mapRes filledRows (many row i map at) ≡ ok rows next)
+Inv-loop map at count rows₀ next₀ i₀ rows next i = (i ≤ count) × (mapRes filled (many row i map at) ≡ ok rows next)
 
 abbrev μ-loop : tie.MeasureT-loop
 μ-loop map at count rows₀ next₀ i₀ rows next i = count - i
@@ -18,7 +18,7 @@ abbrev μ-loop : tie.MeasureT-loop
 returns : tie.Need-returns Inv-loop μ-loop
 returns c =
     beside-no _ _ _ _ _ _ (c .refused-table .ensures .0) (c .refused-table .ensures .1)
-    (row-no _ _ _ _ _ _ _ _ _ _ (c .before .before .before .before .before .before .loop .inv .1) (c .before .before .before .before .read-row .ensures) (c .before .before .enum-told .given .1) (c .before .row-refusal .ensures) (c .before .before .before .before .before .loop-test .taken))
+    (ap (mapRes valuesOf) (row-no _ _ _ _ _ _ _ _ _ _ (c .before .before .before .before .before .before .loop .inv .1) (c .before .before .before .before .read-row .ensures) (c .before .before .enum-told .given .1) (c .before .row-refusal .ensures) (c .before .before .before .before .before .loop-test .taken)))
 
 loop-again : tie.Need-loop-again Inv-loop μ-loop
 loop-again c = (omega arith, rows-more _ _ _ _ _ _ _ _ _ (c .before .before .before .before .before .loop .inv .1) (c .before .before .before .read-row .ensures) (c .before .got .given .1) (c .before .before .before .before .loop-test .taken) (c .before .before .before .before .before .before .before .pre))

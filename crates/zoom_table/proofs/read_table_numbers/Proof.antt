@@ -1,10 +1,13 @@
+use mathlib.Core.Path.{ap}
+use Rattle.parsing.specs.Parse.{mapRes}
+use Rattle.utils.specs.Vbe.{valuesOf}
 use Rattle.types.proofs.BesideLaws.{beside-no}
 use Rattle.zoom_table.proofs.BlockLaws.{table-reversed, table-known, tables}
 use Rattle.zoom_table.proofs.read_table_numbers.Statement.{statement}
 use Rattle.zoom_table.proofs.read_table_numbers.Tie as tie
 
 returns : tie.Need-returns
-returns c = beside-no _ _ _ _ _ _ (c .refused-table .ensures .0) (c .refused-table .ensures .1) (table-reversed _ _ _ _ (c .before .if1 .taken))
+returns c = beside-no _ _ _ _ _ _ (c .refused-table .ensures .0) (c .refused-table .ensures .1) (ap (mapRes valuesOf) (table-reversed _ _ _ _ (c .before .if1 .taken)))
 
 cast-fill-rows : tie.Need-cast-fill-rows
 cast-fill-rows = search tables

@@ -14,9 +14,9 @@ returns-3 c =
 
 returns-4 : tie.Need-returns-4
 returns-4 c =
-    both-ok _ _ _ _ _ _ _ _ _ _ _ _ _ _
-    (c .before .before .before .before .before .before .before .before .before .sum-rows .ensures) (c .before .before .before .before .before .before .before .got .given .1) (c .before .before .before .before .before .sum-rows2 .ensures) (c .before .before .before .got2 .given .1) (c .before .before .before .before .before .before .before .before .before .before .before .if1 .left) (c .before .before .before .before .before .before .before .before .before .before .rows-upto .ensures .0) (c .before .before .before .before .before .before .before .before .before .before .rows-upto .ensures .1)
-    (c .before .saturating-add-usize .ensures) (c .saturating-add-usize2 .ensures)
+    both-ok _ _ _ _ _ _ _ _ _ _ _ _ _ _ _
+    (c .before .before .before .before .before .before .before .before .before .before .sum-rows .ensures) (c .before .before .before .before .before .before .before .before .got .given .1) (c .before .before .before .before .before .before .sum-rows2 .ensures) (c .before .before .before .before .got2 .given .1) (c .before .before .before .before .before .before .before .before .before .before .before .before .if1 .left) (c .before .before .before .before .before .before .before .before .before .before .before .rows-upto .ensures .0) (c .before .before .before .before .before .before .before .before .before .before .before .rows-upto .ensures .1)
+    (c .before .before .saturating-add-usize .ensures) (c .before .saturating-add-usize2 .ensures) (c .both .ensures)
 
 returns : tie.Need-returns
 returns c = sum-reversed _ _ _ _ 0 _ (c .if1 .taken)
@@ -52,6 +52,7 @@ sum-table-numbers-spec =
     (λ c. c .match2 .keys2)
     (λ c κs. tt)
     returns-3
+    (λ c κs. tt)
     (λ c κs. tt)
     (λ c κs. tt)
     returns-4)

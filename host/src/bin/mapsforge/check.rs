@@ -5,14 +5,14 @@ use crate::input::{self, Source};
 use crate::json::Value;
 use crate::output::{clean, count, position, position_value, tags, Unheard};
 use crate::{Failure, Outcome, Status};
-use mapsforge::check::{every_tile, FeatureNote, Finding, Sum, Watch};
+use mapsforge::check::{every_tile, FeatureNote, Finding, Padded, Sum, Waste, Watch};
 use mapsforge::Map;
 use std::io::{self, IsTerminal, Write};
 use std::thread;
 use std::time::{Duration, Instant};
 
 pub const HELP: &str = "\
-mapsforge check MAP... [--json] [--all]
+mapsforge check MAP... [--json] [--all] [--padding]
 
 Says whether maps can be used. It reads every tile of every sub file, and asks the library
 whether the tile collects, whether every stored size is the decoded length, and whether the
@@ -27,7 +27,13 @@ read. An empty tile is no finding: the index says that it has no features.
 
     --json         one document for a program; docs/JSON.md describes it
     --all          all findings of a map, not only the first 100
+    --padding      also lists what wastes bytes on numbers, and counts the bytes
     --threads N    use N threads instead of one for each processor
+
+With --padding there is a line for each tile head, point and way of which a number is longer
+than it need be, or is minus zero. The library says which they are; how many bytes they waste
+is counted from the map's bytes. It is no finding: the map can be used. --all lists all of
+them, not only the first 100. A line behind them has the sums.
 
 The status is 0 if all maps pass, 1 if one has findings, 2 if one could not be looked at. It
 is the same if nobody reads the output to its end.
@@ -36,10 +42,11 @@ is the same if nobody reads the output to its end.
 pub const OPTIONS: &[Choice] = &[
     Choice { long: "--json", short: None, valued: false },
     Choice { long: "--all", short: None, valued: false },
+    Choice { long: "--padding", short: None, valued: false },
     Choice { long: "--threads", short: None, valued: true },
 ];
 
-/// How many findings of a map are shown.
+/// How many findings of a map are shown, and how much that is padded.
 const SHOWN: u64 = 100;
 
 pub fn run(args: &Args, out: &mut dyn Write) -> Outcome {
@@ -65,6 +72,7 @@ pub fn run(args: &Args, out: &mut dyn Write) -> Outcome {
 pub struct How {
     pub shown: u64,
     pub threads: usize,
+    pub padding: bool,
 }
 
 impl How {
@@ -72,7 +80,8 @@ impl How {
         let shown = if args.has("--all") { u64::MAX } else { SHOWN };
         let threads = args.number("--threads", "a number of threads")?;
         let all = || thread::available_parallelism().map_or(1, usize::from);
-        Ok(How { shown, threads: threads.unwrap_or_else(all).max(1) })
+        let threads = threads.unwrap_or_else(all).max(1);
+        Ok(How { shown, threads, padding: args.has("--padding") })
     }
 }
 
@@ -86,8 +95,12 @@ pub struct Checked {
 pub struct Seen {
     pub sub_files: usize,
     pub sum: Sum,
+    /// The size of the file.
+    pub bytes: u64,
     /// The first findings, where they were kept.
     pub findings: Vec<Finding>,
+    /// The first of what is padded, where that was looked for.
+    pub padded: Option<Vec<Padded>>,
 }
 
 impl Checked {
@@ -125,10 +138,37 @@ impl Seen {
     }
 }
 
+impl Seen {
+    /// What is padded, in a sentence.
+    fn padding(&self) -> String {
+        let sum = &self.sum.padding;
+        let tiles = count(sum.looked_at, "tile");
+        let unread = match self.sum.tiles - sum.looked_at {
+            0 => String::new(),
+            1 => "; 1 tile that does not collect is not counted".into(),
+            more => format!("; {more} tiles that do not collect are not counted"),
+        };
+        if sum.tiles == 0 {
+            return format!("padding: no byte is wasted, all numbers of {tiles} are plain{unread}");
+        }
+        format!(
+            "padding: {} of {} wasted by {}, in {} of {tiles}: {}, {}, {}{unread}",
+            count(sum.waste.bytes, "byte"),
+            self.bytes,
+            numbers(&sum.waste),
+            sum.tiles,
+            count(sum.heads, "tile head"),
+            count(sum.points, "point"),
+            count(sum.ways, "way")
+        )
+    }
+}
+
 /// Checks a map.
 fn look(map: &Map<'_>, how: &How, watch: &mut impl Watch) -> Seen {
     let sum = every_tile(map, how.threads, watch);
-    Seen { sub_files: map.intervals().len(), sum, findings: Vec::new() }
+    let (sub_files, bytes) = (map.intervals().len(), map.bytes().len() as u64);
+    Seen { sub_files, sum, bytes, findings: Vec::new(), padded: None }
 }
 
 /// Opens a map and checks it.
@@ -140,16 +180,25 @@ fn open_and_look(source: &Source, look: impl FnOnce(&Map<'_>) -> Seen) -> Checke
 
 /// Checks a map, and keeps the first findings.
 pub fn gather(map: &Map<'_>, how: &How) -> Seen {
-    let mut kept = Keeping { shown: how.shown, findings: Vec::new(), bar: Bar::default() };
+    let padded = how.padding.then(Vec::new);
+    let mut kept = Keeping { shown: how.shown, findings: Vec::new(), padded, bar: Bar::default() };
     let seen = look(map, how, &mut kept);
     kept.bar.clear();
-    Seen { findings: kept.findings, ..seen }
+    Seen { findings: kept.findings, padded: kept.padded, ..seen }
 }
 
 struct Keeping {
     shown: u64,
     findings: Vec<Finding>,
+    padded: Option<Vec<Padded>>,
     bar: Bar,
+}
+
+/// Keeps what is padded, if it is wanted and not too much.
+fn keep(kept: &mut Option<Vec<Padded>>, shown: u64, padded: Padded) {
+    if let Some(kept) = kept.as_mut().filter(|kept| (kept.len() as u64) < shown) {
+        kept.push(padded);
+    }
 }
 
 impl Watch for Keeping {
@@ -159,17 +208,26 @@ impl Watch for Keeping {
         }
     }
 
+    fn wanted_padding(&self) -> Option<u64> {
+        self.padded.as_ref().map(|_| self.shown)
+    }
+
+    fn padded(&mut self, padded: Padded) {
+        keep(&mut self.padded, self.shown, padded);
+    }
+
     fn done(&mut self, tiles: u64, all: u64) {
         self.bar.step(tiles, all);
     }
 }
 
-/// Writes each finding as it is met.
+/// Writes each finding as it is met, and keeps what is padded.
 struct Writing<'o> {
     out: &'o mut dyn Write,
     failed: Option<io::Error>,
     shown: u64,
     met: u64,
+    padded: Option<Vec<Padded>>,
     bar: Bar,
 }
 
@@ -189,6 +247,14 @@ impl Watch for Writing<'_> {
         self.failed = done.err();
     }
 
+    fn wanted_padding(&self) -> Option<u64> {
+        self.padded.as_ref().map(|_| self.shown)
+    }
+
+    fn padded(&mut self, padded: Padded) {
+        keep(&mut self.padded, self.shown, padded);
+    }
+
     fn done(&mut self, tiles: u64, all: u64) {
         self.bar.step(tiles, all);
     }
@@ -196,17 +262,22 @@ impl Watch for Writing<'_> {
 
 /// Checks a map, and writes what is found and the verdict.
 fn tell(source: &Source, how: &How, out: &mut dyn Write) -> io::Result<Checked> {
-    let bar = Bar::default();
-    let mut writing = Writing { out, failed: None, shown: how.shown, met: 0, bar };
+    let (bar, padded) = (Bar::default(), how.padding.then(Vec::new));
+    let mut writing = Writing { out, failed: None, shown: how.shown, met: 0, padded, bar };
     let checked = open_and_look(source, |map| look(map, how, &mut writing));
     writing.bar.clear();
-    let Writing { failed, met, .. } = writing;
+    let Writing { failed, met, padded, .. } = writing;
     failed.map_or(Ok(()), Err)?;
     if met > how.shown {
         writeln!(out, "... and {} more: --all shows them", met - how.shown)?;
     }
     match &checked.result {
-        Ok(seen) => writeln!(out, "{}", seen.counted())?,
+        Ok(seen) => {
+            if let Some(padded) = padded {
+                tell_padding(seen, &padded, out)?;
+            }
+            writeln!(out, "{}", seen.counted())?;
+        }
         Err(why) => {
             // What was written before comes first.
             out.flush()?;
@@ -215,6 +286,46 @@ fn tell(source: &Source, how: &How, out: &mut dyn Write) -> io::Result<Checked> 
     }
     writeln!(out, "{}: {}", checked.verdict(), clean(&checked.name))?;
     Ok(checked)
+}
+
+/// Writes what is padded, a line for each, and the sums.
+fn tell_padding(seen: &Seen, padded: &[Padded], out: &mut dyn Write) -> io::Result<()> {
+    for padded in padded {
+        writeln!(out, "padded: {}", padded_text(padded))?;
+    }
+    let sum = &seen.sum.padding;
+    let more = sum.heads + sum.points + sum.ways - padded.len() as u64;
+    if more > 0 {
+        writeln!(out, "... and {more} more that are padded: --all shows them")?;
+    }
+    writeln!(out, "{}", seen.padding())
+}
+
+/// What is padded, in a line: where, what, and how much it wastes.
+fn padded_text(padded: &Padded) -> String {
+    let Padded { covered, tile, waste, .. } = padded;
+    let feature = padded.feature.as_ref().map_or("the tile's head".into(), feature_text);
+    format!(
+        "sub file {}, tile {} ({}/{}/{}), byte {}: {feature}: {} of {} wasted by {}",
+        covered.sub_file,
+        tile.number,
+        covered.base_zoom,
+        tile.x,
+        tile.y,
+        padded.byte,
+        count(waste.bytes, "byte"),
+        padded.size,
+        numbers(waste)
+    )
+}
+
+/// How many numbers are not plain.
+fn numbers(waste: &Waste) -> String {
+    let numbers = count(waste.numbers, "number");
+    match waste.minus_zeros {
+        0 => numbers,
+        zeros => format!("{numbers} ({zeros} minus zero)"),
+    }
 }
 
 /// The feature of a finding, as a person knows it.
@@ -293,6 +404,46 @@ fn map_value(checked: &Checked) -> Value {
         .with("ways", Value::Whole(seen.sum.ways))
         .with("finding_count", Value::Whole(seen.sum.findings))
         .with("findings", Value::List(seen.findings.iter().map(finding_value).collect()))
+        .with(
+            "padding",
+            Value::optional(seen.padded.as_ref(), |padded| padding_value(seen, padded)),
+        )
+}
+
+fn padding_value(seen: &Seen, padded: &[Padded]) -> Value {
+    let sum = &seen.sum.padding;
+    let whole = Value::Whole;
+    Value::object([
+        ("looked_at_tiles", whole(sum.looked_at)),
+        ("padded_tiles", whole(sum.tiles)),
+        ("padded_heads", whole(sum.heads)),
+        ("padded_points", whole(sum.points)),
+        ("padded_ways", whole(sum.ways)),
+        ("numbers", whole(sum.waste.numbers)),
+        ("minus_zeros", whole(sum.waste.minus_zeros)),
+        ("wasted_bytes", whole(sum.waste.bytes)),
+        ("map_bytes", whole(seen.bytes)),
+        ("padded", Value::List(padded.iter().map(padded_value).collect())),
+    ])
+}
+
+fn padded_value(padded: &Padded) -> Value {
+    let Padded { covered, tile, waste, .. } = padded;
+    let whole = |number: usize| Value::Whole(number as u64);
+    Value::object([
+        ("sub_file", whole(covered.sub_file)),
+        ("tile", whole(tile.number)),
+        ("tile_zoom", Value::Whole(covered.base_zoom.into())),
+        ("tile_x", Value::Signed(tile.x.into())),
+        ("tile_y", Value::Signed(tile.y.into())),
+        ("around", Value::optional(padded.around, position_value)),
+        ("byte", Value::Whole(padded.byte)),
+        ("size", Value::Whole(padded.size)),
+        ("numbers", Value::Whole(waste.numbers)),
+        ("minus_zeros", Value::Whole(waste.minus_zeros)),
+        ("wasted_bytes", Value::Whole(waste.bytes)),
+        ("feature", Value::optional(padded.feature.as_ref(), feature_value)),
+    ])
 }
 
 fn finding_value(finding: &Finding) -> Value {

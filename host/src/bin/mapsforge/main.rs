@@ -17,10 +17,12 @@ mod output;
 mod query;
 mod report;
 mod result;
+mod rules;
 mod show;
 mod svg;
 mod target;
 mod tiles;
+mod window;
 
 use args::{Args, Choice};
 use mapsforge::{Refusal, TilePlace};
@@ -34,12 +36,14 @@ mapsforge looks into Mapsforge binary maps: checks, compares and draws them.
     mapsforge diff OLD NEW      what was added, removed, moved or renamed
     mapsforge report MAP...     verdicts, findings and pictures as a page for a browser
     mapsforge svg MAP TILE      a drawing of a tile, or of a square around a place
+    mapsforge rules MAP FILE    whether showing rules can be used
     mapsforge list MAP          the features, by tag or box
     mapsforge at MAP LAT,LON    what is at a place
     mapsforge export MAP        the features as GeoJSON
     mapsforge info MAP          what the header says
     mapsforge tiles MAP         the sub files, their grids and each tile
     mapsforge show MAP TILE     the features of a tile
+    mapsforge window MAP ...    the tiles that a window touches, and their touched cells
 
 TILE is SUBFILE:NUMBER, SUBFILE:X,Y or ZOOM/X/Y; `mapsforge tiles MAP` lists them.
 MAP is a file, or - for standard input.
@@ -59,12 +63,14 @@ const COMMANDS: &[Command] = &[
     Command { name: "diff", help: diff::HELP, options: diff::OPTIONS, run: diff::run },
     Command { name: "report", help: report::HELP, options: report::OPTIONS, run: report::run },
     Command { name: "svg", help: svg::HELP, options: svg::OPTIONS, run: svg::run },
+    Command { name: "rules", help: rules::HELP, options: rules::OPTIONS, run: rules::run },
     Command { name: "list", help: list::HELP, options: list::OPTIONS, run: list::run },
     Command { name: "at", help: at::HELP, options: at::OPTIONS, run: at::run },
     Command { name: "export", help: export::HELP, options: export::OPTIONS, run: export::run },
     Command { name: "info", help: info::HELP, options: info::OPTIONS, run: info::run },
     Command { name: "tiles", help: tiles::HELP, options: &[], run: tiles::run },
     Command { name: "show", help: show::HELP, options: show::OPTIONS, run: show::run },
+    Command { name: "window", help: window::HELP, options: window::OPTIONS, run: window::run },
 ];
 
 /// Why a command ended early.

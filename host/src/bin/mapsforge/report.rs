@@ -3,7 +3,7 @@
 use crate::args::{Args, Choice};
 use crate::check::{feature_text, gather, place_text, Checked, How as Checking};
 use crate::draw::escape;
-use crate::draw::part::{usually_declined, Drawing, How, Part};
+use crate::draw::part::{declined, Drawing, How, Part};
 use crate::input::{self, Source};
 use crate::output::{clean, count, date, position, short, tags, Unheard};
 use crate::query::Query;
@@ -76,11 +76,10 @@ struct Asked {
 
 impl Asked {
     fn new(args: &Args) -> Result<Asked, Failure> {
-        let named = args.tags("--decline")?;
         let how = How {
             collected: true,
             streamed: true,
-            declined: if named.is_empty() { usually_declined() } else { named },
+            declined: declined(args.tags("--decline")?),
             required: args.tags("--must-show")?,
             language: args.value("--language").map(String::from),
         };

@@ -1,8 +1,7 @@
 //! Two readings of the same tiles, and what differs.
 
 use super::labels::describe;
-use super::scene::{Drawn, Look, Scene};
-use mapsforge::TagFilter;
+use super::scene::{Declined, Drawn, Look, Scene};
 use std::collections::HashMap;
 
 /// What a reading has of a feature, to be compared: everything but its number.
@@ -45,7 +44,8 @@ impl Differences {
 pub fn compare(
     collected: &mut Scene<'_>,
     streamed: &mut Scene<'_>,
-    declined: &[TagFilter],
+    declined: &Declined,
+    zoom: u8,
 ) -> Differences {
     let mut there: HashMap<String, Vec<usize>> = HashMap::new();
     for (k, drawn) in streamed.features.iter().enumerate() {
@@ -53,8 +53,9 @@ pub fn compare(
     }
     let mut collected_only = Vec::new();
     for drawn in &mut collected.features {
-        let on_purpose = !drawn.is_point()
-            && declined.iter().any(|tag| tag.is_among(drawn.feature.tags.iter().copied()));
+        let feature = &drawn.feature;
+        let on_purpose =
+            !drawn.is_point() && declined.has(&feature.tag_ids, feature.tags.iter().copied(), zoom);
         if on_purpose {
             drawn.look = Look::Pale;
         } else if there.get_mut(&seen(drawn)).and_then(Vec::pop).is_none() {

@@ -1,13 +1,14 @@
-//! A part of a map that is drawn: a tile, or a square around a place.
+//! A part of a map that is drawn: a tile, a square around a place, or a window.
 
 use super::both::{self, Differences};
 use super::labels::{self, Wanted};
 use super::picture::{self, Picture};
-use super::scene::{Reading, Scene};
+use super::scene::{Declined, Looked, Reading, Scene};
 use super::view::View;
-use crate::output::{count, position, tile as named};
-use crate::{of_tile, target, Failure};
-use mapsforge::{Map, Position, SubFile, TagFilter, TilePlace};
+use super::Pixel;
+use crate::output::{clean, count, position, tile as named};
+use crate::{of_tile, target, window, Failure};
+use mapsforge::{Map, Position, SubFile, TagFilter, TilePlace, Window};
 
 /// More tiles than this make no picture.
 const MOST_TILES: u64 = 1024;
@@ -19,14 +20,17 @@ const TOLD: usize = 24;
 pub struct How {
     pub collected: bool,
     pub streamed: bool,
-    pub declined: Vec<TagFilter>,
+    pub declined: Declined,
     pub required: Vec<TagFilter>,
     pub language: Option<String>,
 }
 
 /// The ways that a panel declines, unless others are named: roads and buildings.
-pub fn usually_declined() -> Vec<TagFilter> {
-    ["highway", "building"].map(|key| key.parse().expect("it is a key")).to_vec()
+pub fn declined(named: Vec<TagFilter>) -> Declined {
+    if !named.is_empty() {
+        return Declined::Tags(named);
+    }
+    Declined::Tags(["highway", "building"].map(|key| key.parse().expect("it is a key")).to_vec())
 }
 
 impl How {
@@ -34,19 +38,29 @@ impl How {
         Wanted { tags: &self.required, language: self.language.as_deref() }
     }
 
-    fn declined(&self) -> String {
-        let tags: Vec<_> = self.declined.iter().map(TagFilter::to_string).collect();
-        tags.join(", ")
+    /// What the panel does with ways.
+    fn panel(&self, zoom: u8) -> String {
+        match &self.declined {
+            Declined::Tags(tags) => {
+                let tags: Vec<_> = tags.iter().map(TagFilter::to_string).collect();
+                format!("panel: declines {} by stored sizes", tags.join(", "))
+            }
+            Declined::Rules(_, name) => {
+                format!("panel: shows the ways of {} at zoom {zoom}", clean(name))
+            }
+        }
     }
 }
 
 /// The part of a map that is drawn.
 pub struct Part<'m, 'a> {
     sub_file: SubFile<'m, 'a>,
-    tiles: Vec<TilePlace>,
+    tiles: Vec<Looked>,
     zoom: u8,
     view: View,
     title: String,
+    /// Where a window is in the picture: its corner, width and height.
+    frame: Option<(Pixel, Pixel)>,
     /// Whether a tile was asked for, which is then refused as such.
     single: bool,
 }
@@ -81,10 +95,11 @@ impl<'m, 'a> Part<'m, 'a> {
         let interval = sub_file.interval();
         Part {
             sub_file,
-            tiles: vec![place],
+            tiles: vec![Looked::whole(place)],
             zoom: zoom.unwrap_or(interval.max_zoom),
             view: View::of_tile(interval.base_zoom, place),
             title: named(&sub_file, place),
+            frame: None,
             single: true,
         }
     }
@@ -111,7 +126,46 @@ impl<'m, 'a> Part<'m, 'a> {
             )));
         }
         let title = format!("{metres} metres around {}, zoom {zoom}", position(at));
-        Ok(Part { sub_file, tiles, zoom, view, title, single: false })
+        let tiles = tiles.into_iter().map(Looked::whole).collect();
+        Ok(Part { sub_file, tiles, zoom, view, title, frame: None, single: false })
+    }
+
+    /// The tiles that a window touches, at the map's highest zoom or another.
+    pub fn window(
+        map: &'m Map<'a>,
+        window: Window,
+        zoom: Option<u8>,
+    ) -> Result<Part<'m, 'a>, Failure> {
+        let (sub_file, zoom) = target::zoomed_sub_file(map, zoom)?;
+        let tiles = sub_file.window(window, zoom)?;
+        if tiles.len() as u64 > MOST_TILES {
+            return Err(Failure::Mistake(format!(
+                "the window touches {} tiles, and more than {MOST_TILES} make no picture: take a \
+                 smaller one",
+                tiles.len()
+            )));
+        }
+        let tiles: Vec<_> =
+            tiles.map(|tile| Looked { place: tile.place, mask: Some(tile.mask) }).collect();
+        let [Some(first), Some(last)] = [tiles.first(), tiles.last()] else {
+            let why = window::untouched(window, &sub_file);
+            return Err(Failure::Mistake(format!("the window touches no tile: {why}")));
+        };
+        // Of a window that goes beyond the map, what the map has.
+        let ends = [
+            window.left.max(4 * i64::from(first.place.x)),
+            window.top.max(4 * i64::from(first.place.y)),
+            window.right.min(4 * i64::from(last.place.x) + 3),
+            window.bottom.min(4 * i64::from(last.place.y) + 3),
+        ];
+        let sub_zoom = u16::from(sub_file.interval().base_zoom) + 2;
+        let view = View::of_columns(sub_zoom, ends);
+        let [left, top, right, bottom] = ends;
+        let title = format!(
+            "window of sub tiles {left},{top} to {right},{bottom} of zoom {sub_zoom}, zoom {zoom}"
+        );
+        let frame = Some(view.columns(sub_zoom, ends)).filter(|_| right - left != bottom - top);
+        Ok(Part { sub_file, tiles, zoom, view, title, frame, single: false })
     }
 
     fn scene(&self, reading: Reading<'_>) -> Scene<'a> {
@@ -129,7 +183,7 @@ impl<'m, 'a> Part<'m, 'a> {
         let mut streamed = how.streamed.then(|| self.scene(Reading::Declining(&how.declined)));
         let differences = match &mut streamed {
             Some(streamed) if how.collected => {
-                Some(both::compare(&mut collected, streamed, &how.declined))
+                Some(both::compare(&mut collected, streamed, &how.declined, self.zoom))
             }
             _ => None,
         };
@@ -140,7 +194,7 @@ impl<'m, 'a> Part<'m, 'a> {
         let listed = self.picture(how, collected, heading);
         let required = listed.labels.required;
         let drawn = streamed.map(|scene| {
-            let heading = format!("panel: declines {} by stored sizes", how.declined());
+            let heading = how.panel(self.zoom);
             let lacked = lacked(differences.as_ref());
             Picture { lacks: !lacked.is_empty(), ..self.picture(how, scene, heading + &lacked) }
         });
@@ -166,6 +220,7 @@ impl<'m, 'a> Part<'m, 'a> {
             labels: labels::place(&scene, how.wanted()),
             heading: how.streamed.then_some(heading),
             lacks: false,
+            frame: self.frame,
             scene,
         }
     }

@@ -3,7 +3,7 @@
 use super::labels::{Badge, Entry, Label, Labels, BADGE};
 use super::scene::{Drawn, Look, Scene, Stopped};
 use super::style::{self, Mark, Style};
-use super::{escape, SIZE};
+use super::{escape, Pixel, SIZE};
 use crate::output::{clean, position};
 use mapsforge::SubFile;
 use std::fmt::Write;
@@ -27,6 +27,8 @@ pub struct Picture<'a> {
     pub lacks: bool,
     /// Lines below it, in red.
     pub notes: Vec<String>,
+    /// Where a window is in it: its corner, width and height.
+    pub frame: Option<(Pixel, Pixel)>,
 }
 
 /// What is said of a tile that was not read to its end.
@@ -171,6 +173,7 @@ impl Picture<'_> {
             draw_mark(point, svg);
         }
         svg.push_str("</g>\n");
+        self.draw_frame(svg);
         self.draw_labels(svg);
         svg.push_str("</svg>\n");
         let (notes, below) = (self.notes(), top + SIZE + EDGE / 2.0);
@@ -190,6 +193,17 @@ impl Picture<'_> {
                 svg,
                 "<rect x=\"{x:.1}\" y=\"{y:.1}\" width=\"{side:.1}\" height=\"{side:.1}\" \
                  fill=\"{colour}\"/>"
+            );
+        }
+    }
+
+    /// Beyond the window there is only what reaches into it.
+    fn draw_frame(&self, svg: &mut String) {
+        if let Some(((x, y), (width, height))) = self.frame {
+            let _ = writeln!(
+                svg,
+                "<rect x=\"{x:.1}\" y=\"{y:.1}\" width=\"{width:.1}\" height=\"{height:.1}\" \
+                 fill=\"none\" stroke=\"{INK}\" stroke-width=\"2\" stroke-dasharray=\"8 5\"/>"
             );
         }
     }

@@ -2,15 +2,59 @@
 
 use super::view::View;
 use super::{style, Pixel};
-use mapsforge::{Kind, Placed, Refusal, SubFile, TagFilter, TilePlace};
+use mapsforge::{raw, Kind, Placed, Refusal, Rules, SubFile, TagFilter, TagName, TilePlace};
+
+/// The ways that a panel declines.
+#[derive(Clone, Debug)]
+pub enum Declined {
+    /// Those with one of these tags.
+    Tags(Vec<TagFilter>),
+    /// Those that showing rules, of a file of this name, hide at the zoom.
+    Rules(Rules, String),
+}
+
+impl Declined {
+    /// Whether a way with these tags is declined, by their numbers or by their names.
+    pub fn has<'a>(
+        &self,
+        tag_ids: &[usize],
+        tags: impl Iterator<Item = TagName<'a>> + Clone,
+        zoom: u8,
+    ) -> bool {
+        match self {
+            Declined::Tags(filters) => filters.iter().any(|tag| tag.is_among(tags.clone())),
+            Declined::Rules(rules, _) => !rules.shows_tags(tag_ids, zoom),
+        }
+    }
+}
 
 /// How tiles are read.
 #[derive(Clone, Copy, Debug)]
 pub enum Reading<'t> {
     /// Whole: a tile that does not collect has nothing, and every way is decoded.
     Collected,
-    /// As a stream that declines the ways of these tags, by their stored sizes.
-    Declining(&'t [TagFilter]),
+    /// As a stream that declines some ways, by their stored sizes.
+    Declining(&'t Declined),
+}
+
+/// A tile of a picture.
+#[derive(Clone, Copy, Debug)]
+pub struct Looked {
+    pub place: TilePlace,
+    /// In a window, its touched cells: a way that has none of them is left out.
+    pub mask: Option<u16>,
+}
+
+impl Looked {
+    /// A tile with all its ways.
+    pub fn whole(place: TilePlace) -> Looked {
+        Looked { place, mask: None }
+    }
+
+    /// Whether a way of this bitmap is wanted.
+    fn wants(&self, bitmap: u16) -> bool {
+        self.mask.is_none_or(|mask| raw::shares_cell(bitmap, mask))
+    }
 }
 
 /// How a feature is drawn.
@@ -87,7 +131,7 @@ pub struct Scene<'a> {
 impl<'a> Scene<'a> {
     pub fn read(
         sub_file: &SubFile<'_, 'a>,
-        tiles: &[TilePlace],
+        tiles: &[Looked],
         zoom: u8,
         view: View,
         reading: Reading<'_>,
@@ -99,9 +143,10 @@ impl<'a> Scene<'a> {
             stopped: Vec::new(),
             empty: 0,
         };
-        for &tile in tiles {
+        for &looked in tiles {
+            let tile = looked.place;
             let before = scene.features.len();
-            if let Err(stopped) = scene.tile(sub_file, tile, zoom, reading) {
+            if let Err(stopped) = scene.tile(sub_file, looked, zoom, reading) {
                 scene.stopped.push(stopped);
             }
             scene.empty += usize::from(sub_file.is_empty(tile.number) == Ok(true));
@@ -116,26 +161,31 @@ impl<'a> Scene<'a> {
     fn tile(
         &mut self,
         sub_file: &SubFile<'_, 'a>,
-        tile: TilePlace,
+        looked: Looked,
         zoom: u8,
         reading: Reading<'_>,
     ) -> Result<(), Stopped> {
+        let tile = looked.place;
         let stopped = |refusal, come| Stopped { tile, refusal, come };
         let at_start = |refusal| stopped(refusal, (0, 0));
-        let declined = match reading {
-            Reading::Collected => {
-                sub_file.collect(tile.number).map_err(at_start)?;
-                &[]
+        if let Reading::Collected = reading {
+            sub_file.collect(tile.number).map_err(at_start)?;
+        }
+        let accepts = |head: &mapsforge::WayHead<'_, 'a>| match reading {
+            Reading::Collected => true,
+            Reading::Declining(declined) => {
+                let tags: Vec<_> = head.tags().collect();
+                looked.wants(head.bitmap)
+                    && !declined.has(&head.tag_ids, tags.iter().copied(), zoom)
             }
-            Reading::Declining(tags) => tags,
-        };
-        let accepts = |head: &mapsforge::WayHead<'_, 'a>| {
-            !declined.iter().any(|tag| tag.is_among(head.tags()))
         };
         let mut placed = sub_file.placed_if(tile, zoom, accepts).map_err(at_start)?;
         while let Some(feature) = placed.next() {
             let feature = feature.map_err(|refusal| stopped(refusal, placed.come()))?;
-            self.features.push(Drawn::new(&self.view, tile, feature));
+            // A list has decoded the ways that a window leaves out.
+            if feature.bitmap.is_none_or(|bitmap| looked.wants(bitmap)) {
+                self.features.push(Drawn::new(&self.view, tile, feature));
+            }
         }
         Ok(())
     }

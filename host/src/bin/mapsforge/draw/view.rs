@@ -25,6 +25,18 @@ impl View {
         View { left: f64::from(place.x) * side, top: f64::from(place.y) * side, side }
     }
 
+    /// The smallest square around these columns and rows of a zoom, both ends included.
+    pub fn of_columns(zoom: u16, [left, top, right, bottom]: [i64; 4]) -> View {
+        let unit = 0.5f64.powi(zoom.into());
+        let (width, height) = ((right - left + 1) as f64, (bottom - top + 1) as f64);
+        let most = width.max(height);
+        View {
+            left: (left as f64 - (most - width) / 2.0) * unit,
+            top: (top as f64 - (most - height) / 2.0) * unit,
+            side: most * unit,
+        }
+    }
+
     /// A square of so many metres around a place.
     pub fn around(at: Position, metres: f64) -> View {
         let (right, down) = projected(at);
@@ -43,6 +55,16 @@ impl View {
     /// The zoom whose tiles have this size.
     pub fn zoom(&self) -> f64 {
         -self.side.log2()
+    }
+
+    /// Where columns and rows of a zoom are in the picture: their corner, width and height.
+    pub fn columns(&self, zoom: u16, [left, top, right, bottom]: [i64; 4]) -> (Pixel, Pixel) {
+        let pixels = 0.5f64.powi(zoom.into()) / self.side * SIZE;
+        let start = |number: i64, start: f64| number as f64 * pixels - start / self.side * SIZE;
+        (
+            (start(left, self.left), start(top, self.top)),
+            ((right - left + 1) as f64 * pixels, (bottom - top + 1) as f64 * pixels),
+        )
     }
 
     /// Where a tile is in the picture: its corner and its side.
