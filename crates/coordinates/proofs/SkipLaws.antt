@@ -15,7 +15,7 @@ use Rattle.parsing.specs.Parse.{Res, ok, no, andThen, mapRes, many, byte}
 use Rattle.parsing.specs.Good.{split, ok-at, no-ok}
 use Rattle.parsing.proofs.Loops.{fold-more, view-no}
 use Rattle.utils.specs.Vbe.{Noted, noted, allPlain, Groups, groups, lastGroup, below, signedOf, plainSigned, notedSigned, notedCoordinate}
-use Rattle.utils.proofs.VbeLaws.{groups-small}
+use Rattle.utils.proofs.VbeLaws.{groups-small, first-plain}
 use Rattle.coordinates.specs.Skip.{short, skipOne, skipAll, skipOf, plainEnd}
 use Rattle.coordinates.specs.declared.Skip.{Skip}
 use Rattle.coordinates.specs.declared.Skip.the-variants.{At, Unknown}
@@ -27,15 +27,6 @@ module _ (before last : ℕ) where
 
   pub end-high : (last % 64 ≡ 0 → ⊥) → true ≡ plainEnd before last
   end-high h = rw (ne-eqb (last % 64) 0 h)
-
-first-plain : (a : ℕ) → a < 128 → not (eqb a 64) ≡ plainSigned (a % 64) (a / 64) 1
-first-plain a l = go (eqb a 64) refl (eqb (a % 64) 0) refl
-  where
-    go : (t : Bool) → eqb a 64 ≡ t → (u : Bool) → eqb (a % 64) 0 ≡ u → not t ≡ cond u (eqb (a / 64) 0) true
-    go true q true z = let h = eqb-true a 64 q in rw (ne-eqb (a / 64) 0 (λ k. omega arith))
-    go true q false z = absurd (let h = eqb-true a 64 q in eqb-false (a % 64) 0 z (omega arith))
-    go false q true z = let h = eqb-true (a % 64) 0 z in let n = eqb-false a 64 q in rw (eq-eqb (a / 64) 0 (omega arith))
-    go false q false z = refl
 
 -- the last two bytes tell: twice the value v has the weight w if their data are 64 or more
 end-plain : (b l v w : ℕ) → 128 ≤ b → b < 256 → (64 ≤ b % 128 + 128 * (l % 64) → w ≤ 2 * v) → (b % 128 + 128 * (l % 64) < 64 → 2 * v < w) → plainEnd b l ≡ leb w (2 * v)

@@ -2,6 +2,7 @@
 use Prim.Native.Nat.{ℕ}
 use lib.IntN.{ℤ}
 use mathlib.Core.Path.{_≡_, refl, subst}
+use mathlib.Core.Bool.{Bool, true, false}
 use mathlib.Core.List.{List}
 use mir.Syntax.{w32, w64}
 use mir.Val.{SFits, toZ, ofZ}
@@ -16,7 +17,7 @@ use Rattle.types.specs.declared.Grid.{Grid}
 use Rattle.types.specs.declared.TagRange.{TagRange}
 use Rattle.tag_table.specs.Tables.{kindsBy}
 use Rattle.tile_layout.specs.declared.TileLayout.{TileLayout}
-use Rattle.selection.specs.declared.Selection.{Selection}
+use Rattle.quick_head.specs.Quick.{IfKnown}
 use Rattle.visit.specs.declared.Stream.{Stream}
 use Rattle.visit.specs.declared.NextStep.{NextStep}
 use Rattle.visit.specs.declared.Accepted.{Accepted}
@@ -25,7 +26,7 @@ use Rattle.types.specs.declared.IntervalTable.{IntervalTable}
 use Rattle.wire.specs.Wire.{Wire, Crosses}
 use Rattle.index_wire.specs.Index.{tagWire}
 use Rattle.stream_wire.specs.Streams.{nextWire, acceptWire, declineWire}
-use Rattle.exports.specs.Calls.{gridIn, windowIn, TagIs, NextOf, SelectedOf, AcceptOf, DeclineOf}
+use Rattle.exports.specs.Calls.{gridIn, QuickOf, windowIn, TagIs, NextOf, AcceptOf, DeclineOf}
 
 -- an answer for which the inner contract holds, as it was written
 pub crosses : {A : Type 0} (encode : A → Wire) (Is : A → Type 0) (a : A) (w : Wire) → Is a → w ≡ encode a → Crosses encode Is w
@@ -43,10 +44,17 @@ table-crosses encode Of t t′ x w e i q = crosses encode (Of t′) x w (subst (
 pub next-crosses : (m letters : List ℕ) (s s′ : Stream) (l l′ : TileLayout) (a : NextStep) (before w : Wire) → s ≡ s′ → l ≡ l′ → NextOf m letters l s a → w ≡ nextWire before a → Crosses (nextWire before) (NextOf m letters l′ s′) w
 next-crosses m letters s s′ l l′ a before w e h i q = crosses (nextWire before) (NextOf m letters l′ s′) a w (subst (λ x. NextOf m letters l′ x a) e (subst (λ x. NextOf m letters x s a) h i)) q
 
-pub selected-crosses : (m letters classes : List ℕ) (s s′ : Stream) (c c′ : Selection) (l l′ : TileLayout) (a : NextStep) (before w : Wire) → s ≡ s′ → c ≡ c′ → l ≡ l′ → SelectedOf m letters classes l c s a → w ≡ nextWire before a → Crosses (nextWire before) (SelectedOf m letters classes l′ c′ s′) w
-selected-crosses m letters classes s s′ c c′ l l′ a before w e g h i q =
-    crosses (nextWire before) (SelectedOf m letters classes l′ c′ s′) a w
-    (subst (λ x. SelectedOf m letters classes l′ c′ x a) e (subst (λ x. SelectedOf m letters classes l′ x s a) g (subst (λ x. SelectedOf m letters classes x c s a) h i))) q
+-- an answer that a quick read knew, and that was written
+pub known-crosses : (m letters : List ℕ) (s : Stream) (l : TileLayout) (a : NextStep) (before w : Wire) (t : Bool) → IfKnown t (NextOf m letters l s a) → t ≡ true → w ≡ nextWire before a → Crosses (nextWire before) (NextOf m letters l s) w
+known-crosses m letters s l a before w t i k q = crosses (nextWire before) (NextOf m letters l s) a w (subst (λ b. IfKnown b (NextOf m letters l s a)) k i) q
+
+-- of a try: what was given, on the stream that the words say, and that nothing changed where nothing was
+pub given-crosses : (m letters : List ℕ) (s s′ : Stream) (l l′ : TileLayout) (before w : Wire) (L : Type 0) (t : Bool) → s ≡ s′ → l ≡ l′ → QuickOf t (Crosses (nextWire before) (NextOf m letters l s) w) L → t ≡ true → Crosses (nextWire before) (NextOf m letters l′ s′) w
+given-crosses m letters s s′ l l′ before w L t e h i k =
+    subst (λ x. Crosses (nextWire before) (NextOf m letters l′ x) w) e (subst (λ x. Crosses (nextWire before) (NextOf m letters x s) w) h (subst (λ b. QuickOf b (Crosses (nextWire before) (NextOf m letters l s) w) L) k i))
+
+pub left-alone : (G L : Type 0) (t : Bool) → QuickOf t G L → t ≡ false → L
+left-alone G L t i k = subst (λ b. QuickOf b G L) k i
 
 pub accept-crosses : (m : List ℕ) (s s′ : Stream) (lent left : LentLists) (a : Accepted) (before w : Wire) → s ≡ s′ → AcceptOf m s lent left a → w ≡ acceptWire before a → Crosses (acceptWire before) (AcceptOf m s′ lent left) w
 accept-crosses m s s′ lent left a before w e i q = crosses (acceptWire before) (AcceptOf m s′ lent left) a w (subst (λ x. AcceptOf m x lent left a) e i) q

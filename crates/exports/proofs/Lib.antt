@@ -1,1 +1,3 @@
 pub mod CallLaws
+pub mod SelectLaws
+pub mod SkipLaws

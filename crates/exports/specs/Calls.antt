@@ -2,6 +2,7 @@
 use Prim.Native.Nat.{ℕ}
 use lib.IntN.{ℤ}
 use mathlib.Core.Path.{_≡_}
+use mathlib.Core.Bool.{Bool, true, false}
 use mathlib.Core.List.{List}
 use lib.ListN.{length}
 use Rattle.byte_source.specs.Answers.{spanRes}
@@ -21,7 +22,7 @@ use Rattle.agreement.specs.TileFormat.{wholeBody, noteBody}
 use Rattle.tile_layout.specs.TileLayout.{kindsOf, formatOf}
 use Rattle.tile_layout.specs.declared.TileLayout.{TileLayout}
 use Rattle.visit.specs.Visit.{stateOf, openTile, openRes, shownStep, NextIs, acceptStep, declineStep}
-use Rattle.selection.specs.Selected.{selectedNext}
+use Rattle.selection.specs.Selected.{selectedNext, skippedNext}
 use Rattle.selection.specs.Selects.{selected}
 use Rattle.selection.specs.declared.Selection.{Selection}
 use Rattle.visit.specs.declared.Stream.{Stream}
@@ -76,8 +77,16 @@ pub record TagIs (starts letters : List ℕ) (t : TagRange) (k : ℕ) (m : List 
 abbrev pub NextOf : (m letters : List ℕ) → TileLayout → Stream → NextStep → Type 0
 NextOf m letters l s a = NextIs (shownStep (onNext (formatOf (kindsOf l letters)) m (stateOf s))) a
 
+-- what the quick readers did: they gave the answer, or left everything as it was
+abbrev pub QuickOf : Bool → (Given Left : Type 0) → Type 0
+QuickOf true Given Left = Given
+QuickOf false Given Left = Left
+
 abbrev pub SelectedOf : (m letters classes : List ℕ) → TileLayout → Selection → Stream → NextStep → Type 0
 SelectedOf m letters classes l c s a = NextIs (shownStep (selectedNext (formatOf (kindsOf l letters)) m (selected c classes) (stateOf s))) a
+
+abbrev pub SkipOf : (m letters : List ℕ) → TileLayout → Stream → NextStep → Type 0
+SkipOf m letters l s a = NextIs (shownStep (skippedNext (formatOf (kindsOf l letters)) m (stateOf s))) a
 
 abbrev pub AcceptOf : (m : List ℕ) → Stream → (lent left : LentLists) → Accepted → Type 0
 AcceptOf m s lent left a = acceptStep a (left .counts) (left .latitudes) (left .longitudes) ≡ shownStep (onAccept body bodyLists wholeBody noteBody m (stateOf s) lent)

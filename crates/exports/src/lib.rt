@@ -2,12 +2,15 @@
 // address and its length, an array by its address alone. Each call answers 0, or the number of a refusal, whose values go to the first
 // words. An answer writes its own words, and the others keep their values. What a call needs of the header is handed in: the layout that
 // opening gave, and its sub file's interval.
+use tile_layout::TileLayout;
 use types::Grid;
 use types::TagRange;
 use utils::Degrees;
+use visit::Stream;
 use window::Window;
 ghost use mathlib.Core.Path.{_≡_};
 ghost use mathlib.Core.List.{[], _∷_};
+ghost use lib.ListN.{length};
 ghost use Rattle.parsing.specs.Parse.{mapRes};
 ghost use Rattle.format.specs.WayData.{wayData};
 ghost use Rattle.way_measure.specs.Answers.{waySizes, wayDataRes};
@@ -16,7 +19,7 @@ ghost use Rattle.column.specs.Column.{columnRes, longitudeRes, column as column
 ghost use Rattle.opening.specs.Opening.{lists};
 ghost use Rattle.way_data.specs.Reply.{lent, reply, readWayData};
 ghost use Rattle.fetch_way.specs.FetchWay.{lent as lentAll};
-ghost use Rattle.wire.specs.Wire.{wire, lending, Crosses};
+ghost use Rattle.wire.specs.Wire.{wire, lending, Crosses, there};
 ghost use Rattle.index_wire.specs.Index.{countWire, indexWire, subFileWire, intervalWire, intervalIn, entryWire, tagWire, textWire, columnWire, longitudeWire, wayDataWire, dataWrittenWire};
 ghost use Rattle.window.specs.Window.{sharesCell};
 ghost use Rattle.window_wire.specs.Windows.{windowCountWire, windowTileWire};
@@ -25,7 +28,7 @@ ghost use Rattle.stream_wire.specs.Streams.{streamIn, selectionIn, openedWire, 
 ghost use Rattle.feature_wire.specs.Features.{tileWire, fetchWire};
 ghost use Rattle.showing.specs.Showing.{shown};
 ghost use Rattle.showing_wire.specs.Rules.{checkedWire, shownWire};
-ghost use Rattle.exports.specs.Calls.{gridIn, windowIn, OpenOf, tagsFrom, lentRows, TagIs, RowOf, SubFileOf, CountOf, IndexOf, EntryOf, WindowCountOf, WindowTileOf, StreamOf, NextOf, SelectedOf, AcceptOf, DeclineOf, TileOf, FeatureOf, RulesOf};
+ghost use Rattle.exports.specs.Calls.{gridIn, windowIn, OpenOf, tagsFrom, lentRows, TagIs, RowOf, SubFileOf, CountOf, IndexOf, EntryOf, WindowCountOf, WindowTileOf, StreamOf, NextOf, QuickOf, SelectedOf, SkipOf, AcceptOf, DeclineOf, TileOf, FeatureOf, RulesOf};
 
 // The header but for its intervals, in 34 words and six degrees, and what tiles and sub files need of it, in seven words. The start and the
 // letter of each point tag and then of each way tag go to the fronts of two lists, which other calls take.
@@ -306,6 +309,39 @@ pub extern "C" fn mapsforge_stream_open(
     stream_wire::put_opened(got, words, state)
 }
 
+// The next point or the next way's head by the quick readers, which may write to the ids before they know that they do not know it. Each large
+// function that is called here is called here alone, so that the compiler inlines it.
+fn try_quick(
+    map: &[u8],
+    tiles: TileLayout,
+    letters: &[u8],
+    stream: Stream,
+    state: &mut [u64; 8],
+    words: &mut [u64; 22],
+    signed_words: &mut [i64; 2],
+    degrees: &mut [f64; 2],
+    ids: &mut [u64; 15],
+) -> bool
+    ensures { λ r. ⌜ QuickOf r (Crosses (nextWire (lending (now (words .entry) ∷ now (ids .entry) ∷ now (state .entry) ∷ []) (now («signed_words» .entry)) (now (degrees .entry)))) (NextOf (now (map .entry)) (now (letters .entry)) tiles «stream») (wire 0 (now (words .exit) ∷ now (ids .exit) ∷ now (state .exit) ∷ []) (now («signed_words» .exit)) (now (degrees .exit)))) (wire 0 (now (words .exit) ∷ now (ids .exit) ∷ now (state .exit) ∷ []) (now («signed_words» .exit)) (now (degrees .exit)) ≡ lending (now (words .entry) ∷ now (ids .entry) ∷ now (state .entry) ∷ []) (now («signed_words» .entry)) (now (degrees .entry))) ⌝ }
+{
+    if !quick_next::is_quick(tiles, stream) {
+        return false;
+    }
+    let kept = *ids;
+    let way = quick_next::way_step(map, tiles, letters, stream, ids);
+    if way.known {
+        stream_wire::put_way_step(way, state, words, signed_words);
+        return true;
+    }
+    let point = quick_next::point_step(map, tiles, letters, stream, ids);
+    if point.known {
+        stream_wire::put_point_step(point, state, words, signed_words, degrees);
+        return true;
+    }
+    *ids = kept;
+    false
+}
+
 // The next point, the next way's head, or the end.
 #[no_mangle]
 pub extern "C" fn mapsforge_stream_next(
@@ -320,14 +356,49 @@ pub extern "C" fn mapsforge_stream_next(
 ) -> u64
     ensures { λ r. ⌜ Crosses (nextWire (lending (now (words .entry) ∷ now (ids .entry) ∷ now (state .entry) ∷ []) (now («signed_words» .entry)) (now (degrees .entry)))) (NextOf (now (map .entry)) (now (letters .entry)) (layoutIn (now (layout .entry))) (streamIn (now (state .entry)))) (wire r (now (words .exit) ∷ now (ids .exit) ∷ now (state .exit) ∷ []) (now («signed_words» .exit)) (now (degrees .exit))) ⌝ }
 {
+    // each slice anew: so the compiler takes address and length in registers, also from the calls below, and not through memory
+    let map = &map[..];
+    let letters = &letters[..];
     let tiles = header_wire::layout_in(*layout);
     let stream = stream_wire::stream_in(*state);
+    if try_quick(
+        map,
+        tiles,
+        letters,
+        stream,
+        state,
+        words,
+        signed_words,
+        degrees,
+        ids,
+    ) {
+        return 0;
+    }
     let step = visit::next(map, tiles, letters, stream);
     stream_wire::put_next(step, state, words, signed_words, degrees, ids)
 }
 
-// The same with every way declined that the window and the rules do not select: `select` says which of them count, with the window's mask and the
-// zoom, and `classes` is a table that a check of rules filled.
+// Says how many words there are in lent arrays, which is not told of a reference to one. It costs nothing.
+fn sized(words: [u64; 22], state: [u64; 8]) -> bool
+    ensures { λ r. ⌜ (length words ≡ 22) × (length state ≡ 8) ⌝ }
+{
+    true
+}
+
+// A refused call leaves the state before it.
+fn put_back(number: u64, before: [u64; 8], state: &mut [u64; 8]) -> u64
+    ensures { λ r. ⌜ (r ≡ number) × (now (state .exit) ≡ there number (now (state .entry)) before) ⌝ }
+{
+    if number == 0 {
+        return number;
+    }
+    *state = before;
+    number
+}
+
+// Next with every way declined that the window and the rules do not select: `select` says which of them count, with the window's mask and the
+// zoom, and `classes` is a table that a check of rules filled. It goes by the calls themselves, so that the functions that next calls have no
+// other caller and are inlined there; a way that goes past leaves no words.
 #[no_mangle]
 pub extern "C" fn mapsforge_stream_next_selected(
     map: &[u8],
@@ -343,11 +414,34 @@ pub extern "C" fn mapsforge_stream_next_selected(
 ) -> u64
     ensures { λ r. ⌜ Crosses (nextWire (lending (now (words .entry) ∷ now (ids .entry) ∷ now (state .entry) ∷ []) (now («signed_words» .entry)) (now (degrees .entry)))) (SelectedOf (now (map .entry)) (now (letters .entry)) (now (classes .entry)) (layoutIn (now (layout .entry))) (selectionIn (now (select .entry))) (streamIn (now (state .entry)))) (wire r (now (words .exit) ∷ now (ids .exit) ∷ now (state .exit) ∷ []) (now («signed_words» .exit)) (now (degrees .exit))) ⌝ }
 {
-    let tiles = header_wire::layout_in(*layout);
     let which = stream_wire::selection_in(*select);
-    let stream = stream_wire::stream_in(*state);
-    let step = selection::next_selected(map, tiles, letters, stream, which, classes);
-    stream_wire::put_next(step, state, words, signed_words, degrees, ids)
+    let said = *words;
+    let signs = *signed_words;
+    let place = *degrees;
+    let row = *ids;
+    let before = *state;
+    let mut aside = [0; 6];
+    let counted = sized(said, before);
+    loop {
+        let number = mapsforge_stream_next(
+            map,
+            layout,
+            letters,
+            state,
+            words,
+            signed_words,
+            degrees,
+            ids,
+        );
+        if !stream_wire::goes_past(number, words, ids, which, classes) {
+            return put_back(number, before, state);
+        }
+        mapsforge_stream_decline(state, &mut aside);
+        *words = said;
+        *signed_words = signs;
+        *degrees = place;
+        *ids = row;
+    }
 }
 
 // The waiting way's body; its node counts, latitudes and longitudes go to the fronts of the lists.
@@ -375,6 +469,41 @@ pub extern "C" fn mapsforge_stream_decline(state: &mut [u64; 8], words: &mut [u6
 {
     let step = visit::decline(stream_wire::stream_in(*state));
     stream_wire::put_declined(step, state, words)
+}
+
+// Past the waiting way and then the next point, way or end, in one call, for a program that declines most ways. 16 while no way waits; a
+// refused call leaves the way waiting.
+#[no_mangle]
+pub extern "C" fn mapsforge_stream_skip(
+    map: &[u8],
+    layout: &[u64; 7],
+    letters: &[u8],
+    state: &mut [u64; 8],
+    words: &mut [u64; 22],
+    signed_words: &mut [i64; 2],
+    degrees: &mut [f64; 2],
+    ids: &mut [u64; 15],
+) -> u64
+    ensures { λ r. ⌜ Crosses (nextWire (lending (now (words .entry) ∷ now (ids .entry) ∷ now (state .entry) ∷ []) (now («signed_words» .entry)) (now (degrees .entry)))) (SkipOf (now (map .entry)) (now (letters .entry)) (layoutIn (now (layout .entry))) (streamIn (now (state .entry)))) (wire r (now (words .exit) ∷ now (ids .exit) ∷ now (state .exit) ∷ []) (now («signed_words» .exit)) (now (degrees .exit))) ⌝ }
+{
+    let before = *state;
+    let mut aside = [0; 6];
+    let counted = sized(*words, before);
+    let refused = mapsforge_stream_decline(state, &mut aside);
+    if refused != 0 {
+        return refused;
+    }
+    let number = mapsforge_stream_next(
+        map,
+        layout,
+        letters,
+        state,
+        words,
+        signed_words,
+        degrees,
+        ids,
+    );
+    put_back(number, before, state)
 }
 
 // A collected tile; its zoom table's rows go to the fronts of two lists.

@@ -98,7 +98,8 @@ fn low_bits(v: i64) -> u32
     (n % 4294967296) as u32
 }
 
-fn low32(v: i64) -> i32
+// As an elevation is stored: a number of 32 bits.
+pub fn low32(v: i64) -> i32
     ensures { λ r. ⌜ r ≡ low32 v ⌝ }
 {
     byte_source::to_i32(low_bits(v))

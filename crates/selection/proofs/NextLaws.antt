@@ -1,29 +1,47 @@
--- The same of the code's answers, by which it goes.
+-- The same of the answers of a program that calls next and, while it answers a way that is not selected, decline: what it then gives back is
+-- what `selectedNext` says.
 use mathlib.Core.Path.{_≡_, refl, sym, ap, _∙_, subst}
 use mathlib.Core.Bool.{Bool, true, false, cond, not, false≢true}
 use mathlib.Core.List.{List}
-use Prim.Native.Nat.{ℕ, _<_, _≤_, zero-le}
+use Prim.Native.Nat.{ℕ, _<_}
 use native.Mathlib.Omega.{arith}
-use lib.ListN.{length, drop, replicate, length-append}
 use Rattle.format.specs.Lent.{Reply}
 use Rattle.format.specs.Tile.{Point, Head, Body}
 use Rattle.poi.specs.declared.Poi.{Poi}
-use Rattle.tagged.specs.TagIds.{filledIds}
 use Rattle.agreement.specs.Calls.{Answer, gotPoint, gotHead, gotBody, declined, ended, refused, Step, noLists}
-use Rattle.agreement.specs.Stream.{onNext, onDecline, stream}
+use Rattle.agreement.specs.Stream.{onNext, onDecline}
 use Rattle.agreement.specs.TileFormat as tile
 use Rattle.tile_layout.specs.TileLayout.{TileKinds, formatOf}
-use Rattle.visit.specs.Visit.{TileState, stateOf, shownHead, ShownAnswer, shown, shownStep, nextAnswer, poiIn, headIn, NextIs, declineStep}
+use Rattle.visit.specs.Visit.{TileState, stateOf, shownHead, ShownAnswer, shown, shownStep, nextAnswer, poiIn, headIn, NextIs}
 use Rattle.visit.specs.declared.Stream.{Stream}
 use Rattle.visit.specs.declared.StreamedHead.{StreamedHead}
 use Rattle.visit.specs.declared.NextAnswer.{NextAnswer}
 use Rattle.visit.specs.declared.NextAnswer.the-variants as next-answer
 use Rattle.visit.specs.declared.NextStep.{NextStep}
-use Rattle.visit.specs.declared.Declined.{Declined}
 use Rattle.selection.specs.Selected.{waysOf, unlessRefused, selectedFrom, selectedNext}
-use Rattle.selection.specs.Selects.{selects, selected, isWay, goesPast, leftOf, givenBack}
+use Rattle.selection.specs.Selects.{selects, selected}
 use Rattle.selection.specs.declared.Selection.{Selection}
 use Rattle.selection.proofs.SelectedLaws.{other, pastOf, counts-down, goes-past, answers}
+
+-- whether a next gave a way that is not selected,
+abbrev pub isWay : NextAnswer → Bool → Bool
+isWay next-answer.Way b = b
+isWay next-answer.Point b = false
+isWay (next-answer.End z) b = false
+isWay (next-answer.Refused r) b = false
+
+abbrev pub goesPast : Selection → (classes : List ℕ) → NextStep → Bool
+goesPast w classes r = isWay (r .answer) (not (selects w classes (r .head .bitmap) (r .head .«tag_ids»)))
+
+-- and the answer, with the stream before the call where it is a refusal
+abbrev pub leftOf : NextAnswer → (before after : Stream) → Stream
+leftOf (next-answer.Refused r) before after = before
+leftOf next-answer.Point before after = after
+leftOf next-answer.Way before after = after
+leftOf (next-answer.End z) before after = after
+
+abbrev pub givenBack : NextStep → (before : Stream) → NextStep
+givenBack r before = record { answer = r .answer; poi = r .poi; head = r .head; stream = leftOf (r .answer) before (r .stream) }
 
 abbrev StoredAnswer : Type 0
 StoredAnswer = Answer Point Head Body tile.TileEnd
@@ -31,15 +49,11 @@ StoredAnswer = Answer Point Head Body tile.TileEnd
 abbrev StoredStep : Type 0
 StoredStep = Step StoredAnswer TileState
 
-filled-length : (l : List ℕ) → length l ≤ length (filledIds l)
-unfolding filledIds
-filled-length l = let e = length-append l (drop (length l) (replicate 15 0)) in omega arith
-
-not-true : (c : Bool) → not c ≡ true → c ≡ false
+pub not-true : (c : Bool) → not c ≡ true → c ≡ false
 not-true true e = absurd (false≢true e)
 not-true false e = refl
 
-not-false : (c : Bool) → not c ≡ false → c ≡ true
+pub not-false : (c : Bool) → not c ≡ false → c ≡ true
 not-false true e = refl
 not-false false e = absurd (false≢true (sym e))
 
@@ -90,7 +104,7 @@ module _ (t : StoredStep) (r : NextStep) (n : NextIs (shownStep t) r) where
   left-same = ap (λ (s : Step ShownAnswer TileState). s .left) (n .answer)
 
   -- the answer as it is given back
-  gives : (b : Stream) → NextIs (shownStep (unlessRefused (stateOf b) (t .reply .answer) t)) (givenBack r b)
+  pub gives : (b : Stream) → NextIs (shownStep (unlessRefused (stateOf b) (t .reply .answer) t)) (givenBack r b)
   gives b =
       let u = unlessRefused (stateOf b) (t .reply .answer) t in
       let v : u .reply ≡ t .reply = unless-reply (stateOf b) t (t .reply .answer) in
@@ -107,18 +121,6 @@ module _ (t : StoredStep) (r : NextStep) (n : NextIs (shownStep t) r) where
         poi = n .poi ∙ ap (λ (a : Reply StoredAnswer). poiIn (shown (a .answer))) (sym v);
         head = n .head ∙ ap (λ (a : Reply StoredAnswer). headIn (shown (a .answer))) (sym v);
       }
-
-  -- the ids that a head counts are there
-  ids-there : r .head .«tag_ids» .count ≤ length (r .head .«tag_ids» .ids)
-  ids-there = subst (λ (h : StreamedHead). h .«tag_ids» .count ≤ length (h .«tag_ids» .ids)) (sym (n .head)) (in-head (t .reply .answer))
-    where
-      in-head : (a : StoredAnswer) → headIn (shown a) .«tag_ids» .count ≤ length (headIn (shown a) .«tag_ids» .ids)
-      in-head (gotHead h) = filled-length (h .tagged .ids)
-      in-head (gotPoint p) = zero-le
-      in-head (gotBody b) = zero-le
-      in-head declined = zero-le
-      in-head (ended z) = zero-le
-      in-head (refused k v) = zero-le
 
   module _ (w : Selection) (classes : List ℕ) where
     -- whether a way is selected, by what is shown of it
@@ -148,31 +150,22 @@ module _ (t : StoredStep) (r : NextStep) (n : NextIs (shownStep t) r) where
 
 -- The loop, before a call of next: what is still to be done from here is what was to be done at first.
 module _ (k : TileKinds) (m : List ℕ) (w : Selection) (classes : List ℕ) (stream₀ : Stream) where
-  abbrev pub Left : Stream → Type 0
-  Left s = selectedFrom (formatOf k) m (selected w classes) (stateOf stream₀) (waysOf (stateOf s)) (stateOf s) ≡ selectedNext (formatOf k) m (selected w classes) (stateOf stream₀)
+  abbrev pub Left : TileState → Type 0
+  Left s = selectedFrom (formatOf k) m (selected w classes) (stateOf stream₀) (waysOf s) s ≡ selectedNext (formatOf k) m (selected w classes) (stateOf stream₀)
 
-  module _ (s : Stream) (r : NextStep) (n : NextIs (shownStep (onNext (formatOf k) m (stateOf s))) r) where
+  module _ (s : TileState) (r : NextStep) (n : NextIs (shownStep (onNext (formatOf k) m s)) r) where
     abbrev t : StoredStep
-    t = onNext (formatOf k) m (stateOf s)
+    t = onNext (formatOf k) m s
 
-    pub ids-known : r .head .«tag_ids» .count ≤ length (r .head .«tag_ids» .ids)
-    ids-known = ids-there t r n
-
-    ends : Left s → goesPast w classes r ≡ false → NextIs (shownStep (selectedNext (formatOf k) m (selected w classes) (stateOf stream₀))) (givenBack r stream₀)
-    ends i f =
-        let a = answers (formatOf k) m (selected w classes) (stateOf stream₀) (waysOf (stateOf s)) (stateOf s)
+    pub returned : Left s → goesPast w classes r ≡ false → NextIs (shownStep (selectedNext (formatOf k) m (selected w classes) (stateOf stream₀))) (givenBack r stream₀)
+    returned i f =
+        let a = answers (formatOf k) m (selected w classes) (stateOf stream₀) (waysOf s) s
         (λ h e. not-false (selected w classes h) (sym (tells t r n w classes h e) ∙ f)) in
         subst (λ (x : StoredStep). NextIs (shownStep x) (givenBack r stream₀)) (sym a ∙ i) (gives t r n stream₀)
 
-    pub returned : (b : Bool) (q : NextStep) → Left s → b ≡ goesPast w classes r → not b ≡ true → q ≡ givenBack r stream₀ → NextIs (shownStep (selectedNext (formatOf k) m (selected w classes) (stateOf stream₀))) q
-    returned b q i e f g = subst (NextIs (shownStep (selectedNext (formatOf k) m (selected w classes) (stateOf stream₀)))) (sym g) (ends i (sym e ∙ not-true b f))
-
-    module _ (b : Bool) (v : b ≡ goesPast w classes r) (u : not b ≡ false) (d : Declined) (g : declineStep d ≡ shownStep (onDecline (stateOf (r .stream)))) where
-      f : goesPast w classes r ≡ true
-      f = sym v ∙ not-false b u
-
-      past-same : stateOf (d .stream) ≡ pastOf (formatOf k) m (stateOf s)
-      past-same = ap (λ (x : Step ShownAnswer TileState). x .left) g ∙ ap (λ (x : TileState). onDecline {P = Point} {H = Head} {B = Body} x .left) (left-same t r n)
+    module _ (f : goesPast w classes r ≡ true) (s′ : TileState) (g : s′ ≡ onDecline {P = Point} {H = Head} {B = Body} (stateOf (r .stream)) .left) where
+      past-same : s′ ≡ pastOf (formatOf k) m s
+      past-same = g ∙ ap (λ (x : TileState). onDecline {P = Point} {H = Head} {B = Body} x .left) (left-same t r n)
 
       the-head : IsHead t r n w classes (t .reply .answer)
       the-head = is-head t r n w classes (r .answer) _ (r .poi) (r .head) (t .reply .answer) f (answer-same t r n)
@@ -180,14 +173,14 @@ module _ (k : TileKinds) (m : List ℕ) (w : Selection) (classes : List ℕ) (st
       unselected : selected w classes (the-head .head) ≡ false
       unselected = not-true _ (sym (tells t r n w classes (the-head .head) (the-head .same)) ∙ f)
 
-      pub goes-on : Left s → Left (d .stream)
+      pub goes-on : Left s → Left s′
       goes-on i =
           ap (λ (x : TileState). selectedFrom (formatOf k) m (selected w classes) (stateOf stream₀) (waysOf x) x) past-same
-          ∙ sym (goes-past (formatOf k) m (selected w classes) (stateOf stream₀) (stateOf s) (the-head .head) (the-head .same) unselected)
+          ∙ sym (goes-past (formatOf k) m (selected w classes) (stateOf stream₀) s (the-head .head) (the-head .same) unselected)
           ∙ i
 
-      pub fewer : waysOf (stateOf (d .stream)) < waysOf (stateOf s)
+      pub fewer : waysOf s′ < waysOf s
       fewer =
-          let a = counts-down (formatOf k) m (stateOf s) (the-head .head) (the-head .same) in
+          let a = counts-down (formatOf k) m s (the-head .head) (the-head .same) in
           let b = ap (λ (x : TileState). waysOf x) past-same in
           omega arith

@@ -1,4 +1,4 @@
--- From the contracts of `next_selected` and `accept` to the driven stream of stored features.
+-- From the contracts of `mapsforge_stream_next_selected` and `accept` to the driven stream of stored features.
 use Prim.Native.Nat.{ℕ}
 use native.Mathlib.Omega.{arith}
 use mathlib.Core.Path.{_≡_, refl, sym, ap, _∙_, subst}

@@ -1,9 +1,10 @@
--- A stream that goes by a rule (requests 9 and 10, document 02): next, which declines every way that the rule does not selection, of a tile of
--- any format. The stream is the machine of crate agreement.
+-- A stream that goes by a rule (requests 9 and 10, document 02): next, which declines every way that the rule does not select, of a tile of
+-- any format; and decline and next as one call. The stream is the machine of crate agreement.
+use mathlib.Core.Path.{_≡_}
 use mathlib.Core.Bool.{Bool, cond}
 use mathlib.Core.List.{List}
 use Prim.Native.Nat.{ℕ, zero, suc}
-use Rattle.agreement.specs.Calls.{next, decline, Answer, gotPoint, gotHead, gotBody, declined, ended, refused, Step}
+use Rattle.agreement.specs.Calls.{next, decline, Answer, gotPoint, gotHead, gotBody, declined, ended, refused, Step, plain}
 use Rattle.agreement.specs.Format.{Format}
 use Rattle.agreement.specs.Stream.{StreamAnswer, State, idle, waits, StreamState, stream}
 
@@ -41,3 +42,24 @@ selectedFrom F m rule before (suc n) s =
 -- turns enough. A refusal is that of the next that was refused, and leaves the state before the whole call.
 abbrev pub selectedNext : (F : Format) → List ℕ → (rule : F .Head → Bool) → StreamState F → Step (StreamAnswer F) (StreamState F)
 selectedNext F m rule s = selectedFrom F m rule s (waysOf s) s
+
+-- what comes of a decline: where it is refused, that is the answer; where the way is declined, what is done behind it
+abbrev pub afterDecline : {P H B E S : Type 0} → (behind : Step (Answer P H B E) S) → Answer P H B E → Step (Answer P H B E) S → Step (Answer P H B E) S
+afterDecline behind declined t = behind
+afterDecline behind (refused n v) t = t
+afterDecline behind (gotPoint p) t = t
+afterDecline behind (gotHead h) t = t
+afterDecline behind (gotBody b) t = t
+afterDecline behind (ended z) t = t
+
+-- Decline and then next, as one call: 16 while no way waits. A refusal leaves the state before the whole call, with the way still waiting.
+abbrev pub skippedNext : (F : Format) → List ℕ → StreamState F → Step (StreamAnswer F) (StreamState F)
+skippedNext F m s =
+    let t = stream F m (stream F m s decline .left) next in
+    afterDecline (unlessRefused s (t .reply .answer) t) (stream F m s decline .reply .answer) (stream F m s decline)
+
+-- So a program that calls it sees what one sees that calls decline and then next: a refused decline, or next from the state that decline
+-- left, with that next's state unless it was refused.
+pub record SkipIsBoth (F : Format) (m : List ℕ) (s : StreamState F) : Type 0 where
+  pub refuses : (n : ℕ) (v : List ℕ) (s′ : StreamState F) → stream F m s decline ≡ plain (refused n v) s′ → skippedNext F m s ≡ plain (refused n v) s
+  pub goes-on : (s′ s″ : StreamState F) (a : StreamAnswer F) → stream F m s decline ≡ plain declined s′ → stream F m s′ next ≡ plain a s″ → skippedNext F m s ≡ unlessRefused s a (plain a s″)

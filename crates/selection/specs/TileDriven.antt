@@ -1,5 +1,5 @@
--- What a program knows that calls `next_selected` and `accept` one after the other, from their contracts alone: it sees a tile's stream under
--- the rule of window and rules.
+-- What a program knows that has the answers of `mapsforge_stream_next_selected` and of `accept`, one after the other, from their contracts
+-- alone: it sees a tile's stream under the rule of window and rules.
 use Prim.Native.Nat.{ℕ}
 use mathlib.Core.Path.{_≡_}
 use mathlib.Core.List.{List, [], _∷_, map}

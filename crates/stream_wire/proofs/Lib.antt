@@ -1,1 +1,3 @@
 pub mod WireLaws
+pub mod PastLaws
+pub mod WordLaws

@@ -1,7 +1,7 @@
 -- How the other program reads the words of a stream, and that nothing is lost on the way, whatever words it lent.
 use Prim.Native.Nat.{ℕ}
 use mathlib.Core.Bool.{Bool, cond}
-use mathlib.Core.Path.{_≡_, refl, ap, _∙_}
+use mathlib.Core.Path.{_≡_, refl, ap}
 use mathlib.Core.List.{[], _∷_}
 use lib.ListN.{getD}
 use lib.Seq.{sets}
@@ -46,7 +46,7 @@ turn-back : (t : Turn) (e : TileEnd) (x₀ x₁ x₂ x₃ x₄ x₅ x₆ x₇ : 
 turn-back (turn.Idle r) e x₀ x₁ x₂ x₃ x₄ x₅ x₆ x₇ = idle-back r e _ _ _ _ (truth-back (e .«is_water»)) (truth-back (e .plain))
 turn-back (turn.Waits w) e x₀ x₁ x₂ x₃ x₄ x₅ x₆ x₇ = waits-back w e _ _ _ _ _ _ (truth-back (w .«head_plain»)) (truth-back (e .«is_water»)) (truth-back (e .plain))
 
-stream-back : (s : Stream) (x₀ x₁ x₂ x₃ x₄ x₅ x₆ x₇ : ℕ) → streamIn (sets (x₀ ∷ x₁ ∷ x₂ ∷ x₃ ∷ x₄ ∷ x₅ ∷ x₆ ∷ x₇ ∷ []) 0 (streamWords s)) ≡ s
+pub stream-back : (s : Stream) (x₀ x₁ x₂ x₃ x₄ x₅ x₆ x₇ : ℕ) → streamIn (sets (x₀ ∷ x₁ ∷ x₂ ∷ x₃ ∷ x₄ ∷ x₅ ∷ x₆ ∷ x₇ ∷ []) 0 (streamWords s)) ≡ s
 stream-back s = turn-back (s .turn) (s .end)
 
 -- opening

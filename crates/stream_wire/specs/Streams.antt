@@ -1,10 +1,12 @@
 -- A stream, and what its calls answer, as words: which ones each answer writes. The others keep their values.
 use Prim.Native.Nat.{ℕ, _%_}
-use mathlib.Core.Bool.{cond}
+use mathlib.Core.Bool.{Bool, cond, not, _&&_}
 use mathlib.Core.List.{List, [], _∷_}
+use lib.Dec.{eqb}
 use lib.ListN.{getD}
 use Rattle.types.specs.declared.OptionalSpan.{OptionalSpan}
 use Rattle.poi.specs.declared.Poi.{Poi}
+use Rattle.selection.specs.Selects.{selects}
 use Rattle.selection.specs.declared.Selection.{Selection}
 use Rattle.visit.specs.declared.TileEnd.{TileEnd}
 use Rattle.visit.specs.declared.Turn.{Turn}
@@ -27,10 +29,11 @@ use Rattle.wire.specs.Wire.{Wire, put, putAll, putSigned, putDegrees, numbered,
 use Rattle.wire.specs.Verdicts.{spanWords, placeWords}
 use Rattle.wire.specs.Elevation.{metreWords}
 
--- the state, in eight words
+-- The state, in eight words. The ways that remain stand in the same word in both turns, and the two marks of the end are not neighbours: so a call
+-- that goes from one turn to the other does not read, as one, words that the call before wrote one by one, for which a processor waits.
 abbrev pub turnWords : Turn → (subFile water plain : ℕ) → List ℕ
-turnWords (turn.Idle r) s w p = 0 ∷ r .points ∷ r .ways ∷ r .at ∷ r .way ∷ s ∷ w ∷ p ∷ []
-turnWords (turn.Waits x) s w p = 1 ∷ x .ways ∷ x .past ∷ x .body ∷ cond (x .«head_plain») 1 0 ∷ s ∷ w ∷ p ∷ []
+turnWords (turn.Idle r) s w p = 0 ∷ r .points ∷ r .ways ∷ r .at ∷ r .way ∷ w ∷ s ∷ p ∷ []
+turnWords (turn.Waits x) s w p = 1 ∷ x .past ∷ x .ways ∷ x .body ∷ cond (x .«head_plain») 1 0 ∷ w ∷ s ∷ p ∷ []
 
 abbrev pub streamWords : Stream → List ℕ
 streamWords s = turnWords (s .turn) (s .end .«sub_file») (cond (s .end .«is_water») 1 0) (cond (s .end .plain) 1 0)
@@ -38,14 +41,18 @@ streamWords s = turnWords (s .turn) (s .end .«sub_file») (cond (s .end .«is_w
 abbrev pub turnIn : List ℕ → Turn
 turnIn l =
     there (getD l 0 0) (turn.Idle (record { points = getD l 1 0; ways = getD l 2 0; at = getD l 3 0; way = getD l 4 0 }))
-    (turn.Waits (record { ways = getD l 1 0; past = getD l 2 0; body = getD l 3 0; «head_plain» = truth (getD l 4 0) }))
+    (turn.Waits (record { past = getD l 1 0; ways = getD l 2 0; body = getD l 3 0; «head_plain» = truth (getD l 4 0) }))
 
 abbrev pub streamIn : List ℕ → Stream
-streamIn l = record { turn = turnIn l; end = record { «sub_file» = getD l 5 0; «is_water» = truth (getD l 6 0); plain = truth (getD l 7 0) } }
+streamIn l = record { turn = turnIn l; end = record { «sub_file» = getD l 6 0; «is_water» = truth (getD l 5 0); plain = truth (getD l 7 0) } }
 
 -- which ways are selected, in four words
 abbrev pub selectionIn : List ℕ → Selection
 selectionIn l = record { «by_window» = truth (getD l 0 0); mask = getD l 1 0 % 65536; «by_rules» = truth (getD l 2 0); zoom = getD l 3 0 % 256 }
+
+-- whether what a next wrote is a way that is not selected: its number, its words and its tag ids
+abbrev pub goesPast : Selection → (classes : List ℕ) → (number : ℕ) → (words ids : List ℕ) → Bool
+goesPast c classes n w i = eqb n 0 && (eqb (getD w 6 0) 1 && not (selects c classes (getD w 18 0) (record { ids = i; count = getD w 7 0 })))
 
 -- opening
 abbrev pub openedWire : (before : Wire) → OpenRead → Wire

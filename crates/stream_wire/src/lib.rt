@@ -1,6 +1,9 @@
 // What a stream answers, as words for programs in other languages. An answer writes its own words; the others keep their values.
 use poi::Poi;
+use quick_next::PointStep;
+use quick_next::WayStep;
 use selection::Selection;
+use tagged::TagIds;
 use visit::AcceptAnswer;
 use visit::Accepted;
 use visit::DeclineAnswer;
@@ -16,19 +19,22 @@ use visit::TileEnd;
 use visit::Turn;
 use visit::WaitingWay;
 ghost use mathlib.Core.Path.{_≡_};
-ghost use mathlib.Core.List.{[], _∷_};
+ghost use mathlib.Core.List.{List, [], _∷_};
+ghost use Prim.Native.Nat.{ℕ};
+ghost use lib.Ieee.{Float};
 ghost use lib.Seq.{sets};
 ghost use Rattle.wire.specs.Wire.{wire, lending};
 ghost use Rattle.wire.specs.Elevation.{metreWords};
-ghost use Rattle.stream_wire.specs.Streams.{streamWords, turnIn, streamIn, selectionIn, openedWire, putPoint, putHead, putEnd, putBody, nextWire, acceptWire, declineWire};
+ghost use Rattle.quick_next.specs.QuickNext.{wayStep, pointStep};
+ghost use Rattle.stream_wire.specs.Streams.{streamWords, turnIn, streamIn, selectionIn, goesPast, openedWire, putPoint, putHead, putEnd, putBody, nextWire, acceptWire, declineWire};
 
 fn turn_in(words: [u64; 8]) -> Turn
     ensures { λ r. ⌜ r ≡ turnIn words ⌝ }
 {
     if 0 < words[0] {
         return Turn::Waits(WaitingWay {
-            ways: words[1],
-            past: words[2] as usize,
+            ways: words[2],
+            past: words[1] as usize,
             body: words[3] as usize,
             head_plain: wire::truth_of(words[4]),
         });
@@ -46,8 +52,8 @@ pub fn stream_in(words: [u64; 8]) -> Stream
 {
     let turn = turn_in(words);
     let end = TileEnd {
-        sub_file: words[5] as usize,
-        is_water: wire::truth_of(words[6]),
+        sub_file: words[6] as usize,
+        is_water: wire::truth_of(words[5]),
         plain: wire::truth_of(words[7]),
     };
     Stream { turn, end }
@@ -65,6 +71,29 @@ pub fn selection_in(words: [u64; 4]) -> Selection
     }
 }
 
+// Whether these are the words of a next that gave a way that is not selected.
+pub fn goes_past(
+    number: u64,
+    words: &[u64; 22],
+    ids: &[u64; 15],
+    selection: Selection,
+    classes: &[u8],
+) -> bool
+    ensures { λ r. ⌜ r ≡ goesPast selection (now (classes .entry)) number (now (words .entry)) (now (ids .entry)) ⌝ }
+{
+    if number != 0 {
+        return false;
+    }
+    if words[6] != 1 {
+        return false;
+    }
+    let tags = TagIds {
+        ids: *ids,
+        count: words[7] as usize,
+    };
+    !selection::is_selected(selection, classes, (words[18] % 65536) as u16, tags)
+}
+
 // A stream, in eight words.
 fn put_stream(stream: Stream, state: &mut [u64; 8])
     ensures { λ r. ⌜ now (state .exit) ≡ sets (now (state .entry)) 0 (streamWords stream) ⌝ }
@@ -80,19 +109,19 @@ fn put_stream(stream: Stream, state: &mut [u64; 8])
             state[2] = r.ways;
             state[3] = r.at as u64;
             state[4] = r.way as u64;
-            state[5] = end.sub_file as u64;
-            state[6] = water;
+            state[5] = water;
+            state[6] = end.sub_file as u64;
             state[7] = plain;
         }
         Turn::Waits(w) => {
             let head = wire::bit(w.head_plain);
             state[0] = 1;
-            state[1] = w.ways;
-            state[2] = w.past as u64;
+            state[1] = w.past as u64;
+            state[2] = w.ways;
             state[3] = w.body as u64;
             state[4] = head;
-            state[5] = end.sub_file as u64;
-            state[6] = water;
+            state[5] = water;
+            state[6] = end.sub_file as u64;
             state[7] = plain;
         }
     }
@@ -183,6 +212,73 @@ fn put_head(
     signed_words[0] = layer;
     let row = tags.ids;
     *ids = row;
+}
+
+// A way's head that a quick read gave, but for its tag ids, and the state in which it waits.
+pub fn put_way_step(
+    step: WayStep,
+    state: &mut [u64; 8],
+    words: &mut [u64; 22],
+    signed_words: &mut [i64; 2],
+)
+    ensures { λ r. ⌜ ((ids before : List ℕ) (place : List Float) → wire 0 (now (words .exit) ∷ ids ∷ now (state .exit) ∷ []) (now («signed_words» .exit)) place ≡ nextWire (lending (now (words .entry) ∷ before ∷ now (state .entry) ∷ []) (now («signed_words» .entry)) place) (wayStep step ids)) ⌝ }
+{
+    let layer = wire::wide_i8(step.layer);
+    words[6] = 1;
+    words[7] = step.count as u64;
+    words[18] = step.bitmap as u64;
+    words[21] = 1;
+    signed_words[0] = layer;
+    let stream = step.stream;
+    put_stream(stream, state);
+}
+
+fn put_step_signs(step: PointStep, signed_words: &mut [i64; 2])
+    ensures { λ r. ⌜ now («signed_words» .exit) ≡ sets (now («signed_words» .entry)) 0 (step .layer ∷ metreWords (step .elevation) .metres ∷ []) ⌝ }
+{
+    let stored = step.elevation;
+    let elevation = wire::metre_words(stored);
+    let metres = elevation.metres;
+    let layer = wire::wide_i8(step.layer);
+    signed_words[0] = layer;
+    signed_words[1] = metres;
+}
+
+// A point that a quick read gave, but for its tag ids, and the state behind it.
+pub fn put_point_step(
+    step: PointStep,
+    state: &mut [u64; 8],
+    words: &mut [u64; 22],
+    signed_words: &mut [i64; 2],
+    degrees: &mut [f64; 2],
+)
+    ensures { λ r. ⌜ ((ids before : List ℕ) → wire 0 (now (words .exit) ∷ ids ∷ now (state .exit) ∷ []) (now («signed_words» .exit)) (now (degrees .exit)) ≡ nextWire (lending (now (words .entry) ∷ before ∷ now (state .entry) ∷ []) (now («signed_words» .entry)) (now (degrees .entry))) (pointStep step ids)) ⌝ }
+{
+    let stored = step.name;
+    let name = wire::span_words(stored);
+    let stored = step.house_number;
+    let house = wire::span_words(stored);
+    let stored = step.elevation;
+    let elevation = wire::metre_words(stored);
+    let position = step.position;
+    words[6] = 0;
+    words[7] = step.count as u64;
+    words[8] = 0;
+    words[9] = 0;
+    words[10] = 0;
+    words[11] = name.present;
+    words[12] = name.start;
+    words[13] = name.size;
+    words[14] = house.present;
+    words[15] = house.start;
+    words[16] = house.size;
+    words[17] = elevation.present;
+    words[21] = 1;
+    put_step_signs(step, signed_words);
+    degrees[0] = position.latitude;
+    degrees[1] = position.longitude;
+    let stream = step.stream;
+    put_stream(stream, state);
 }
 
 fn put_end(end: TileEnd, words: &mut [u64; 22])

@@ -44,7 +44,7 @@ fn plain_refusal(got: PlainEnd) -> Refusal
 }
 
 // The high four bits of the special byte, minus 5.
-fn layer_of(special: u8) -> i8
+pub fn layer_of(special: u8) -> i8
     ensures { λ r. ⌜ r ≡ layerOf special ⌝ }
 {
     (special / 16) as i8 - 5

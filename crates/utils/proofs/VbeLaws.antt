@@ -6,7 +6,7 @@ use native.Mathlib.Numerals.{sub-one}
 use native.Mathlib.Omega.{arith}
 use mathlib.Core.Path.{_≡_, refl, subst, sym, ap, _∙_}
 use mathlib.Core.List.{List, []}
-use mathlib.Core.Bool.{Bool, true, false, cond}
+use mathlib.Core.Bool.{Bool, true, false, not, cond}
 use lib.Dec.{ltb, leb, eqb, lit<, lit≤}
 use mir.Syntax.{w64}
 use lib.Signed.{mag}
@@ -14,7 +14,7 @@ use mir.Val.{Fits, toZ, ofZ}
 use mir.Facts.{toZ-ofZ}
 use borrow.Author.Needs.{needs}
 use lib.ListN.{length, getD}
-use borrow.Author.Tests.{le-ltb, lt-ltb, eq-eqb, ne-eqb}
+use borrow.Author.Tests.{le-ltb, lt-ltb, eq-eqb, ne-eqb, eqb-true, eqb-false}
 use Rattle.parsing.specs.Parse.{Res, ok, no, andThen, mapRes, byte, Part, part}
 use Rattle.parsing.specs.Good.{Post, split, ok-val, bind-post, then-post, return-post, fail-post, pick-post}
 use Rattle.parsing.proofs.Steps.{byte-here, byte-past}
@@ -185,3 +185,13 @@ text-is m i = go (notedUnsigned m i)
     go : (r : Res (Noted ℕ)) → mapRes (λ (t : Noted Part). t .value) (andThen r (λ n e. cond (leb (n .value) (2 ^ 20)) (mapRes (λ b. noted b (n .plain)) (part (n .value) m e)) (no 9 []))) ≡ andThen (mapRes (λ (n : Noted ℕ). n .value) r) (λ n x. cond (leb n (2 ^ 20)) (part n m x) (no 9 []))
     go (ok n e) = by (leb (n .value) (2 ^ 20)) (n .plain) (part (n .value) m e)
     go (no n v) = refl
+
+-- a signed number of one byte is plain if the byte is not 40, in base 16
+pub first-plain : (a : ℕ) → a < 128 → not (eqb a 64) ≡ plainSigned (a % 64) (a / 64) 1
+first-plain a l = go (eqb a 64) refl (eqb (a % 64) 0) refl
+  where
+    go : (t : Bool) → eqb a 64 ≡ t → (u : Bool) → eqb (a % 64) 0 ≡ u → not t ≡ cond u (eqb (a / 64) 0) true
+    go true q true z = let h = eqb-true a 64 q in rw (ne-eqb (a / 64) 0 (λ k. omega arith))
+    go true q false z = absurd (let h = eqb-true a 64 q in eqb-false (a % 64) 0 z (omega arith))
+    go false q true z = let h = eqb-true (a % 64) 0 z in let n = eqb-false a 64 q in rw (eq-eqb (a / 64) 0 (omega arith))
+    go false q false z = refl
