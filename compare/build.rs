@@ -1,4 +1,5 @@
-//! Writes into OUT_DIR the root that the Rust's folder lacks, and its tile.rs with the caller's grid.
+//! Writes into OUT_DIR the root that the Rust's folder lacks, and its tile.rs with the caller's grid. Says where the general next is that the
+//! driver links beside our reader.
 
 use std::path::{Path, PathBuf};
 use std::{env, fs, process};
@@ -32,6 +33,21 @@ fn main() {
     let tile = tile_with_grid(&source(&rust.join("tile.rs")));
     write(&out.join("tile.rs"), &tile);
     write(&out.join("reader.rs"), &root(&rust, &out));
+    if env::var_os("CARGO_FEATURE_BOTH").is_some() {
+        find_general_next();
+    }
+}
+
+/// It stands where host/build.rs finds our reader.
+fn find_general_next() {
+    println!("cargo::rerun-if-env-changed=MAPSFORGE_LIB");
+    let package = env::var_os("CARGO_MANIFEST_DIR").expect("cargo gives the package's folder");
+    let folder = match env::var_os("MAPSFORGE_LIB") {
+        Some(named) => PathBuf::from(named),
+        None => Path::new(&package).join("../target/staticlib"),
+    };
+    println!("cargo::rerun-if-changed={}", folder.join("libgeneral_next.a").display());
+    println!("cargo::rustc-link-search=native={}", folder.display());
 }
 
 /// The folder of the Rust; a relative one counts from this package's folder.

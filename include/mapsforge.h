@@ -93,7 +93,7 @@ enum {
     MAPSFORGE_REVERSED_INTERVAL = 13,     /* a zoom interval whose minimum is above its maximum */
     MAPSFORGE_INVALID_GRID = 14,          /* a reversed grid, or one of more than 2^32 - 1 tiles */
     MAPSFORGE_TOO_SHORT = 15,             /* a lent list or buffer is shorter than the result */
-    MAPSFORGE_OUT_OF_TURN = 16,           /* next while a way waits, accept or decline while none does */
+    MAPSFORGE_OUT_OF_TURN = 16,           /* next while a way waits; accept, decline or skip while none does */
     MAPSFORGE_INVALID_FEATURE = 17,       /* a feature number at or above the count */
     MAPSFORGE_ZOOM_TOO_LARGE = 18,        /* a zoom above 63 in column or longitude arithmetic */
     MAPSFORGE_INDEX_CUT_OFF = 19,         /* the map ends before the five bytes of the tile's index entry or of the next one do; word 0: that
@@ -304,16 +304,16 @@ bool mapsforge_shares_cell(uint16_t bitmap, uint16_t mask);
  * mapsforge_collect) has a stream that is at its end: nothing is to come, and both places are 0. No other tile's stream opens with a place of 0.
  *   a stream writes state 0 to 7 */
 #define MAPSFORGE_STATE_WAITS 0                 /* state: 1 while a way waits, else 0; any word but 0 is taken for yes */
-#define MAPSFORGE_STATE_SUB_FILE 5              /* what the end will answer */
-#define MAPSFORGE_STATE_WATER 6                 /* any word but 0 is taken for yes, here and in the next */
+#define MAPSFORGE_STATE_WATER 5                 /* what the end will answer; any word but 0 is taken for yes, here and in word 7 */
+#define MAPSFORGE_STATE_SUB_FILE 6
 #define MAPSFORGE_STATE_PLAIN 7                 /* so far: of the tile's head once the stream is open, then with each call that is not refused */
 #define MAPSFORGE_STATE_WORDS 8
 #define MAPSFORGE_IDLE_POINTS 1                 /* while none waits: how many points are still to come, */
 #define MAPSFORGE_IDLE_WAYS 2                   /* how many ways, */
 #define MAPSFORGE_IDLE_POINT 3                  /* and where the next point */
 #define MAPSFORGE_IDLE_WAY 4                    /* and the next way stand in the map */
-#define MAPSFORGE_WAITING_WAYS 1                /* while one waits: how many ways are to come behind it, */
-#define MAPSFORGE_WAITING_PAST 2                /* the place that declining goes to, */
+#define MAPSFORGE_WAITING_PAST 1                /* while one waits: the place that declining goes to, */
+#define MAPSFORGE_WAITING_WAYS 2                /* how many ways are to come behind it, */
 #define MAPSFORGE_WAITING_BODY 3                /* where its body starts, */
 #define MAPSFORGE_WAITING_HEAD_PLAIN 4          /* and whether its head was plain; any word but 0 is taken for yes */
 uint64_t mapsforge_stream_open(const uint8_t *map, size_t map_len, const uint64_t layout[7], const uint64_t interval[6], size_t sub_file, int32_t x_min, int32_t y_min, int32_t x_max, int32_t y_max, size_t tile, uint8_t zoom, uint64_t state[8], uint64_t words[6]);
@@ -366,6 +366,11 @@ uint64_t mapsforge_stream_accept(const uint8_t *map, size_t map_len, uint64_t st
 /* Goes past the waiting way, by its stored size; astray, if that is wrong: see MAPSFORGE_COLLECT_EXACT.
  *   a way writes state 0 to 7 */
 uint64_t mapsforge_stream_decline(uint64_t state[8], uint64_t words[6]);
+
+/* mapsforge_stream_decline and then mapsforge_stream_next, in one call, for a program that declines most ways. A refused call declines nothing:
+ * 16 while no way waits, and where next is refused the way still waits.
+ *   writes what mapsforge_stream_next does */
+uint64_t mapsforge_stream_skip(const uint8_t *map, size_t map_len, const uint64_t layout[7], const uint8_t *letters, size_t letters_len, uint64_t state[8], uint64_t words[22], int64_t signed_words[2], double degrees[2], uint64_t ids[15]);
 
 /* Collects a tile: decodes every feature of it. points and ways: the zoom table. Row r is how many features are added at the interval's
  * lowest zoom plus r. A tile that its index marks empty (the next entry has the same offset; of the last tile, its offset is the sub file's

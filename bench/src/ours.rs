@@ -53,7 +53,7 @@ impl Side for Ours<'_> {
                 let done = match work {
                     Work::Collect | Work::EmptyCollect => self.collect(&address, tally),
                     Work::Fetch => self.fetch(&address, tally),
-                    _ => self.stream(&address, zoom, work != Work::Decline, tally),
+                    _ => self.stream(&address, zoom, work, tally),
                 };
                 done.unwrap_or_else(|refusal| tally.refuse(|| rust_number(refusal)));
             }
@@ -86,13 +86,15 @@ impl Ours<'_> {
         &mut self,
         address: &Address,
         zoom: u8,
-        accept: bool,
+        work: Work,
         tally: &mut Tally,
     ) -> Result<(), u64> {
         let calls = &mut self.calls;
         done(calls.stream_open(address, zoom))?;
+        let mut waits = false;
         loop {
-            done(calls.stream_next())?;
+            done(if waits { calls.stream_skip() } else { calls.stream_next() })?;
+            waits = false;
             match calls.next.words[6] {
                 POINT => {
                     tally.points += 1;
@@ -101,13 +103,15 @@ impl Ours<'_> {
                 WAY => {
                     tally.ways += 1;
                     tally.digest(|fold| head(fold, calls));
-                    if accept {
-                        done(calls.stream_accept())?;
-                        tally.blocks += calls.accepted.words[6];
-                        tally.nodes += calls.accepted.words[7];
-                        tally.digest(|fold| way(fold, calls));
-                    } else {
-                        done(calls.stream_decline())?;
+                    match work {
+                        Work::Skip => waits = true,
+                        Work::Decline => done(calls.stream_decline())?,
+                        _ => {
+                            done(calls.stream_accept())?;
+                            tally.blocks += calls.accepted.words[6];
+                            tally.nodes += calls.accepted.words[7];
+                            tally.digest(|fold| way(fold, calls));
+                        }
                     }
                 }
                 _ => {

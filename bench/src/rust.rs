@@ -27,6 +27,11 @@ fn opened(map: &Map) -> MapFile<Source<'_>> {
     MapFile::from_source(Source::new(black_box(&map.bytes))).expect("a map that opens")
 }
 
+/// Whether ways are declined, in one call or in two.
+fn declines(work: Work) -> bool {
+    matches!(work, Work::Decline | Work::Skip)
+}
+
 impl Side for Rust<'_> {
     fn run(&mut self, work: Work, tally: &mut Tally) {
         if work == Work::Open {
@@ -52,7 +57,7 @@ impl Side for Rust<'_> {
                 match work {
                     Work::Collect => self.collect(sub_file, tile, tally, collected),
                     Work::Fetch => self.collect(sub_file, tile, tally, fetched),
-                    _ => self.stream(sub_file, tile, zoom, work != Work::Decline, tally),
+                    _ => self.stream(sub_file, tile, zoom, !declines(work), tally),
                 }
             }
         }

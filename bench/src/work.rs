@@ -12,6 +12,8 @@ pub enum Work {
     /// Streams of all tiles, by what becomes of the ways and by the zoom.
     Accept,
     Decline,
+    /// As declined; ours declines and goes on in one call.
+    Skip,
     Lowest,
     Collect,
     Fetch,
@@ -21,12 +23,13 @@ pub enum Work {
 }
 
 /// What both sides do.
-pub const WORKS: [Work; 8] = [
+pub const WORKS: [Work; 9] = [
     Work::Open,
     Work::Interval,
     Work::SubFile,
     Work::Accept,
     Work::Decline,
+    Work::Skip,
     Work::Lowest,
     Work::Collect,
     Work::Fetch,
@@ -44,6 +47,7 @@ impl Work {
             Work::SubFile => "sub-file",
             Work::Accept => "accept",
             Work::Decline => "decline",
+            Work::Skip => "skip",
             Work::Lowest => "lowest",
             Work::Collect => "collect",
             Work::Fetch => "fetch",
@@ -59,6 +63,7 @@ impl Work {
             Work::SubFile => "sub file of a zoom",
             Work::Accept => "stream, all accepted",
             Work::Decline => "stream, all declined",
+            Work::Skip => "stream, all skipped",
             Work::Lowest => "stream, lowest zoom",
             Work::Collect => "collect",
             Work::Fetch => "collect and fetch all",

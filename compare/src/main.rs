@@ -32,7 +32,12 @@ compare/run [--rust FOLDER] COMMAND ARGS...
                       and undamaged, then cut off at each length, then N damaged copies, by the words of their own headers
                       and by others; every answer, word and lent entry; fails on a difference.
                       --quick is a fixed run of about a minute with fewer cuts; it, and any run of as many cases, also fails
-                      if a refusal does not come at all. --only looks at case K alone
+                      if a refusal does not come at all. --only looks at case K alone. Every next is held to the general next too
+  quick [--cases N] [--seed S] [--quick] [--only K] [MAP...]
+                      our library's next, which has quick readers, against the general next, which has none: every pair of
+                      bytes, every length and every letter of some points and ways, and N cases by chance, from the same maps
+                      and made up, with other bytes, lengths, letters, layouts and states; fails on a difference, and if a kind
+                      of answer does not come. --quick is a fixed run of some seconds, --only looks at case K alone
   book [--cases N] [MAP...]
                       our library's stream against document 01's book, on all tiles of the same maps; at least N long lists
   zooming [--cases N] [--seed S] [--quick] [--only K] [MAP...]
@@ -56,8 +61,8 @@ compare/run [--rust FOLDER] COMMAND ARGS...
   figures             checks document 01's worked figures; fails on a difference
   help                this text
 
-scale, book, zooming, altered, window and rules link target/staticlib/libmapsforge.a, which host/library builds first, or that of the folder
-MAPSFORGE_LIB names.
+scale, quick, book, zooming, altered, window and rules link target/staticlib/libmapsforge.a, which host/library builds first, and
+libgeneral_next.a beside it, which `rt staticlib general_next` builds; or those of the folder MAPSFORGE_LIB names.
 
 FOLDER holds the Rust: error.rs, io.rs and so on. By default it is compare/mapsforge-rs.
 ";
@@ -91,6 +96,10 @@ fn run(arguments: &[&str]) -> io::Result<ExitCode> {
         #[cfg(feature = "both")]
         ["scale", rest @ ..] => {
             return Ok(scale::run(rest)?.unwrap_or_else(misused));
+        }
+        #[cfg(feature = "both")]
+        ["quick", rest @ ..] => {
+            return Ok(scale::run_quick(rest)?.unwrap_or_else(misused));
         }
         #[cfg(feature = "both")]
         ["book", rest @ ..] => {

@@ -14,6 +14,7 @@ mod crafted;
 mod cuts;
 mod damage;
 mod foreign;
+mod general;
 mod held;
 mod indexed;
 mod intervals;
@@ -21,6 +22,7 @@ mod known;
 mod lent;
 mod library;
 mod opening;
+mod quick;
 mod ruled;
 mod streamed;
 mod way_data;
@@ -94,6 +96,15 @@ impl Options {
     }
 }
 
+/// Holds our next to the general one in made-up cases; None if the arguments make no sense.
+pub fn run_quick(arguments: &[&str]) -> io::Result<Option<ExitCode>> {
+    let known = ["--cases", "--seed", "--quick", "--only"];
+    let Some(options) = Options::of_those(&known, arguments) else { return Ok(None) };
+    check::keep_panics();
+    let good = quick::compare(&bases(&options)?, &options);
+    Ok(Some(if good { ExitCode::SUCCESS } else { ExitCode::FAILURE }))
+}
+
 /// Holds our stream to document 01's book; None if the arguments make no sense.
 pub fn run_book(arguments: &[&str]) -> io::Result<Option<ExitCode>> {
     let Some(options) = Options::of_those(&["--cases"], arguments) else { return Ok(None) };
@@ -152,6 +163,7 @@ pub fn run(arguments: &[&str]) -> io::Result<Option<ExitCode>> {
     let good = whole && damaged_maps(&bases, &options, &mut all);
     println!();
     all.print();
+    all.general.print();
     let long = options.cases(CASES, QUICK_CASES) >= QUICK_CASES;
     let good = good && (!long || once || all_came(&all));
     println!("time: {:.1} s", start.elapsed().as_secs_f64());
@@ -220,8 +232,8 @@ fn cut_maps(bases: &[Base], options: &Options, all: &mut Check) -> bool {
     good
 }
 
-/// Whether each refusal of the table came at least once, and whether all that can be plain was so and was not so: else a run
-/// of so many cases has lost what it is for.
+/// Whether each refusal of the table came at least once, each class of nexts, and whether all that can be plain was so and was
+/// not so: else a run of so many cases has lost what it is for.
 fn all_came(all: &Check) -> bool {
     let missing = all.missing();
     if !missing.is_empty() {
@@ -231,7 +243,11 @@ fn all_came(all: &Check) -> bool {
     if !unsaid.is_empty() {
         println!("UNEXPLAINED: these did not say both that numbers are plain and that one is not: {unsaid:?}");
     }
-    missing.is_empty() && unsaid.is_empty()
+    let unheld = all.general.missing();
+    if !unheld.is_empty() {
+        println!("UNEXPLAINED: these nexts were not held to the general next: {unheld:?}");
+    }
+    missing.is_empty() && unsaid.is_empty() && unheld.is_empty()
 }
 
 /// The cases, shared out among threads by their numbers.

@@ -353,6 +353,34 @@ pub fn stream_decline(
     unsafe { sys::mapsforge_stream_decline(state, words) }
 }
 
+/// Goes past the waiting way: the next point, the next way's head or the end.
+pub fn stream_skip(
+    map: &[u8],
+    layout: &[u64; word::LAYOUT_WORDS],
+    letters: &[u8],
+    state: &mut [u64; word::STATE_WORDS],
+    words: &mut [u64; word::NEXT_WORDS],
+    signed_words: &mut [i64; word::SIGNED_WORDS],
+    degrees: &mut [f64; word::POSITION_DEGREES],
+    ids: &mut [u64; word::MAX_TAGS],
+) -> u64 {
+    // SAFETY: borrowed for the call, at their lengths.
+    unsafe {
+        sys::mapsforge_stream_skip(
+            map.as_ptr(),
+            map.len(),
+            layout,
+            letters.as_ptr(),
+            letters.len(),
+            state,
+            words,
+            signed_words,
+            degrees,
+            ids,
+        )
+    }
+}
+
 /// Collects a tile.
 pub fn collect(
     map: &[u8],

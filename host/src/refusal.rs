@@ -57,7 +57,7 @@ pub enum Refusal {
     InvalidGrid,
     /// 15: a lent list or buffer is shorter than the result.
     TooShort(Lengths),
-    /// 16: next while a way waits, or accept or decline while none does.
+    /// 16: next while a way waits, or accept, decline or skip while none does.
     OutOfTurn,
     /// 17: a feature number at or above the count.
     InvalidFeature,

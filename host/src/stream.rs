@@ -6,7 +6,7 @@ use crate::{raw, word, Map, Name, Offset, Part, Refusal, Rules, SubFile, TagName
 /// A tile's stream: points, then ways' heads, each of which waits until it is accepted or declined, then the end.
 ///
 /// A call out of turn is refused with 16 ([`Refusal::OutOfTurn`]): [`Stream::next`] while a way waits,
-/// [`Stream::accept`] and [`Stream::decline`] while none does. A refused call leaves the stream where it was.
+/// [`Stream::accept`], [`Stream::decline`] and [`Stream::skip`] while none does. A refused call leaves the stream where it was.
 ///
 /// ```
 /// # use mapsforge::{MapFile, Refusal, Step};
@@ -445,5 +445,37 @@ impl<'m, 'a> Stream<'m, 'a> {
     pub fn decline(&mut self) -> Result<(), Refusal> {
         let mut words = [0; word::VALUES];
         Refusal::check(raw::stream_decline(&mut self.state, &mut words), &words)
+    }
+
+    /// [`Stream::decline`] and then [`Stream::next`], in one call, for those who decline most ways. 16
+    /// ([`Refusal::OutOfTurn`]) while no way waits; where the next is refused, the way still waits.
+    ///
+    /// ```
+    /// # use mapsforge::{MapFile, Refusal, Step};
+    /// # let file = MapFile::open(concat!(env!("CARGO_MANIFEST_DIR"), "/../maps/islands.map"))?;
+    /// # let map = file.map()?;
+    /// let mut stream = map.sub_file(2)?.stream(9, 13)?;
+    /// assert_eq!(stream.skip().unwrap_err(), Refusal::OutOfTurn);
+    /// let (mut step, mut ways) = (stream.next()?, 0);
+    /// while let Step::Way(_) = step {
+    ///     ways += 1;
+    ///     step = stream.skip()?;
+    /// }
+    /// assert!(ways > 0);
+    /// # Ok::<(), Box<dyn std::error::Error>>(())
+    /// ```
+    pub fn skip(&mut self) -> Result<Step<'m, 'a>, Refusal> {
+        self.step(|map, state, Given { words, signed, degrees, ids }| {
+            raw::stream_skip(
+                map.bytes(),
+                map.layout(),
+                map.letters(),
+                state,
+                words,
+                signed,
+                degrees,
+                ids,
+            )
+        })
     }
 }

@@ -189,6 +189,19 @@ extern "C" {
 
     pub fn mapsforge_stream_decline(state: *mut [u64; 8], words: *mut [u64; 6]) -> u64;
 
+    pub fn mapsforge_stream_skip(
+        map: *const u8,
+        map_len: usize,
+        layout: *const [u64; 7],
+        letters: *const u8,
+        letters_len: usize,
+        state: *mut [u64; 8],
+        words: *mut [u64; 22],
+        signed_words: *mut [i64; 2],
+        degrees: *mut [f64; 2],
+        ids: *mut [u64; 15],
+    ) -> u64;
+
     pub fn mapsforge_collect(
         map: *const u8,
         map_len: usize,

@@ -145,16 +145,16 @@ pub const WINDOW_TILE_NUMBERS: usize = 2;
 
 // A stream's state, while no way waits, and while one does.
 pub const STATE_WAITS: usize = 0;
-pub const STATE_SUB_FILE: usize = 5;
-pub const STATE_WATER: usize = 6;
+pub const STATE_WATER: usize = 5;
+pub const STATE_SUB_FILE: usize = 6;
 pub const STATE_PLAIN: usize = 7;
 pub const STATE_WORDS: usize = 8;
 pub const IDLE_POINTS: usize = 1;
 pub const IDLE_WAYS: usize = 2;
 pub const IDLE_POINT: usize = 3;
 pub const IDLE_WAY: usize = 4;
-pub const WAITING_WAYS: usize = 1;
-pub const WAITING_PAST: usize = 2;
+pub const WAITING_PAST: usize = 1;
+pub const WAITING_WAYS: usize = 2;
 pub const WAITING_BODY: usize = 3;
 pub const WAITING_HEAD_PLAIN: usize = 4;
 

@@ -51,10 +51,18 @@ static void stream_open(void) {
 static void stream_next(void) {
     refusal = mapsforge_stream_next(map, len, layout, letters, ROOM, state, words, signed_words, place, ids);
 }
+/* No way is in the window, so that it declines all. */
+static void stream_next_selected(void) {
+    uint64_t select[MAPSFORGE_SELECT_WORDS] = {1, 0, 1, ZOOM};
+    refusal = mapsforge_stream_next_selected(map, len, layout, letters, ROOM, select, classes, ROOM, state, words, signed_words, place, ids);
+}
 static void stream_accept(void) {
     refusal = mapsforge_stream_accept(map, len, state, counts, ROOM, latitudes, ROOM, longitudes, ROOM, words, place);
 }
 static void stream_decline(void) { refusal = mapsforge_stream_decline(state, words); }
+static void stream_skip(void) {
+    refusal = mapsforge_stream_skip(map, len, layout, letters, ROOM, state, words, signed_words, place, ids);
+}
 static void collect(void) {
     refusal = mapsforge_collect(map, len, layout, letters, ROOM, interval, MAPSFORGE_CORNERS(grid), tile, words, points, ways);
 }
@@ -103,7 +111,9 @@ static struct call {
     {"stream_open", stream_open, 0},
     {"stream_next", stream_next, 0},
     {"stream_accept", stream_accept, 0},
+    {"stream_next_selected", stream_next_selected, 0},
     {"stream_decline", stream_decline, 0},
+    {"stream_skip", stream_skip, 0},
     {"collect", collect, 0},
     {"fetch", fetch, 0},
     {"measure_way_data", measure_way_data, 0},
@@ -154,12 +164,17 @@ static void call(void (*run)(void)) {
 }
 
 static void walk_stream(void) {
+    uint64_t waiting[MAPSFORGE_STATE_WORDS];
     call(stream_open);
+    memcpy(waiting, state, sizeof state);
+    call(stream_next_selected);
+    memcpy(state, waiting, sizeof state);
     for (call(stream_next); words[MAPSFORGE_NEXT_KIND] != MAPSFORGE_END; call(stream_next)) {
         if (words[MAPSFORGE_NEXT_KIND] == MAPSFORGE_WAY) {
-            uint64_t waiting[MAPSFORGE_STATE_WORDS];
             memcpy(waiting, state, sizeof state);
             call(stream_decline);
+            memcpy(state, waiting, sizeof state);
+            call(stream_skip);
             memcpy(state, waiting, sizeof state);
             call(stream_accept);
         }

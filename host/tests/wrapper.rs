@@ -8,8 +8,8 @@ use common::{
 };
 use mapsforge::check;
 use mapsforge::{
-    raw, row_of_latitude, BoundingBox, Feature, Grid, InlineKind, Lengths, Map, MapFile, Name,
-    Refusal, Step, SubFile,
+    raw, row_of_latitude, word, BoundingBox, Feature, Grid, InlineKind, Lengths, Map, MapFile,
+    Name, Refusal, Step, SubFile,
 };
 use std::f64::consts::PI;
 use std::io::{ErrorKind, Read};
@@ -303,6 +303,56 @@ fn calls_take_turns() {
     assert_eq!(longitudes.last(), Some(&9.0));
     assert!(latitudes.iter().all(|&x| x != 9.0));
     assert_eq!(raw::stream_decline(&mut stream.state().clone(), &mut [0; 6]), 16);
+}
+
+/// A skip by words, of a map cut off there: its number, and the state behind it.
+fn skipped(map: &Map, bytes: &[u8], state: &[u64; 8]) -> (u64, [u64; 8]) {
+    let (mut state, mut words) = (*state, [7; 22]);
+    let (signs, place, ids) = (&mut [7; 2], &mut [7.0; 2], &mut [7; 15]);
+    let (layout, letters) = (map.layout(), map.letters());
+    let number =
+        raw::stream_skip(bytes, layout, letters, &mut state, &mut words, signs, place, ids);
+    if number != 0 {
+        assert_eq!((words, *signs, *place, *ids), ([7; 22], [7; 2], [7.0; 2], [7; 15]));
+    }
+    (number, state)
+}
+
+#[test]
+fn a_skip_is_a_decline_and_a_next() {
+    let bytes = map_bytes("islands.map");
+    let map = Map::open(&bytes).unwrap();
+    let sub_file = map.sub_file(2).unwrap();
+    let (mut skips, mut cut) = (0, 0);
+    for tile in 0..sub_file.tile_count().unwrap() as usize {
+        let mut stream = sub_file.stream(tile, 21).unwrap();
+        assert_eq!(stream.skip().unwrap_err(), Refusal::OutOfTurn);
+        let mut step = stream.next().unwrap();
+        while !matches!(step, Step::End(_)) {
+            if !stream.waits() {
+                step = stream.next().unwrap();
+                continue;
+            }
+            // The next way's head lies behind a cut there: the skip is refused, and the way still waits.
+            let past = stream.past().unwrap() as usize;
+            let at_last = stream.state()[word::WAITING_WAYS] == 0;
+            let refused = skipped(&map, &bytes[..past], stream.state());
+            assert_eq!(refused.0, u64::from(!at_last));
+            if !at_last {
+                assert_eq!(refused.1, *stream.state());
+                cut += 1;
+            }
+
+            let mut other = stream.clone();
+            other.decline().unwrap();
+            let next = other.next().unwrap();
+            step = stream.skip().unwrap();
+            assert_eq!(format!("{step:?}"), format!("{next:?}"));
+            assert_eq!(stream.state(), other.state());
+            skips += 1;
+        }
+    }
+    assert!(skips > cut && cut > 0, "{skips} {cut}");
 }
 
 // ---- refusals

@@ -219,6 +219,24 @@ impl<'a> Calls<'a> {
         }
     }
 
+    pub fn stream_skip(&mut self) -> u64 {
+        let Next { words, signed, degrees, ids } = &mut self.next;
+        unsafe {
+            sys::mapsforge_stream_skip(
+                self.map.as_ptr(),
+                self.map.len(),
+                &self.opened.layout,
+                self.opened.letters.as_ptr(),
+                self.opened.letters.len(),
+                &mut self.state,
+                words,
+                signed,
+                degrees,
+                ids,
+            )
+        }
+    }
+
     pub fn stream_accept(&mut self) -> u64 {
         let Lists { node_counts, latitudes, longitudes, .. } = &mut self.lists;
         unsafe {

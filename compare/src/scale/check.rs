@@ -4,6 +4,7 @@ use std::cell::Cell;
 use std::fmt::Debug;
 use std::panic::{self, AssertUnwindSafe};
 
+use super::general;
 use super::library::{kept_but, Got};
 use crate::differences::tile::Cause;
 
@@ -128,6 +129,8 @@ pub struct Check {
     said: [[u64; 2]; SAID.len()],
     /// The numbers of collected tiles that are not plain.
     pub padded_numbers: u64,
+    /// Nexts that were held to the general one.
+    pub general: general::Tally,
     /// Whether the case so far has such an answer.
     in_case: [bool; REASONS.len()],
 }
@@ -244,6 +247,7 @@ impl Check {
         add(&mut self.answers_settled, &other.answers_settled);
         add(&mut self.cases_settled, &other.cases_settled);
         add(self.said.as_flattened_mut(), other.said.as_flattened());
+        self.general.add(&other.general);
         self.padded_numbers += other.padded_numbers;
         self.values += other.values;
         self.by_the_rust += other.by_the_rust;

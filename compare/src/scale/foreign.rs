@@ -11,7 +11,7 @@ use super::lent::{Fronts, Lent};
 use super::library::{
     self, degrees, Ask, Got, Interval, Next, State, TagLists, Tags, SIGNED, WORD,
 };
-use super::{asked, intervals, opening, streamed};
+use super::{asked, general, intervals, opening, streamed};
 use crate::differences::tile::{Opened, Table};
 use crate::random::Random;
 use crate::source::Source;
@@ -132,7 +132,7 @@ fn made_up(
         check.words("the state of a refused open", &state, before)?;
     }
     let mut state = *before;
-    let next = library::stream_next(ask, &mut state);
+    let next = general::next(check, &ask.read(), &mut state, WORD)?;
     if any_next(check, &next)? {
         check.words("the state of a refused next", &state, before)?;
     }
@@ -261,7 +261,7 @@ impl Random {
     }
 
     /// One letter is another one, or all are the same.
-    fn other_letters(&mut self, letters: &mut [u8]) {
+    pub fn other_letters(&mut self, letters: &mut [u8]) {
         let letter = [b'b', b'h', b'i', b'f', b's', 0, 1, self.byte()][self.below(8)];
         match self.below(letters.len() + 1) {
             0 => letters.fill(letter),
@@ -282,7 +282,7 @@ impl Random {
         }
     }
 
-    fn other_length(&mut self, length: usize) -> usize {
+    pub fn other_length(&mut self, length: usize) -> usize {
         [0, length, self.below(length + 1), length + self.below(4)][self.below(4)]
     }
 
@@ -294,7 +294,7 @@ impl Random {
     }
 
     /// Another word: near, with the same last byte, a place in the map, or any.
-    fn other_word(&mut self, word: u64, length: usize) -> u64 {
+    pub fn other_word(&mut self, word: u64, length: usize) -> u64 {
         match self.below(8) {
             0 => 0,
             1 => self.next(),

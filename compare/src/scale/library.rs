@@ -83,6 +83,10 @@ impl<'a> Ask<'a> {
         let (Tags { starts, letters }, counts) = (self.tags, [self.layout[2], self.layout[4]]);
         Opened::of(file).listed(Listed { starts, letters, counts })
     }
+
+    pub fn read(&self) -> Read<'_> {
+        Read { map: self.map, layout: &self.layout, letters: self.tags.letters }
+    }
 }
 
 /// The answer of a call: 0 or the number of a refusal, and its words.
@@ -287,26 +291,69 @@ pub struct Next {
     pub ids: [u64; 15],
 }
 
+/// What a next reads besides the state.
+#[derive(Clone, Copy)]
+pub struct Read<'a> {
+    pub map: &'a [u8],
+    pub layout: &'a Layout,
+    pub letters: &'a [u8],
+}
+
+#[link(name = "general_next", kind = "static")]
+extern "C" {
+    /// Next with no quick reader: crate `general_next`, proved of the contract of `mapsforge_stream_next`, which this driver alone links.
+    fn mapsforge_general_next(
+        map: *const u8,
+        map_len: usize,
+        layout: *const Layout,
+        letters: *const u8,
+        letters_len: usize,
+        state: *mut State,
+        words: *mut [u64; 22],
+        signed_words: *mut [i64; 2],
+        degrees: *mut [f64; 2],
+        ids: *mut [u64; 15],
+    ) -> u64;
+}
+
+/// The two nexts.
+#[derive(Clone, Copy)]
+pub enum NextBy {
+    Library,
+    General,
+}
+
+impl NextBy {
+    /// All that is lent holds a word before the call.
+    pub fn call(self, read: &Read, state: &mut State, word: u64) -> Next {
+        let Read { map, layout, letters } = *read;
+        let (mut words, mut ids) = ([word; 22], [word; 15]);
+        let (mut signed, mut degrees) = ([word as i64; 2], [f64::from_bits(word); 2]);
+        let next = match self {
+            NextBy::Library => sys::mapsforge_stream_next,
+            NextBy::General => mapsforge_general_next,
+        };
+        // SAFETY: as above
+        let number = unsafe {
+            next(
+                map.as_ptr(),
+                map.len(),
+                layout,
+                letters.as_ptr(),
+                letters.len(),
+                state,
+                &mut words,
+                &mut signed,
+                &mut degrees,
+                &mut ids,
+            )
+        };
+        Next { got: Got { number, words }, signed, degrees, ids }
+    }
+}
+
 pub fn stream_next(ask: &Ask, state: &mut State) -> Next {
-    let Ask { map, layout, tags: Tags { letters, .. }, .. } = ask;
-    let (mut signed, mut degrees, mut ids) = (SIGNED, degrees(), [WORD; 15]);
-    // SAFETY: as above
-    let got = Got::of(|words| unsafe {
-        let (signed, degrees, ids) = (&mut signed, &mut degrees, &mut ids);
-        sys::mapsforge_stream_next(
-            map.as_ptr(),
-            map.len(),
-            layout,
-            letters.as_ptr(),
-            letters.len(),
-            state,
-            words,
-            signed,
-            degrees,
-            ids,
-        )
-    });
-    Next { got, signed, degrees, ids }
+    NextBy::Library.call(&ask.read(), state, WORD)
 }
 
 /// The fronts of three lists that are lent.

@@ -1,8 +1,10 @@
 //! Showing rules: our library's check of tables, whole and faulty, and what they show, against a model that
 //! looks at each cell; and the ways of streams by them.
 
+mod calls;
 mod model;
 mod selected;
+mod skipped;
 mod streams;
 mod tables;
 
@@ -56,6 +58,7 @@ pub fn compare(bases: &[Base], options: &Options) -> bool {
     );
     println!("  {streams}");
     println!("  {}", streams.selected);
+    println!("  {}", streams.skipped);
     let came =
         options.only.is_some() || NUMBERS.iter().all(|number| tally.answers.contains_key(number));
     if !came {

@@ -4,6 +4,7 @@ use mapsforge_rs::types::MapFile;
 
 use super::check::{Call, Check, Checked, Said};
 use super::collected::{padded, placed};
+use super::general;
 use super::known::{Event, Plan, Script};
 use super::lent::{suffice, Fronts, Lengths, Lent};
 use super::library::{self, degrees, kept_but, Accept, Ask, Got, Next, State, SIGNED, WORD};
@@ -80,7 +81,7 @@ impl Run<'_, '_> {
     /// What a state says besides counts and places: whether a way waits, the sub file's number, the water mark, and whether
     /// what was read is plain, and the waiting way's head.
     fn stated(&mut self, waits: bool) -> Checked {
-        let [waiting, .., fourth, number, water, plain] = self.state;
+        let [waiting, .., fourth, water, number, plain] = self.state;
         self.check.same("whether a way waits", waiting, u64::from(waits))?;
         self.check.same("the state's sub file", number, self.question.number)?;
         self.check.same("whether the water mark is one", water < 2, true)?;
@@ -91,7 +92,7 @@ impl Run<'_, '_> {
 
     /// The header file, of an empty tile: "nothing is to come, and both places are 0".
     fn at_end(&mut self, end: &Answer) -> Checked {
-        let state = [0, 0, 0, 0, 0, self.question.number, end[2], 1];
+        let state = [0, 0, 0, 0, 0, end[2], self.question.number, 1];
         self.check.words("the state of an empty tile", &self.state, &state)
     }
 
@@ -153,14 +154,17 @@ impl Run<'_, '_> {
         Ok(u64::from(plain))
     }
 
-    fn next(&mut self) -> (Next, State) {
+    /// The next, and the state before it.
+    fn next(&mut self) -> Checked<(Next, State)> {
         let before = self.state;
-        (library::stream_next(&self.question.ask, &mut self.state), before)
+        let read = self.question.ask.read();
+        let next = general::next(self.check, &read, &mut self.state, WORD)?;
+        Ok((next, before))
     }
 
     /// A streamed feature has no signature.
     fn point(&mut self, point: &Point) -> Checked {
-        let (ours, _) = self.next();
+        let (ours, _) = self.next()?;
         let plain = self.noted(Said::StreamedPoint, point.plain)?;
         self.stated(false)?;
         let mut words: [u64; 22] = kept_but(6, &[0; 12]);
@@ -177,7 +181,7 @@ impl Run<'_, '_> {
     }
 
     fn head(&mut self, head: &Head) -> Checked {
-        let (ours, _) = self.next();
+        let (ours, _) = self.next()?;
         let plain = self.noted(Said::Head, head.plain)?;
         self.head_plain = plain != 0;
         self.stated(true)?;
@@ -194,7 +198,7 @@ impl Run<'_, '_> {
     /// The end with the sub file's number and the water mark, or the refusal, which leaves the stream where
     /// it was. The Rust's number is the one by which it was asked.
     fn end(&mut self, end: &Answer) -> Checked {
-        let (ours, before) = self.next();
+        let (ours, before) = self.next()?;
         let mut words: [u64; 22] = kept_but(0, &end[1..]);
         if let [0, sub_file, water] = end[..] {
             self.check.same("the Rust's sub file", self.question.ask.at.sub_file, sub_file)?;
@@ -212,7 +216,7 @@ impl Run<'_, '_> {
         if self.random.below(self.question.refused_calls) > 0 {
             return Ok(());
         }
-        let (ours, before) = self.next();
+        let (ours, before) = self.next()?;
         self.check.refused(Call::StreamNext, &ours.got, &[16])?;
         nothing(self.check, &ours)?;
         self.check.words("the state of a next out of turn", &self.state, &before)

@@ -6,8 +6,10 @@ use mapsforge::{word, Map, RuleList, Step, ToCome};
 
 use super::super::check::Checked;
 use super::super::Base;
+use super::calls::{Asked, State};
 use super::model;
-use super::selected::{Asked, Selected};
+use super::selected::Selected;
+use super::skipped::Skipped;
 use crate::random::{repeat, Random};
 
 /// Of a map so many tiles are streamed.
@@ -22,6 +24,7 @@ pub struct Streams {
     accepted: u64,
     declined: u64,
     pub selected: Selected,
+    pub skipped: Skipped,
     /// How many copies with other bytes of each stream's map.
     damaged: usize,
 }
@@ -60,10 +63,7 @@ fn other_bytes(map: &[u8], to_come: Option<ToCome>, random: &mut Random) -> Vec<
 }
 
 /// A state with some other words; few points and ways, since each is read.
-fn other_state(
-    mut state: [u64; word::STATE_WORDS],
-    random: &mut Random,
-) -> [u64; word::STATE_WORDS] {
+fn other_state(mut state: State, random: &mut Random) -> State {
     for (at, word) in state.iter_mut().enumerate() {
         *word = match random.below(12) {
             0 if at == word::IDLE_POINTS || at == word::IDLE_WAYS => random.below(60) as u64,
@@ -81,6 +81,12 @@ impl Streams {
         Streams { damaged, ..Streams::default() }
     }
 
+    /// The calls that the library makes of others, against those one after the other.
+    fn at_state(&mut self, asked: &Asked<'_>, state: State, random: &mut Random) -> Checked {
+        self.selected.compare(asked, state, random)?;
+        self.skipped.compare(asked, state, random)
+    }
+
     pub fn compare(&mut self, base: &Base, random: &mut Random) -> Checked {
         let Ok(map) = Map::open(&base.map) else { return Ok(()) };
         self.maps += 1;
@@ -93,12 +99,12 @@ impl Streams {
                 let Ok(mut stream) = sub_file.stream(at.tile as usize, zoom) else { continue };
                 self.streams += 1;
                 let asked = Asked::new(&base.map, &map, &table);
-                self.selected.compare(&asked, *stream.state(), random)?;
+                self.at_state(&asked, *stream.state(), random)?;
                 for _ in 0..self.damaged {
                     let bytes = other_bytes(&base.map, stream.to_come(), random);
                     let asked = Asked::new(&bytes, &map, &table);
-                    self.selected.compare(&asked, *stream.state(), random)?;
-                    self.selected.compare(&asked, other_state(*stream.state(), random), random)?;
+                    self.at_state(&asked, *stream.state(), random)?;
+                    self.at_state(&asked, other_state(*stream.state(), random), random)?;
                 }
                 loop {
                     let head = match stream.next() {
