@@ -367,7 +367,7 @@ uint64_t mapsforge_stream_accept(const uint8_t *map, size_t map_len, uint64_t st
  *   a way writes state 0 to 7 */
 uint64_t mapsforge_stream_decline(uint64_t state[8], uint64_t words[6]);
 
-/* mapsforge_stream_decline and then mapsforge_stream_next, in one call, for a program that declines most ways. A refused call declines nothing:
+/* mapsforge_stream_decline and then mapsforge_stream_next, in one call. It saves a call, not time. A refused call declines nothing:
  * 16 while no way waits, and where next is refused the way still waits.
  *   writes what mapsforge_stream_next does */
 uint64_t mapsforge_stream_skip(const uint8_t *map, size_t map_len, const uint64_t layout[7], const uint8_t *letters, size_t letters_len, uint64_t state[8], uint64_t words[22], int64_t signed_words[2], double degrees[2], uint64_t ids[15]);

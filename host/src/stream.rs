@@ -447,7 +447,7 @@ impl<'m, 'a> Stream<'m, 'a> {
         Refusal::check(raw::stream_decline(&mut self.state, &mut words), &words)
     }
 
-    /// [`Stream::decline`] and then [`Stream::next`], in one call, for those who decline most ways. 16
+    /// [`Stream::decline`] and then [`Stream::next`], in one call, which saves a call and no time. 16
     /// ([`Refusal::OutOfTurn`]) while no way waits; where the next is refused, the way still waits.
     ///
     /// ```
