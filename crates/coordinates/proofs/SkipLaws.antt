@@ -1,22 +1,22 @@
 -- The loop that passes over coordinates, and that what it passes are coordinates.
-use Prim.Native.Nat.{ℕ, zero, suc, _+_, _*_, _/_, _%_, _^_, _<_, _≤_}
+use Prim.Native.Nat.{ℕ, zero, suc, _+_, _-_, _*_, _/_, _%_, _^_, _<_, _≤_}
 use native.Mathlib.Omega.{arith}
 use mathlib.Core.Path.{_≡_, refl, sym, ap, _∙_}
-use mathlib.Core.Bool.{Bool, true, false, cond, not, _&&_, and-true, and-assoc}
+use mathlib.Core.Bool.{Bool, true, false, cond, not, _&&_, _||_, and-true, and-assoc, false≢true}
 use mathlib.Core.List.{List, [], _∷_, _++_}
 use lib.Dec.{ltb, eqb, leb, lit<, lit≤}
 use lib.IntN.{ℤ, pos, negℤ, natAbs}
 use lib.ListN.{length, getD}
 use mir.Syntax.{w8}
 use mir.Val.{Fits}
-use borrow.Author.Tests.{le-ltb, lt-ltb, le-leb, lt-leb, eq-eqb, ne-eqb, eqb-true, eqb-false, leb-true, leb-false}
+use borrow.Author.Tests.{le-ltb, lt-ltb, ltb-true, ltb-false, le-leb, lt-leb, eq-eqb, ne-eqb, eqb-true, eqb-false, leb-true, leb-false}
 use borrow.Author.Needs.{needs}
 use Rattle.parsing.specs.Parse.{Res, ok, no, andThen, mapRes, many, byte}
 use Rattle.parsing.specs.Good.{split, ok-at, no-ok}
 use Rattle.parsing.proofs.Loops.{fold-more, view-no}
 use Rattle.utils.specs.Vbe.{Noted, noted, allPlain, Groups, groups, lastGroup, below, signedOf, plainSigned, notedSigned, notedCoordinate}
 use Rattle.utils.proofs.VbeLaws.{groups-small, first-plain}
-use Rattle.coordinates.specs.Skip.{short, skipOne, skipAll, skipOf, plainEnd}
+use Rattle.coordinates.specs.Skip.{short, skipOne, skipAll, skipOf, plainEnd, notPlain, notShort, isOff, offAt, anyOff, openIn, startOf, PassedTo}
 use Rattle.coordinates.specs.declared.Skip.{Skip}
 use Rattle.coordinates.specs.declared.Skip.the-variants.{At, Unknown}
 
@@ -138,7 +138,131 @@ skip-stop s at n i next b g e q h c = go (short s next) refl (sym h ∙ q)
     go (ok v x) d z = absurd (let y : _≡_ {A = ℕ} 0 1 = cc in omega arith)
     go (no k v) d z = either (leb (at + 3 * n) (length s)) (many short n s at) (rw (view-no short s allPlain (λ v. v .plain) i n at e (ap (mapRes (λ v. v .plain)) d) c))
 
-pub ruleset skips = (needs, end-low, end-high, one-byte, two-bytes, three-bytes, more-bytes)
+-- what is known of a byte that is not off
+or-no : (a b : Bool) → a || b ≡ false → (a ≡ false) × (b ≡ false)
+or-no false b h = (refl, h)
+or-no true b h = absurd (false≢true (sym h))
+
+module _ (second before b : ℕ) (z : isOff second before b ≡ false) where
+  plain-off : notPlain before b ≡ false
+  plain-off = or-no (notPlain before b) (notShort second before b) z .0
+
+  off-first : before < 128 → b < 128 → not (eqb b 64) ≡ true
+  off-first low h = go (eqb b 64) refl
+    where
+      go : (t : Bool) → eqb b 64 ≡ t → not t ≡ true
+      go false q = refl
+      go true q = absurd (false≢true (sym (rw (lt-ltb before 192 (omega arith), q) at plain-off)))
+
+  off-end : 128 ≤ before → b < 128 → plainEnd before b ≡ true
+  off-end high h = go (eqb (b % 64) 0) refl (leb 192 before) refl
+    where
+      go : (t : Bool) → eqb (b % 64) 0 ≡ t → (u : Bool) → leb 192 before ≡ u → cond t u true ≡ true
+      go false q u y = refl
+      go true q true y = refl
+      go true q false y =
+          let l = or-no (eqb b 64) (eqb b 0 && true) (rw (lt-ltb before 192 (leb-false 192 before y), le-leb 128 before high) at plain-off) in
+          let k = eqb-true (b % 64) 0 q in
+          let x = eqb-false b 64 (l .0) in
+          absurd (false≢true (sym (rw (eq-eqb b 0 (omega arith)) at (l .1))))
+
+  off-long : 128 ≤ second → 128 ≤ before → 128 ≤ b → ⊥
+  off-long h k l = false≢true (sym (rw (le-leb 128 second h, le-leb 128 before k, le-leb 128 b l) at (or-no (notPlain before b) (notShort second before b) z .1)))
+
+module _ (s : List ℕ) (at n : ℕ) (k : (i : ℕ) → Fits w8 (getD s i 0)) where
+  passed-one : (start after l m : ℕ) → At true after ≡ skipOne (short s start) → after ≤ start + 3 → 0 < l → m + 1 ≡ l → PassedTo s at n start l → PassedTo s at n after m
+  passed-one start after l m g h o q p =
+      let y : n - l + 1 ≡ n - m = omega arith in
+      ((omega arith, omega arith), rw y at (skip-more s start _ g true after refl (n - l) at true (p .1)))
+
+  -- the byte behind those at i and i + 1
+  pass-one : (i l m : ℕ) → 0 < l → m + 1 ≡ l + getD s (i + 2) 0 / 128 → offAt s i (i + 1) (i + 2) ≡ false → PassedTo s at n (startOf s i) l → PassedTo s at n (startOf s (i + 1)) m
+  pass-one i l m o q f p =
+      rw (z, y) (go (ltb (getD s (i + 1) 0) 128) refl (ltb (getD s i 0) 128) refl (ltb (getD s (i + 2) 0) 128) refl p)
+    where
+      z : i + 1 + 1 ≡ i + 2
+      z = omega arith
+
+      y : i + 1 + 2 ≡ i + 3
+      y = omega arith
+
+      stays : (start : ℕ) → 128 ≤ getD s (i + 2) 0 → PassedTo s at n start l → PassedTo s at n start m
+      stays start h p = let x : l ≡ m = omega (arith, k (i + 2)) in rw x at p
+
+      go : (u : Bool) → ltb (getD s (i + 1) 0) 128 ≡ u → (v : Bool) → ltb (getD s i 0) 128 ≡ v → (w : Bool) → ltb (getD s (i + 2) 0) 128 ≡ w
+          → PassedTo s at n (cond u (i + 2) (cond v (i + 1) i)) l → PassedTo s at n (cond w (i + 3) (cond u (i + 2) (i + 1))) m
+      go true g v h true x p =
+          let a = ltb-true (getD s (i + 1) 0) 128 g in
+          let b = ltb-true (getD s (i + 2) 0) 128 x in
+          let c : i + 2 + 1 ≡ i + 3 = omega arith in
+          passed-one (i + 2) (i + 3) l m (rw (off-first (getD s i 0) (getD s (i + 1) 0) (getD s (i + 2) 0) f a b, c) at (one-byte s (i + 2) (omega arith) b)) (omega arith) o (omega arith) p
+      go true g v h false x p = stays (i + 2) (ltb-false (getD s (i + 2) 0) 128 x) p
+      go false g true h true x p =
+          let a = ltb-false (getD s (i + 1) 0) 128 g in
+          let b = ltb-true (getD s (i + 2) 0) 128 x in
+          passed-one (i + 1) (i + 3) l m (rw y at (two-bytes s (i + 1) (omega arith) a true k (rw z b) (rw z (sym (off-end (getD s i 0) (getD s (i + 1) 0) (getD s (i + 2) 0) f a b))))) (omega arith) o (omega arith) p
+      go false g true h false x p = stays (i + 1) (ltb-false (getD s (i + 2) 0) 128 x) p
+      go false g false h true x p =
+          let a = ltb-false (getD s (i + 1) 0) 128 g in
+          let b = ltb-true (getD s (i + 2) 0) 128 x in
+          passed-one i (i + 3) l m (three-bytes s i (omega arith) (ltb-false (getD s i 0) 128 h) a true k b (sym (off-end (getD s i 0) (getD s (i + 1) 0) (getD s (i + 2) 0) f a b))) (omega arith) o (omega arith) p
+      go false g false h false x p = absurd (off-long (getD s i 0) (getD s (i + 1) 0) (getD s (i + 2) 0) f (ltb-false (getD s i 0) 128 h) (ltb-false (getD s (i + 1) 0) 128 g) (ltb-false (getD s (i + 2) 0) 128 x))
+
+  -- the next byte, where i is written otherwise
+  pass-next : (i j t r l m : ℕ) → j ≡ i + 1 → t ≡ i + 2 → r ≡ i + 1 → 0 < l → m + 1 ≡ l + getD s t 0 / 128 → offAt s i j t ≡ false → PassedTo s at n (startOf s i) l → PassedTo s at n (startOf s r) m
+  pass-next i j t r l m a b c o q f p = rw c (pass-one i l m o (rw b at q) (rw (a, b) at f) p)
+
+  pub pass-eight : (i l : ℕ) → 8 ≤ l → anyOff s i ≡ false → PassedTo s at n (startOf s i) l → PassedTo s at n (startOf s (i + 8)) (l - 8 + openIn s i)
+  pass-eight i l o f p =
+      let e7 = or-no _ _ f in
+      let e6 = or-no _ _ (e7 .0) in
+      let e5 = or-no _ _ (e6 .0) in
+      let e4 = or-no _ _ (e5 .0) in
+      let e3 = or-no _ _ (e4 .0) in
+      let e2 = or-no _ _ (e3 .0) in
+      let e1 = or-no _ _ (e2 .0) in
+      let p1 = pass-next i (i + 1) (i + 2) (i + 1) l (l - 1 + (getD s (i + 2) 0 / 128)) (omega arith) (omega arith) (omega arith) (omega arith) (omega arith) (e1 .0) p in
+      let p2 = pass-next (i + 1) (i + 2) (i + 3) (i + 2) (l - 1 + (getD s (i + 2) 0 / 128)) (l - 2 + (getD s (i + 2) 0 / 128 + getD s (i + 3) 0 / 128)) (omega arith) (omega arith) (omega arith) (omega arith) (omega arith) (e1 .1) p1 in
+      let p3 = pass-next (i + 2) (i + 3) (i + 4) (i + 3) (l - 2 + (getD s (i + 2) 0 / 128 + getD s (i + 3) 0 / 128)) (l - 3 + (getD s (i + 2) 0 / 128 + getD s (i + 3) 0 / 128 + getD s (i + 4) 0 / 128)) (omega arith) (omega arith) (omega arith) (omega arith) (omega arith) (e2 .1) p2 in
+      let p4 = pass-next (i + 3) (i + 4) (i + 5) (i + 4) (l - 3 + (getD s (i + 2) 0 / 128 + getD s (i + 3) 0 / 128 + getD s (i + 4) 0 / 128)) (l - 4 + (getD s (i + 2) 0 / 128 + getD s (i + 3) 0 / 128 + getD s (i + 4) 0 / 128 + getD s (i + 5) 0 / 128)) (omega arith) (omega arith) (omega arith) (omega arith) (omega arith) (e3 .1) p3 in
+      let p5 = pass-next (i + 4) (i + 5) (i + 6) (i + 5) (l - 4 + (getD s (i + 2) 0 / 128 + getD s (i + 3) 0 / 128 + getD s (i + 4) 0 / 128 + getD s (i + 5) 0 / 128)) (l - 5 + (getD s (i + 2) 0 / 128 + getD s (i + 3) 0 / 128 + getD s (i + 4) 0 / 128 + getD s (i + 5) 0 / 128 + getD s (i + 6) 0 / 128)) (omega arith) (omega arith) (omega arith) (omega arith) (omega arith) (e4 .1) p4 in
+      let p6 = pass-next (i + 5) (i + 6) (i + 7) (i + 6) (l - 5 + (getD s (i + 2) 0 / 128 + getD s (i + 3) 0 / 128 + getD s (i + 4) 0 / 128 + getD s (i + 5) 0 / 128 + getD s (i + 6) 0 / 128)) (l - 6 + (getD s (i + 2) 0 / 128 + getD s (i + 3) 0 / 128 + getD s (i + 4) 0 / 128 + getD s (i + 5) 0 / 128 + getD s (i + 6) 0 / 128 + getD s (i + 7) 0 / 128)) (omega arith) (omega arith) (omega arith) (omega arith) (omega arith) (e5 .1) p5 in
+      let p7 = pass-next (i + 6) (i + 7) (i + 8) (i + 7) (l - 6 + (getD s (i + 2) 0 / 128 + getD s (i + 3) 0 / 128 + getD s (i + 4) 0 / 128 + getD s (i + 5) 0 / 128 + getD s (i + 6) 0 / 128 + getD s (i + 7) 0 / 128)) (l - 7 + (getD s (i + 2) 0 / 128 + getD s (i + 3) 0 / 128 + getD s (i + 4) 0 / 128 + getD s (i + 5) 0 / 128 + getD s (i + 6) 0 / 128 + getD s (i + 7) 0 / 128 + getD s (i + 8) 0 / 128)) (omega arith) (omega arith) (omega arith) (omega arith) (omega arith) (e6 .1) p6 in
+      pass-next (i + 7) (i + 8) (i + 9) (i + 8) (l - 7 + (getD s (i + 2) 0 / 128 + getD s (i + 3) 0 / 128 + getD s (i + 4) 0 / 128 + getD s (i + 5) 0 / 128 + getD s (i + 6) 0 / 128 + getD s (i + 7) 0 / 128 + getD s (i + 8) 0 / 128)) (l - 8 + (getD s (i + 2) 0 / 128 + getD s (i + 3) 0 / 128 + getD s (i + 4) 0 / 128 + getD s (i + 5) 0 / 128 + getD s (i + 6) 0 / 128 + getD s (i + 7) 0 / 128 + getD s (i + 8) 0 / 128 + getD s (i + 9) 0 / 128)) (omega arith) (omega arith) (omega arith) (omega arith) (omega arith) (e7 .1) p7
+
+  pub open-small : (i : ℕ) → openIn s i ≤ 8
+  open-small i = omega (arith, k (i + 2), k (i + 3), k (i + 4), k (i + 5), k (i + 6), k (i + 7), k (i + 8), k (i + 9))
+
+-- by the code's tests
+module _ (s : List ℕ) (i : ℕ) where
+  pub start-next : getD s (i + 1) 0 < 128 → i + 2 ≡ startOf s i
+  start-next h = rw (lt-ltb (getD s (i + 1) 0) 128 h)
+
+  pub start-one : 128 ≤ getD s (i + 1) 0 → getD s i 0 < 128 → i + 1 ≡ startOf s i
+  start-one h l = rw (le-ltb (getD s (i + 1) 0) 128 h, lt-ltb (getD s i 0) 128 l)
+
+  pub start-two : 128 ≤ getD s (i + 1) 0 → 128 ≤ getD s i 0 → i ≡ startOf s i
+  start-two h l = rw (le-ltb (getD s (i + 1) 0) 128 h, le-ltb (getD s i 0) 128 l)
+
+  pub start-near : i ≤ startOf s i
+  start-near = go (ltb (getD s (i + 1) 0) 128) (ltb (getD s i 0) 128)
+    where
+      go : (t u : Bool) → i ≤ cond t (i + 2) (cond u (i + 1) i)
+      go true u = omega arith
+      go false true = omega arith
+      go false false = omega arith
+
+-- none is passed
+pub passed-none : (s : List ℕ) (at n : ℕ) → at + 3 * n ≤ length s → PassedTo s at n at n
+passed-none s at n h = let z : n - n ≡ 0 = omega arith in ((omega arith, h), rw z)
+
+pub passed-start : (s : List ℕ) (at n back : ℕ) → at + 3 * n ≤ length s → at ≡ back + 2 → getD s (back + 1) 0 < 128 → PassedTo s at n (startOf s back) n
+passed-start s at n back h q l =
+    let z : at ≡ startOf s back = q ∙ start-next s back l in
+    let y : n - n ≡ 0 = omega arith in
+    ((omega arith, rw z at h), rw y (ap (ok true) z))
+
+pub ruleset skips = (needs, end-low, end-high, one-byte, two-bytes, three-bytes, more-bytes, start-next, start-one, start-two)
 
 -- a short number is a coordinate
 one-more : (m k : ℕ) (s : List ℕ) (at : ℕ) (g : Groups) (e : ℕ) → groups m k s at ≡ ok g e → groups m (suc k) s at ≡ ok g e

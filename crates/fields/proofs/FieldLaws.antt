@@ -136,22 +136,22 @@ module _ (m : List ℕ) (at : ℕ) (f : Bool) (o : f ≡ true) where
     pub some-noted-text : (t : Text) (n : ℕ) → g ≡ text-read.Value t n → ok (noted (maybePart m (At (t .span))) (t .plain)) n ≡ mapRes maybeNoted (optional f notedText m at)
     some-noted-text t n h = search flagged
 
-  module _ (g : SpanRead) where
-    module _ (q : spanRes m g ≡ text m at) where
-      pub no-text : (x y : Refusal) → g ≡ bytes.Refused x → y ≡ spanRefusal g → refused y ≡ optional f text m at
-      no-text x y h w = search flagged
+    pub no-text : (x y : Refusal) → g ≡ text-read.Refused x → y ≡ textRefusal g → refused y ≡ optional f text m at
+    unfolding text
+    no-text x y h w = search flagged
 
-      pub some-text : (s : Span) (n : ℕ) → g ≡ bytes.Value s n → ok (maybePart m (At s)) n ≡ optional f text m at
-      some-text s n h = search flagged
+    pub some-text : (t : Text) (n : ℕ) → g ≡ text-read.Value t n → ok (maybePart m (At (t .span))) n ≡ optional f text m at
+    unfolding text
+    some-text t n h = search flagged
 
-    module _ (q : spanRes m g ≡ part 32 m at) where
-      pub no-signature : (x y : Refusal) → g ≡ bytes.Refused x → y ≡ spanRefusal g → refused y ≡ debugSignature f m at
-      unfolding debugSignature
-      no-signature x y h w = search flagged
+  module _ (g : SpanRead) (q : spanRes m g ≡ part 32 m at) where
+    pub no-signature : (x y : Refusal) → g ≡ bytes.Refused x → y ≡ spanRefusal g → refused y ≡ debugSignature f m at
+    unfolding debugSignature
+    no-signature x y h w = search flagged
 
-      pub some-signature : (s : Span) (n : ℕ) → g ≡ bytes.Value s n → ok (maybePart m (At s)) n ≡ debugSignature f m at
-      unfolding debugSignature
-      some-signature s n h = search flagged
+    pub some-signature : (s : Span) (n : ℕ) → g ≡ bytes.Value s n → ok (maybePart m (At s)) n ≡ debugSignature f m at
+    unfolding debugSignature
+    some-signature s n h = search flagged
 
 module _ (m : List ℕ) (at : ℕ) (g : MicroRead) (q : microRes g ≡ notedCoordinate m at) where
   pub no-latitude : (x y : Refusal) → g ≡ micro.Refused x → y ≡ microRefusal g → refused y ≡ mapRes notedPosition (node m at)

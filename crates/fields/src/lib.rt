@@ -81,17 +81,18 @@ pub fn read_signature(map: &[u8], at: usize, debug: bool) -> OptionalSpanRead
     OptionalSpanRead::Value(OptionalSpan::At(span), next)
 }
 
-// A text that a flag announces, alone.
+// A text that a flag announces, alone. By the same read as the noted one, which stays one piece of code that way.
 pub fn read_optional_text(map: &[u8], at: usize, flag: bool) -> OptionalSpanRead
     ensures { λ r. ⌜ optionalSpanRes (now (map .entry)) r ≡ optional flag text (now (map .entry)) at ⌝ }
 {
     if !flag {
         return OptionalSpanRead::Value(OptionalSpan::Absent, at);
     }
-    let got = utils::read_vbe_u(map, at);
-    let SpanRead::Value(span, next) = got else {
-        return OptionalSpanRead::Refused(byte_source::span_refusal(got));
+    let got = utils::read_text(map, at);
+    let TextRead::Value(text, next) = got else {
+        return OptionalSpanRead::Refused(utils::text_refusal(got));
     };
+    let span = text.span;
     OptionalSpanRead::Value(OptionalSpan::At(span), next)
 }
 

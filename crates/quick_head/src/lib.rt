@@ -273,9 +273,13 @@ pub fn quick_point_tags(
     tags: usize,
     ids: &mut [u64; 15],
 ) -> QuickTags
-    requires { ⌜ (first + tags ≤ length (now letters)) × (length (now ids) ≡ 15) ⌝ }
     ensures { λ r. ⌜ IfKnown (r .known) (Reads (tagsOf (now (ids .entry))) (tagged (kindsIn (now (letters .entry)) first tags) (now (map .entry)) at) (length (now (map .entry))) (record { layer = r .layer; ids = now (ids .exit); count = r .count; plain = true }) (r .next)) ⌝ }
 {
+    let row = *ids;
+    let counted = fifteen(row);
+    if !has_all(letters, first, tags) {
+        return no_tags();
+    }
     if map.len() <= at {
         return no_tags();
     }

@@ -195,11 +195,6 @@ pub fn quick_point(
 ) -> QuickPoint
     ensures { λ r. ⌜ IfKnown (r .known) (Reads (pointOf (now (ids .entry))) (point false (kindsIn (now (letters .entry)) first tags) (now (map .entry)) at) (length (now (map .entry))) (pointIn r (now (ids .exit))) (r .fields .elevation .next)) ⌝ }
 {
-    let row = *ids;
-    let counted = quick_head::fifteen(row);
-    if !quick_head::has_all(letters, first, tags) {
-        return no_point();
-    }
     let node = quick_head::quick_node(map, at);
     if !node.known {
         return no_point();

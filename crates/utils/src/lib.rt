@@ -327,16 +327,16 @@ pub fn read_text(map: &[u8], at: usize) -> TextRead
     read_part(map, start, n.value as usize, n.plain)
 }
 
-// The text alone.
+// The text alone, by its length's value: what a walk over many texts reads.
 pub fn read_vbe_u(map: &[u8], at: usize) -> SpanRead
     ensures { λ r. ⌜ spanRes (now (map .entry)) r ≡ text (now (map .entry)) at ⌝ }
 {
-    let got = read_text(map, at);
-    match got {
-        TextRead::Value(t, n) => {
-            let span = t.span;
-            SpanRead::Value(span, n)
-        }
-        TextRead::Refused(r) => SpanRead::Refused(r),
+    let got = read_number(map, at);
+    let NumberRead::Value(n, start) = got else {
+        return SpanRead::Refused(byte_source::number_refusal(got));
+    };
+    if 1048576 < n {
+        return SpanRead::Refused(Refusal::TextTooLong);
     }
+    byte_source::read_bytes(map, start, n as usize)
 }

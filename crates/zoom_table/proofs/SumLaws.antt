@@ -2,12 +2,14 @@
 use Prim.Native.Nat.{ℕ, zero, suc, _+_, _-_, _≤_, _<_}
 use native.Mathlib.Nat.{zero-add, suc-add, add-assoc}
 use native.Mathlib.Omega.{arith}
-use mathlib.Core.Path.{_≡_, refl, sym, ap, _∙_}
-use mathlib.Core.Bool.{Bool, _&&_}
+use mathlib.Core.Path.{_≡_, refl, sym, ap, _∙_, subst}
+use mathlib.Core.Bool.{Bool, true, false, _&&_}
 use mathlib.Core.List.{List, [], _∷_, _++_}
-use lib.ListN.{length}
+use lib.Dec.{ltb}
+use lib.ListN.{length, getD}
 use lib.Seq.{take-append-seam}
 use borrow.Author.Needs.{needs}
+use borrow.Author.Tests.{ltb-true}
 use Rattle.parsing.specs.Parse.{Res, ok, no, Parser, andThen, mapRes, many}
 use Rattle.parsing.specs.Good.{split, ok-val, ok-at, total}
 use Rattle.parsing.proofs.Loops.{fold-more, counted, many-count}
@@ -18,11 +20,12 @@ use Rattle.error.specs.declared.Refusal.{Refusal}
 use Rattle.error.specs.declared.Refusal.the-variants.{ReversedInterval}
 use Rattle.arithmetic.specs.Cut.{cut}
 use Rattle.arithmetic.proofs.CutLaws.{cut-add}
-use Rattle.utils.specs.Vbe.{Noted, valuesOf, allPlain}
+use Rattle.utils.specs.Vbe.{Noted, noted, valuesOf, allPlain}
+use Rattle.utils.proofs.VbeLaws.{unsigned-one}
 use Rattle.format.specs.Tile.{Row, row}
 use Rattle.format.specs.Rows.{rowsUpto, pointsOf, waysOf, numbersOfTable}
-use Rattle.types.proofs.NotedLaws.{and-assoc, values-length, values-snoc, plain-snoc}
-use Rattle.zoom_table.specs.Blocks.{notedRow, sumOf, notedSums, rowRes, rowRefusal}
+use Rattle.types.proofs.NotedLaws.{and-assoc, and-true, values-length, values-snoc, plain-snoc}
+use Rattle.zoom_table.specs.Blocks.{notedRow, sumOf, notedSums, rowRes, rowRefusal, IfShort, ShortRow}
 use Rattle.zoom_table.specs.declared.NotedRow.{NotedRow}
 use Rattle.zoom_table.specs.declared.NotedSums.{NotedSums}
 use Rattle.zoom_table.specs.declared.RowRead.{RowRead}
@@ -69,6 +72,40 @@ module _ (m : List ℕ) (i at n k p w : ℕ) (b : Bool) where
 
   pub sums-no : (g : RowRead) (e′ e : Refusal) → mapRes sumOf (many row i m at) ≡ ok (record { points = p; ways = w; plain = b }) n → rowRes g ≡ mapRes notedRow (row m n) → g ≡ row-read.Refused e → e′ ≡ rowRefusal g → i < k → refused e′ ≡ mapRes sumOf (many row k m at)
   sums-no g e′ e h q d z o = ap (mapRes sumOf) (row-no sumOf m i at n k (record { points = p; ways = w; plain = b }) g e′ e h q d z o)
+
+-- a row whose numbers have one byte each
+pub short-test : (m : List ℕ) (at : ℕ) → at ≤ length m → 2 ≤ length m - at → getD m at 0 < 128 → IfShort (ltb (getD m (at + 1) 0) 128) (ShortRow m at)
+short-test m at h l a = go (ltb (getD m (at + 1) 0) 128) refl
+  where
+    go : (t : Bool) → ltb (getD m (at + 1) 0) 128 ≡ t → IfShort t (ShortRow m at)
+    go true e = record { inside = omega arith; points = a; ways = ltb-true (getD m (at + 1) 0) 128 e }
+    go false e = tt
+
+pub ruleset shorts = (needs, short-test)
+
+module _ (m : List ℕ) (n : ℕ) (t : Bool) (s : IfShort t (ShortRow m n)) (k : t ≡ true) where
+  short : ShortRow m n
+  short = subst (λ (b : Bool). IfShort b (ShortRow m n)) k s
+
+  pub short-inside : n + 2 ≤ length m
+  short-inside = short .inside
+
+  pub short-points : getD m n 0 < 128
+  short-points = short .points
+
+  pub short-ways : getD m (n + 1) 0 < 128
+  short-ways = short .ways
+
+  short-row : row m n ≡ ok (noted (record { points = getD m n 0; ways = getD m (n + 1) 0 }) true) (n + 2)
+  unfolding row
+  short-row =
+      let i = short .inside in
+      let e : n + 1 + 1 ≡ n + 2 = omega arith in
+      rw (← unsigned-one m n (getD m n 0) (omega arith) refl (short .points), ← unsigned-one m (n + 1) (getD m (n + 1) 0) (omega arith) refl (short .ways), e)
+
+  pub short-more : (i at p w p′ w′ : ℕ) (b : Bool) → mapRes sumOf (many row i m at) ≡ ok (record { points = p; ways = w; plain = b }) n → p′ ≡ cut (p + getD m n 0) → w′ ≡ cut (w + getD m (n + 1) 0) → mapRes sumOf (many row (i + 1) m at) ≡ ok (record { points = p′; ways = w′; plain = b }) (n + 2)
+  short-more i at p w p′ w′ b h x y =
+      sums-more m i at n 0 p w b (n + 2) p′ w′ b (row-read.Value (record { points = getD m n 0; ways = getD m (n + 1) 0; plain = true }) (n + 2)) _ h (sym (ap (mapRes notedRow) short-row)) refl x y (sym (and-true b))
 
 pub ruleset sums = (needs, sums-more, sums-no, counted)
 

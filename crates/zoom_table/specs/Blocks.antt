@@ -1,8 +1,9 @@
 -- A zoom table as it is handed out, and its sums (document 01, blocks.rs), from what is stored.
-use Prim.Native.Nat.{ℕ}
+use Prim.Native.Nat.{ℕ, _+_, _≤_, _<_}
+use mathlib.Core.Bool.{Bool, true, false}
 use mathlib.Core.List.{List}
 use mathlib.Core.List.{map as mapped}
-use lib.ListN.{length, take, replicate}
+use lib.ListN.{length, take, replicate, getD}
 use Rattle.parsing.specs.Parse.{Res, ok}
 use Rattle.error.specs.Refusals.{refused}
 use Rattle.error.specs.declared.Refusal.{Refusal}
@@ -85,3 +86,13 @@ rowRes (row.Refused r) = refused r
 abbrev pub rowRefusal : RowRead → Refusal
 rowRefusal (row.Value v n) = Source
 rowRefusal (row.Refused r) = r
+
+-- Of private functions, which need not be believed: a row whose numbers have one byte each
+abbrev pub IfShort : Bool → Type 0 → Type 0
+IfShort true A = A
+IfShort false A = Unit {0}
+
+pub record ShortRow (m : List ℕ) (at : ℕ) : Type 0 where
+  pub inside : at + 2 ≤ length m
+  pub points : getD m at 0 < 128
+  pub ways : getD m (at + 1) 0 < 128

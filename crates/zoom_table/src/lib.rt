@@ -9,7 +9,7 @@ ghost use Rattle.utils.specs.Vbe.{valuesOf};
 ghost use Rattle.format.specs.Tile.{row};
 ghost use Rattle.format.specs.Rows.{rowsUpto, numbersOfTable, intervalTable};
 ghost use Rattle.format.specs.CutOff.{whereByte};
-ghost use Rattle.zoom_table.specs.Blocks.{notedRow, rowRes, rowRefusal, sumOf, noRows, shownRows, TableIs, notedSums, sumsRes, sumsRefusal};
+ghost use Rattle.zoom_table.specs.Blocks.{notedRow, rowRes, rowRefusal, sumOf, noRows, shownRows, TableIs, notedSums, sumsRes, sumsRefusal, IfShort, ShortRow};
 
 // The points and ways of a zoom level.
 pub struct ZoomRow {
@@ -144,6 +144,23 @@ fn read_table_numbers(map: &[u8], at: usize, min: u8, max: u8) -> ZoomTableRead
     fill_rows(map, at, (max - min) as usize + 1)
 }
 
+// Whether both numbers of a row have one byte, as most have.
+fn is_short(map: &[u8], at: usize) -> bool
+    ensures { λ r. ⌜ IfShort r (ShortRow (now (map .entry)) at) ⌝ }
+{
+    let len = map.len();
+    if len < at {
+        return false;
+    }
+    if len - at < 2 {
+        return false;
+    }
+    if 128 <= map[at] {
+        return false;
+    }
+    map[at + 1] < 128
+}
+
 // The sums of `count` rows, and whether all their numbers were plain.
 fn sum_rows(map: &[u8], at: usize, count: usize) -> RowRead
     ensures { λ r. ⌜ rowRes r ≡ mapRes sumOf (many row count (now (map .entry)) at) ⌝ }
@@ -154,6 +171,13 @@ fn sum_rows(map: &[u8], at: usize, count: usize) -> RowRead
     let mut next = at;
     let mut i = 0;
     while i < count {
+        if is_short(map, next) {
+            points = arithmetic::saturating_add_usize(points, map[next] as usize);
+            ways = arithmetic::saturating_add_usize(ways, map[next + 1] as usize);
+            next += 2;
+            i += 1;
+            continue;
+        }
         let got = read_row(map, next);
         let RowRead::Value(one, after) = got else {
             return RowRead::Refused(row_refusal(got));

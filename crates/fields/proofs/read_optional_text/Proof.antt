@@ -7,10 +7,10 @@ returns : tie.Need-returns
 returns c = search flagged
 
 returns-2 : tie.Need-returns-2
-returns-2 c = let a = c .before .before .before .before .before .before .args in let e = c .before .enum-told in no-text (a .map .now) (a .at) _ (not-false _ (c .before .before .before .before .if1 .left)) _ (c .before .before .before .read-vbe-u .ensures) (e .given .0 .0) _ (e .given .1) (c .span-refusal .ensures)
+returns-2 c = let a = c .before .before .before .before .before .before .args in let e = c .before .enum-told in no-text (a .map .now) (a .at) _ (not-false _ (c .before .before .before .before .if1 .left)) _ (c .before .before .before .read-text .ensures) (e .given .0 .0) _ (e .given .1) (c .text-refusal .ensures)
 
 returns-3 : tie.Need-returns-3
-returns-3 c = let a = c .before .before .before .before .before .before .args in some-text (a .map .now) (a .at) _ (not-false _ (c .before .before .before .before .if1 .left)) _ (c .before .before .before .read-vbe-u .ensures) (c .before .got .given .0 .0) (c .before .got .given .0 .1 .0) (c .before .got .given .1)
+returns-3 c = let a = c .before .before .before .before .before .before .before .args in let g = c .before .before .got in some-text (a .map .now) (a .at) _ (not-false _ (c .before .before .before .before .before .if1 .left)) _ (c .before .before .before .before .read-text .ensures) (g .given .0 .0) (g .given .0 .1 .0) (g .given .1)
 
 pub read-optional-text-spec : {M : Type 1} → statement M
 read-optional-text-spec =

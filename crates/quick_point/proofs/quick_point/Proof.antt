@@ -1,4 +1,4 @@
-use Rattle.quick_point.proofs.PointLaws.{point-is, points}
+use Rattle.quick_point.proofs.PointLaws.{point-is}
 use Rattle.quick_head.proofs.QuickLaws.{untold}
 use Rattle.quick_point.proofs.quick_point.Statement.{statement}
 use Rattle.quick_point.proofs.quick_point.Tie as tie
@@ -9,15 +9,11 @@ quick-point-spec =
     (tie.spec
     (λ c κs. tt)
     (λ c κs. tt)
-    (λ c κs. tt)
     (λ c. untold _ _ (c .no-point .ensures))
     (λ c κs. tt)
     (λ c κs. tt)
     (λ c. untold _ _ (c .no-point2 .ensures))
-    (λ c κs. search points)
+    (λ c κs. tt)
     (λ c κs. tt)
     (λ c. untold _ _ (c .no-point3 .ensures))
-    (λ c κs. tt)
-    (λ c κs. tt)
-    (λ c. untold _ _ (c .no-point4 .ensures))
-    (λ c. point-is _ _ _ _ _ (c .before .before .before .before .before .before .before .before .before .quick-node .result) (c .before .before .before .before .before .quick-point-tags .result) (c .before .before .quick-fields .result) (c .before .before .before .before .before .before .before .before .before .quick-node .ensures) (c .before .before .before .before .before .before .before .if2 .left) (c .before .before .before .before .before .quick-point-tags .ensures) (c .before .before .before .if3 .left) (c .before .before .quick-fields .ensures) (c .if4 .left)))
+    (λ c. point-is _ _ _ _ _ (c .before .before .before .before .before .before .before .before .before .quick-node .result) (c .before .before .before .before .before .quick-point-tags .result) (c .before .before .quick-fields .result) (c .before .before .before .before .before .before .before .before .before .quick-node .ensures) (c .before .before .before .before .before .before .before .if1 .left) (c .before .before .before .before .before .quick-point-tags .ensures) (c .before .before .before .if2 .left) (c .before .before .quick-fields .ensures) (c .if3 .left)))
