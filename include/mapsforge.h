@@ -50,6 +50,12 @@
  * (an empty name where the list has no entry, or the map no text there). No more is promised then: the lists of another map, or of this one
  * before it changed, give features that look right and are wrong, and nothing tells.
  *
+ * mapsforge_collect fills one list more, `places`, with the place in the map at which each feature of the tile starts (in a debug map, its
+ * signature's): points from 0, ways behind them. mapsforge_fetch takes it with the tile's counts, and reads the one feature that it is asked
+ * for, so that the last way of a tile costs what the first one does. The list is the caller's, as those of tags are; it is of that tile
+ * alone. With the list and the counts that collecting gave, a fetch gives what the tile has, and no byte but the feature's own matters to it.
+ * Any other list and counts are taken too: a call ends, stays inside what it is lent, and gives what can be read where the list says, or a refusal.
+ *
  * The caller computes the grid. The library takes every grid that is not reversed and not too large (14): with a wrong one it reads wrong
  * tiles, and nothing tells. A sub file's grid is the tiles of its base zoom that the map's bounding box touches: columns x_min to x_max and
  * rows y_min to y_max, both ends included, whatever zoom the tiles are shown at. Column 0 starts at 180 degrees west; row 0 is the
@@ -94,7 +100,7 @@ enum {
     MAPSFORGE_INVALID_GRID = 14,          /* a reversed grid, or one of more than 2^32 - 1 tiles */
     MAPSFORGE_TOO_SHORT = 15,             /* a lent list or buffer is shorter than the result */
     MAPSFORGE_OUT_OF_TURN = 16,           /* next while a way waits; accept, decline or skip while none does */
-    MAPSFORGE_INVALID_FEATURE = 17,       /* a feature number at or above the count */
+    MAPSFORGE_INVALID_FEATURE = 17,       /* a feature number at or above the count, or the length of the list of places */
     MAPSFORGE_ZOOM_TOO_LARGE = 18,        /* a zoom above 63 in column or longitude arithmetic */
     MAPSFORGE_INDEX_CUT_OFF = 19,         /* the map ends before the five bytes of the tile's index entry or of the next one do; word 0: that
                                              entry's place */
@@ -119,6 +125,7 @@ enum {
 #define MAPSFORGE_NEEDED_STARTS 0               /* of mapsforge_open's */
 #define MAPSFORGE_NEEDED_LETTERS 1
 #define MAPSFORGE_NEEDED_CLASSES 0              /* of mapsforge_check_rules's */
+#define MAPSFORGE_NEEDED_PLACES 0               /* of mapsforge_collect's */
 #define MAPSFORGE_RULES_TAG 0                   /* of refusals 23 and 24: the way tag's id */
 #define MAPSFORGE_RULES_ZOOM 1                  /* and the zoom */
 #define MAPSFORGE_VALUES 6                      /* how many there are */
@@ -192,8 +199,8 @@ enum {
 uint64_t mapsforge_open(const uint8_t *map, size_t map_len, uint64_t *starts, size_t starts_len, uint8_t *letters, size_t letters_len, uint64_t words[34], double degrees[6], uint64_t layout[7]);
 
 /* The zoom interval of a sub file, which goes as it is to mapsforge_tile_count, mapsforge_tile_index, mapsforge_index_entry,
- * mapsforge_stream_open, mapsforge_collect and mapsforge_fetch. Of a missing one, word 0 is all that they look at. Refused with 1 if the
- * interval is not in the map, so never with a layout that mapsforge_open gave of this map.
+ * mapsforge_stream_open and mapsforge_collect. Of a missing one, word 0 is all that they look at. Refused with 1 if the interval is not in
+ * the map, so never with a layout that mapsforge_open gave of this map.
  *   an interval writes interval 0 to 5
  *   a missing one writes interval 0 */
 #define MAPSFORGE_INTERVAL_THERE 0              /* interval: any word but 0 is taken for a sub file that is there */
@@ -253,7 +260,7 @@ uint64_t mapsforge_tile_index(const uint64_t interval[6], int32_t x_min, int32_t
 
 /* A tile's entry in the index. The calls about a tile refuse in this order: no such sub file (8), a bad grid (14), no such tile (8), no
  * entry of the tile or, but for this call, of the next one (19), a reversed interval (13); then comes the tile, its bytes in file order;
- * then no such feature (17), and a list too short (15) last. This one stops behind 19.
+ * and a list too short (15) last. This one stops behind 19. mapsforge_fetch is about a feature: it is told no tile.
  *
  * This call does not look at the next entry, which may mark the tile empty (see mapsforge_collect): its place is then that of another tile.
  *   an entry writes words 6 to 8 */
@@ -374,8 +381,13 @@ uint64_t mapsforge_stream_skip(const uint8_t *map, size_t map_len, const uint64_
 
 /* Collects a tile: decodes every feature of it. points and ways: the zoom table. Row r is how many features are added at the interval's
  * lowest zoom plus r. A tile that its index marks empty (the next entry has the same offset; of the last tile, its offset is the sub file's
- * size) has no features, rows of 0, offset 0 and no signature; its stream is at its end, with its own water mark, and a fetch of it is refused
- * with 17. So the next entry is read too, here, by mapsforge_stream_open and by mapsforge_fetch: a map that ends in it is refused with 19.
+ * size) has no features, rows of 0, offset 0 and no signature; its stream is at its end, with its own water mark. So the next entry is read
+ * too, here and by mapsforge_stream_open: a map that ends in it is refused with 19.
+ *
+ * places: where each feature starts, at its front; entries behind the last feature keep their values. If it is shorter than points and ways
+ * together, the call is refused with 15, with the length needed (word MAPSFORGE_NEEDED_PLACES; 2^64 - 1 stands for any larger one), and
+ * nothing else is written. A stream that was opened at zoom 255 has the same numbers in its state (MAPSFORGE_IDLE_POINTS, MAPSFORGE_IDLE_WAYS),
+ * and reads no feature for them; but a damaged tile may count any number of features there, and then it is not collected.
  *   a tile writes words 6 to 14; points 0 to words[9] - 1; ways 0 to words[9] - 1 */
 #define MAPSFORGE_COLLECT_SIGNATURE 6           /* words: a part, 6 to 8 */
 #define MAPSFORGE_COLLECT_ROWS 9                /* how many rows the zoom table has */
@@ -385,11 +397,13 @@ uint64_t mapsforge_stream_skip(const uint8_t *map, size_t map_len, const uint64_
 #define MAPSFORGE_COLLECT_EXACT 13              /* whether every way's stored size is its decoded length: if so, ways can be declined */
 #define MAPSFORGE_COLLECT_PLAIN 14              /* whether all numbers of the tile were plain: those of its head and of all its features */
 #define MAPSFORGE_COLLECT_WORDS 15
-uint64_t mapsforge_collect(const uint8_t *map, size_t map_len, const uint64_t layout[7], const uint8_t *letters, size_t letters_len, const uint64_t interval[6], int32_t x_min, int32_t y_min, int32_t x_max, int32_t y_max, size_t tile, uint64_t words[15], uint64_t points[256], uint64_t ways[256]);
+uint64_t mapsforge_collect(const uint8_t *map, size_t map_len, const uint64_t layout[7], const uint8_t *letters, size_t letters_len, const uint64_t interval[6], int32_t x_min, int32_t y_min, int32_t x_max, int32_t y_max, size_t tile, uint64_t words[15], uint64_t points[256], uint64_t ways[256], uint64_t *places, size_t places_len);
 
-/* Fetches feature k of a collected tile: points from 0, ways behind them. A way's node counts, latitudes and longitudes and its blocks'
- * initial latitudes and longitudes go to the fronts of the lists; the texts go to the buffer, one behind the other: the tags' strings in
- * the order of their ids, then name, house number and reference; all that stands behind keeps its values. signed_words: the layer, and a
+/* Fetches feature k of a collected tile: points from 0, ways behind them. places, points and ways: the list that mapsforge_collect filled and
+ * the counts that it gave. Refused with 17, before anything is read, if the number is not below points and ways together, or not below the
+ * list's length. A way's node counts, latitudes and longitudes and its blocks' initial latitudes and longitudes go to the fronts of the lists;
+ * the texts go to the buffer, one behind the other: the tags' strings in the order of their ids, then name, house number and reference; all
+ * that stands behind keeps its values. signed_words: the layer, and a
  * point's elevation, 0 if it has none. degrees: a point's position, or a way's label's. ids: the tag ids, zeros behind them. tags: five
  * words for each tag, zeros behind them. A refused call leaves the lists and the buffer alone.
  *   a point writes words 6 to 29, 35; signed_words 0, 1; degrees 0, 1; ids 0 to 14; tags 0 to 74
@@ -423,7 +437,7 @@ uint64_t mapsforge_collect(const uint8_t *map, size_t map_len, const uint64_t la
 #define MAPSFORGE_STRING_KEY_HASH 3
 #define MAPSFORGE_STRING_VALUE_HASH 4
 #define MAPSFORGE_STRING_WORDS 5
-uint64_t mapsforge_fetch(const uint8_t *map, size_t map_len, const uint64_t layout[7], const uint64_t *starts, size_t starts_len, const uint8_t *letters, size_t letters_len, const uint64_t interval[6], int32_t x_min, int32_t y_min, int32_t x_max, int32_t y_max, size_t tile, uint64_t feature, uint64_t *node_counts, size_t node_counts_len, double *latitudes, size_t latitudes_len, double *longitudes, size_t longitudes_len, double *initial_latitudes, size_t initial_latitudes_len, double *initial_longitudes, size_t initial_longitudes_len, uint8_t *buffer, size_t buffer_len, uint64_t words[37], int64_t signed_words[2], double degrees[2], uint64_t ids[15], uint64_t tags[75]);
+uint64_t mapsforge_fetch(const uint8_t *map, size_t map_len, const uint64_t layout[7], const uint64_t *starts, size_t starts_len, const uint8_t *letters, size_t letters_len, const uint64_t *places, size_t places_len, uint64_t points, uint64_t ways, uint64_t feature, uint64_t *node_counts, size_t node_counts_len, double *latitudes, size_t latitudes_len, double *longitudes, size_t longitudes_len, double *initial_latitudes, size_t initial_latitudes_len, double *initial_longitudes, size_t initial_longitudes_len, uint8_t *buffer, size_t buffer_len, uint64_t words[37], int64_t signed_words[2], double degrees[2], uint64_t ids[15], uint64_t tags[75]);
 
 /* The data of a way alone, from a place in the map on: measured, and read to the fronts of three lists. A refused call leaves the lists
  * alone.

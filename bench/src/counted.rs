@@ -30,11 +30,9 @@ pub fn table(files: &[&str]) {
             println!("| {} | {} | {ours} | | |", map.name, work.name());
         }
     }
-    for file in crafted::BOTH {
+    for (file, works) in crafted::both() {
         let name = Map::read(file).name;
-        crafted::WORKS
-            .iter()
-            .for_each(|work| print_line(&name, work.name(), work.word(), Some(file)));
+        works.iter().for_each(|work| print_line(&name, work.name(), work.word(), Some(file)));
     }
     print_line("(none)", way_data::COUNTED.name, WAY_DATA, None);
 }
@@ -69,11 +67,11 @@ fn ours_of(works: &[Work], file: &str) -> Vec<(&'static str, u64)> {
 
 /// The maps that are made here.
 pub fn ours_crafted() -> Vec<(String, u64)> {
-    let of_map = |file: &'static str| {
-        let figures = ours_of(&crafted::WORKS, file);
+    let of_map = |(file, works): (&'static str, [Work; 2])| {
+        let figures = ours_of(&works, file);
         figures.into_iter().map(move |(work, ours)| (format!("{file} {work}"), ours))
     };
-    crafted::BOTH.into_iter().chain([crafted::OURS]).flat_map(of_map).collect()
+    crafted::both().chain([(crafted::OURS, crafted::WORKS)]).flat_map(of_map).collect()
 }
 
 /// What callgrind collects inside of `bench_counted`. Its file stays, for callgrind_annotate.

@@ -1,5 +1,6 @@
-//! Maps that are made here, each of one tile whose ways carry a tag 15 times. They are slow for a reader that looks for a
-//! tag's letter in the header each time: by a walk over all names before it, or through a name that is long.
+//! Maps that are made here, each of one tile. In some of them ways carry a tag 15 times: they are slow for a reader that looks
+//! for a tag's letter in the header each time, by a walk over all names before it, or through a name that is long. Two have
+//! many features: they are slow for a reader that walks to each one.
 
 use crate::work::Work;
 
@@ -8,8 +9,15 @@ pub const BOTH: [&str; 2] = ["crafted/many-tags", "crafted/long-name"];
 /// A map of a megabyte with the long name, for ours alone.
 pub const OURS: &str = "crafted/long-name-full";
 
-/// What is done on them.
+/// A tile of features that have no tags, and one of ten times as many, for both sides.
+pub const FEW_AND_MANY: [&str; 2] = ["crafted/features-1000", "crafted/features-10000"];
+
+/// What is done on those with tags.
 pub const WORKS: [Work; 2] = [Work::Decline, Work::Collect];
+/// What is done on those with many features.
+pub const FETCHED: [Work; 2] = [Work::Collect, Work::Fetch];
+/// The second of them may take so many times the instructions of the first.
+pub const MOST_GROWTH: u64 = 12;
 /// Ours may take so many times as long as the Rust.
 pub const MOST: f64 = 2.0;
 
@@ -19,12 +27,20 @@ const WAYS_WITH_MANY_TAGS: u64 = 19_273;
 const ONE_WAY: u64 = 1;
 const WAYS_OF_A_MEGABYTE: u64 = 24_960;
 
+/// The maps that both sides read, and what they do there.
+pub fn both() -> impl Iterator<Item = (&'static str, [Work; 2])> {
+    let tags = BOTH.into_iter().map(|name| (name, WORKS));
+    tags.chain(FEW_AND_MANY.into_iter().map(|name| (name, FETCHED)))
+}
+
 /// The map of such a name.
 pub fn map(name: &str) -> Option<Vec<u8>> {
     match name {
         "crafted/many-tags" => Some(many_tags()),
         "crafted/long-name" => Some(long_name(ONE_WAY)),
         OURS => Some(long_name(WAYS_OF_A_MEGABYTE)),
+        "crafted/features-1000" => Some(features(500)),
+        "crafted/features-10000" => Some(features(5000)),
         _ => None,
     }
 }
@@ -38,6 +54,15 @@ fn many_tags() -> Vec<u8> {
 /// One tag whose name has half a megabyte.
 fn long_name(ways: u64) -> Vec<u8> {
     with_tags(1, &text(&vec![b'n'; LONG_NAME]), &tile(ways, 0))
+}
+
+/// So many points, and as many ways of two nodes.
+fn features(each: u64) -> Vec<u8> {
+    let points = [1, 1, 0x50, 0].repeat(each as usize);
+    let behind = [0xFF, 0xFF, 0x50, 0, 1, 2, 1, 1, 2, 2];
+    let way = [&[behind.len() as u8][..], &behind].concat();
+    let head = [number(each), number(each), number(points.len() as u64)].concat();
+    with_tags(0, &[], &[head, points, way.repeat(each as usize)].concat())
 }
 
 /// A map of one sub file with one tile, at zoom 0.

@@ -4,7 +4,7 @@ use std::collections::BTreeMap;
 use std::fs;
 use std::process::ExitCode;
 
-use crate::counted;
+use crate::{counted, crafted};
 
 const MAPS: &str = concat!(env!("CARGO_MANIFEST_DIR"), "/../maps");
 const SHIPPED: [&str; 3] = ["islands", "islands-debug", "short-size"];
@@ -36,11 +36,24 @@ pub fn check() -> ExitCode {
         differ += 1;
     }
     println!("instructions of {} works, {differ} differ by more than 3 %", counted.len());
-    if differ == 0 {
+    if differ + grown(&counted) == 0 {
         ExitCode::SUCCESS
     } else {
         ExitCode::FAILURE
     }
+}
+
+/// Tells of each work that takes more than its share where there are ten times as many features.
+fn grown(counted: &[(String, u64)]) -> usize {
+    let of = |work: String| counted.iter().find(|(known, _)| *known == work).map(|(_, ours)| *ours);
+    let mut grown = 0;
+    for work in crafted::FETCHED {
+        let figures = crafted::FEW_AND_MANY.map(|map| of(format!("{map} {}", work.word())));
+        let [Some(few), Some(many)] = figures else { panic!("{} is counted", work.word()) };
+        println!("{}: {few} instructions for 1000 features, {many} for 10000", work.word());
+        grown += usize::from(many > crafted::MOST_GROWTH * few);
+    }
+    grown
 }
 
 fn is_other(ours: u64, before: u64) -> bool {

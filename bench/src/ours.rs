@@ -136,7 +136,7 @@ impl Ours<'_> {
         let calls = &mut self.calls;
         let [points, ways] = [calls.collected.words[11], calls.collected.words[12]];
         for feature in 0..points + ways {
-            done(calls.fetch(address, feature))?;
+            done(calls.fetch(feature))?;
             // a point leaves the words of a way as they were
             if calls.fetched.words[6] == WAY {
                 tally.blocks += calls.fetched.words[32];

@@ -55,9 +55,9 @@ pub fn table(maps: &[Map]) {
 /// The maps that are made here, and the works on them that were slow.
 pub fn crafted() {
     head();
-    for name in crafted::BOTH {
+    for (name, works) in crafted::both() {
         let map = Map::read(name);
-        let slow = lines(&map, &crafted::WORKS, &mut sides(&map));
+        let slow = lines(&map, &works, &mut sides(&map));
         slow.iter().for_each(|line| assert!(line.ratio() <= crafted::MOST, "{name}: too slow"));
     }
     let map = Map::read(crafted::OURS);

@@ -30,7 +30,8 @@ compare/run [--rust FOLDER] COMMAND ARGS...
   scale [--cases N] [--seed S] [--threads T] [--quick] [--only K] [MAP...]
                       our library and the Rust in one process: crafted maps, those of maps/ and the maps named, first whole
                       and undamaged, then cut off at each length, then N damaged copies, by the words of their own headers
-                      and by others; every answer, word and lent entry; fails on a difference.
+                      and by others; every answer, word and lent entry, fetches also by altered lists of places; fails on a
+                      difference.
                       --quick is a fixed run of about a minute with fewer cuts; it, and any run of as many cases, also fails
                       if a refusal does not come at all. --only looks at case K alone. Every next is held to the general next too
   quick [--cases N] [--seed S] [--quick] [--only K] [MAP...]

@@ -21,6 +21,7 @@ mod intervals;
 mod known;
 mod lent;
 mod library;
+mod listed;
 mod opening;
 mod quick;
 mod ruled;
@@ -164,6 +165,7 @@ pub fn run(arguments: &[&str]) -> io::Result<Option<ExitCode>> {
     println!();
     all.print();
     all.general.print();
+    all.places.print();
     let long = options.cases(CASES, QUICK_CASES) >= QUICK_CASES;
     let good = good && (!long || once || all_came(&all));
     println!("time: {:.1} s", start.elapsed().as_secs_f64());
@@ -247,7 +249,11 @@ fn all_came(all: &Check) -> bool {
     if !unheld.is_empty() {
         println!("UNEXPLAINED: these nexts were not held to the general next: {unheld:?}");
     }
-    missing.is_empty() && unsaid.is_empty() && unheld.is_empty()
+    let unlisted = all.places.missing();
+    if !unlisted.is_empty() {
+        println!("UNEXPLAINED: no list of places led to {unlisted:?}");
+    }
+    missing.is_empty() && unsaid.is_empty() && unheld.is_empty() && unlisted.is_empty()
 }
 
 /// The cases, shared out among threads by their numbers.

@@ -1,7 +1,7 @@
 //! Fetched features.
 
-use crate::raw::{self, FetchLists, FetchWords};
-use crate::{word, Lengths, Name, Offset, Part, Refusal, SubFile};
+use crate::raw::{self, FetchLists, FetchWords, Listed};
+use crate::{word, Lengths, Map, Name, Offset, Part, Refusal};
 
 /// A tag of a feature, with the hashes that the format's readers look it up by.
 #[derive(Clone, Debug, PartialEq, Eq)]
@@ -159,28 +159,25 @@ impl Buffers {
 
     pub(crate) fn fetch<'a>(
         &mut self,
-        sub_file: &SubFile<'_, 'a>,
-        tile: usize,
+        map: &Map<'a>,
+        listed: Listed<'_>,
         feature: u64,
     ) -> Result<Feature<'a>, Refusal> {
-        let map = sub_file.map().bytes();
         let mut got = FetchWords::default();
         // Once to learn the lengths, if they have to grow, and once more.
         loop {
             let number = raw::fetch(
-                map,
-                sub_file.map().layout(),
-                sub_file.map().starts(),
-                sub_file.map().letters(),
-                sub_file.words(),
-                sub_file.grid().corners(),
-                tile,
+                map.bytes(),
+                map.layout(),
+                map.starts(),
+                map.letters(),
+                listed,
                 feature,
                 self.lists(),
                 &mut got,
             );
             match Refusal::check(number, &got.words) {
-                Ok(()) => return Ok(self.feature(map, &got)),
+                Ok(()) => return Ok(self.feature(map.bytes(), &got)),
                 Err(Refusal::TooShort(needed)) => self.grow(needed),
                 Err(refusal) => return Err(refusal),
             }

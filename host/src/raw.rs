@@ -381,7 +381,7 @@ pub fn stream_skip(
     }
 }
 
-/// Collects a tile.
+/// Collects a tile; the place of each feature goes to the front of `places`.
 pub fn collect(
     map: &[u8],
     layout: &[u64; word::LAYOUT_WORDS],
@@ -392,6 +392,7 @@ pub fn collect(
     words: &mut [u64; word::COLLECT_WORDS],
     points: &mut [u64; word::MAX_ROWS],
     ways: &mut [u64; word::MAX_ROWS],
+    places: &mut [u64],
 ) -> u64 {
     let [x_min, y_min, x_max, y_max] = grid;
     // SAFETY: borrowed for the call, at their lengths.
@@ -411,6 +412,8 @@ pub fn collect(
             words,
             points,
             ways,
+            places.as_mut_ptr(),
+            places.len(),
         )
     }
 }
@@ -458,20 +461,28 @@ impl Default for FetchWords {
     }
 }
 
+/// The features of a collected tile, as [`collect`] gave them to its caller.
+#[derive(Clone, Copy, Debug)]
+pub struct Listed<'a> {
+    /// Where each one starts in the map: points from 0, ways behind them.
+    pub places: &'a [u64],
+    /// How many points there are.
+    pub points: u64,
+    /// How many ways.
+    pub ways: u64,
+}
+
 /// Fetches a feature of a collected tile: points from 0, ways behind them.
 pub fn fetch(
     map: &[u8],
     layout: &[u64; word::LAYOUT_WORDS],
     starts: &[u64],
     letters: &[u8],
-    interval: &[u64; word::INTERVAL_WORDS],
-    grid: [i32; 4],
-    tile: usize,
+    listed: Listed<'_>,
     feature: u64,
     lists: FetchLists<'_>,
     got: &mut FetchWords,
 ) -> u64 {
-    let [x_min, y_min, x_max, y_max] = grid;
     // SAFETY: borrowed for the call, at their lengths.
     unsafe {
         sys::mapsforge_fetch(
@@ -482,12 +493,10 @@ pub fn fetch(
             starts.len(),
             letters.as_ptr(),
             letters.len(),
-            interval,
-            x_min,
-            y_min,
-            x_max,
-            y_max,
-            tile,
+            listed.places.as_ptr(),
+            listed.places.len(),
+            listed.points,
+            listed.ways,
             feature,
             lists.node_counts.as_mut_ptr(),
             lists.node_counts.len(),

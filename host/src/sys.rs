@@ -217,6 +217,8 @@ extern "C" {
         words: *mut [u64; 15],
         points: *mut [u64; 256],
         ways: *mut [u64; 256],
+        places: *mut u64,
+        places_len: usize,
     ) -> u64;
 
     pub fn mapsforge_fetch(
@@ -227,12 +229,10 @@ extern "C" {
         starts_len: usize,
         letters: *const u8,
         letters_len: usize,
-        interval: *const [u64; 6],
-        x_min: i32,
-        y_min: i32,
-        x_max: i32,
-        y_max: i32,
-        tile: usize,
+        places: *const u64,
+        places_len: usize,
+        points: u64,
+        ways: u64,
         feature: u64,
         node_counts: *mut u64,
         node_counts_len: usize,

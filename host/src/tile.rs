@@ -1,8 +1,11 @@
 //! A collected tile.
 
-use crate::{raw, word, Buffers, Feature, Part, Point, Refusal, SubFile, Way};
+use crate::feature::grow;
+use crate::raw::{self, Listed};
+use crate::{word, Buffers, Feature, Part, Point, Refusal, SubFile, Way};
 
-/// A collected tile: its counts, and its features by their numbers.
+/// A collected tile: its counts, and its features by their numbers. It keeps the place of each feature in the map, so
+/// that each one is fetched alone, whatever its number.
 ///
 /// ```
 /// # use mapsforge::{Feature, MapFile};
@@ -28,6 +31,18 @@ pub struct Tile<'m, 'a> {
     way_count: u64,
     exact: bool,
     plain: bool,
+    /// Where each feature starts in the map: points, then ways.
+    places: Vec<u64>,
+}
+
+/// A tile's head may count any number of features. A list of more entries is made only once the tile is known to have them.
+const MOST_AT_FIRST: u64 = 1 << 16;
+
+/// How many features the tile's head counts, at most the above; 0 where it cannot be read, which collecting will say.
+fn counted(sub_file: &SubFile<'_, '_>, tile: usize) -> u64 {
+    let stream = sub_file.stream(tile, u8::MAX).ok();
+    let features = stream.and_then(|stream| stream.to_come());
+    features.map_or(0, |to_come| to_come.points.saturating_add(to_come.ways).min(MOST_AT_FIRST))
 }
 
 impl<'m, 'a> Tile<'m, 'a> {
@@ -35,18 +50,26 @@ impl<'m, 'a> Tile<'m, 'a> {
         let map = sub_file.map().bytes();
         let mut words = [0; word::COLLECT_WORDS];
         let (mut points, mut ways) = ([0; word::MAX_ROWS], [0; word::MAX_ROWS]);
-        let number = raw::collect(
-            map,
-            sub_file.map().layout(),
-            sub_file.map().letters(),
-            sub_file.words(),
-            sub_file.grid().corners(),
-            tile,
-            &mut words,
-            &mut points,
-            &mut ways,
-        );
-        Refusal::check(number, &words)?;
+        let mut places = vec![0; counted(&sub_file, tile) as usize];
+        loop {
+            let number = raw::collect(
+                map,
+                sub_file.map().layout(),
+                sub_file.map().letters(),
+                sub_file.words(),
+                sub_file.grid().corners(),
+                tile,
+                &mut words,
+                &mut points,
+                &mut ways,
+                &mut places,
+            );
+            match Refusal::check(number, &words) {
+                Ok(()) => break,
+                Err(Refusal::TooShort(needed)) => grow(&mut places, needed.lists[0]),
+                Err(refusal) => return Err(refusal),
+            }
+        }
         Ok(Tile {
             sub_file,
             number: tile,
@@ -57,6 +80,7 @@ impl<'m, 'a> Tile<'m, 'a> {
             way_count: words[word::COLLECT_WAYS],
             exact: words[word::COLLECT_EXACT] != 0,
             plain: words[word::COLLECT_PLAIN] != 0,
+            places,
         })
     }
 
@@ -130,11 +154,15 @@ impl<'m, 'a> Tile<'m, 'a> {
 
     /// Fetches a feature by lists that are kept for the next fetch; they grow as needed.
     pub fn fetch_with(&self, number: u64, buffers: &mut Buffers) -> Result<Feature<'a>, Refusal> {
-        buffers.fetch(&self.sub_file, self.number, number)
+        buffers.fetch(self.sub_file.map(), self.listed(), number)
     }
 
-    /// All features, points first. Each is found by a walk, so that a tile of many takes a time that grows with the
-    /// square of their number; a stream does not.
+    /// Where the features are, as the library's own calls take it: for [`raw::fetch`].
+    pub fn listed(&self) -> Listed<'_> {
+        Listed { places: &self.places, points: self.point_count, ways: self.way_count }
+    }
+
+    /// All features, points first.
     pub fn features(&self) -> Features<'_, 'm, 'a> {
         self.range(0, self.point_count.saturating_add(self.way_count))
     }

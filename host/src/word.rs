@@ -13,6 +13,7 @@ pub const NEEDED_BUFFER: usize = 5;
 pub const NEEDED_STARTS: usize = 0;
 pub const NEEDED_LETTERS: usize = 1;
 pub const NEEDED_CLASSES: usize = 0;
+pub const NEEDED_PLACES: usize = 0;
 pub const RULES_TAG: usize = 0;
 pub const RULES_ZOOM: usize = 1;
 pub const VALUES: usize = 6;

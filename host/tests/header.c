@@ -69,8 +69,14 @@ int main(int argc, char **argv) {
     printf("columns %" PRId32 " to %" PRId32 ", rows %" PRId32 " to %" PRId32 "\n", grid.x_min, grid.x_max, grid.y_min, grid.y_max);
     printf("base zoom %" PRIu64 ", %" PRIu64 " tiles\n", interval[MAPSFORGE_INTERVAL_BASE_ZOOM], count[MAPSFORGE_TILE_COUNT_TILES]);
 
+    /* An empty list says how many features there are. */
+    static uint64_t places[ROOM];
     uint64_t tile[MAPSFORGE_COLLECT_WORDS], points[MAPSFORGE_MAX_ROWS], ways[MAPSFORGE_MAX_ROWS];
-    check("collect", mapsforge_collect(map, len, layout, letters, letters_len, interval, MAPSFORGE_CORNERS(grid), TILE, tile, points, ways));
+    printf("too short %d\n", mapsforge_collect(map, len, layout, letters, letters_len, interval, MAPSFORGE_CORNERS(grid), TILE, tile, points, ways,
+                                              places, 0) == MAPSFORGE_TOO_SHORT);
+    printf("needs %" PRIu64 " places\n", tile[MAPSFORGE_NEEDED_PLACES]);
+    check("collect", mapsforge_collect(map, len, layout, letters, letters_len, interval, MAPSFORGE_CORNERS(grid), TILE, tile, points, ways,
+                                       places, ROOM));
     printf("tile %" PRIu64 " points, %" PRIu64 " ways, exact %" PRIu64 ", plain %" PRIu64 "\n", tile[MAPSFORGE_COLLECT_POINTS],
            tile[MAPSFORGE_COLLECT_WAYS], tile[MAPSFORGE_COLLECT_EXACT], tile[MAPSFORGE_COLLECT_PLAIN]);
     printf("row 0: %" PRIu64 "+%" PRIu64 "\n", points[0], ways[0]);
@@ -82,8 +88,8 @@ int main(int argc, char **argv) {
     int64_t signed_words[MAPSFORGE_SIGNED_WORDS];
     double position[MAPSFORGE_POSITION_DEGREES];
     uint8_t buffer[ROOM];
-    check("fetch", mapsforge_fetch(map, len, layout, starts, tags_len, letters, letters_len, interval, MAPSFORGE_CORNERS(grid), TILE, 0, counts,
-                                   ROOM, latitudes, ROOM, longitudes, ROOM, initial_latitudes, ROOM, initial_longitudes, ROOM, buffer,
+    check("fetch", mapsforge_fetch(map, len, layout, starts, tags_len, letters, letters_len, places, ROOM, tile[MAPSFORGE_COLLECT_POINTS],
+                                   tile[MAPSFORGE_COLLECT_WAYS], 0, counts, ROOM, latitudes, ROOM, longitudes, ROOM, initial_latitudes, ROOM, initial_longitudes, ROOM, buffer,
                                    ROOM, fetched, signed_words, position, ids, tags));
     const char *text = (const char *)buffer;
     for (uint64_t k = 0; k < fetched[MAPSFORGE_FETCH_TAG_COUNT]; k++) {

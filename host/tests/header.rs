@@ -462,6 +462,7 @@ fn as_wrapped(file: &MapFile) -> String {
             sub_file.interval().base_zoom,
             sub_file.tile_count().unwrap()
         ),
+        format!("too short 1\nneeds {} places", tile.point_count() + tile.way_count()),
         format!(
             "tile {} points, {} ways, exact {}, plain {}",
             tile.point_count(),

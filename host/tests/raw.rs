@@ -4,7 +4,7 @@ mod common;
 
 use common::lent::Layout;
 use common::{map_bytes, Random, SHIPPED, VERSION};
-use mapsforge::raw::{self, FetchLists, FetchWords};
+use mapsforge::raw::{self, FetchLists, FetchWords, Listed};
 use mapsforge::{word, Map};
 
 impl Random {
@@ -243,9 +243,11 @@ impl Asked<'_> {
         (number, state.inner)
     }
 
-    fn collect(&self, tile: usize) -> (u64, [u64; 15]) {
+    /// With the list of places, of which so many entries are lent.
+    fn collect(&self, tile: usize, room: usize) -> (u64, [u64; 15], [u64; 200]) {
         let mut words = Guarded::new([7; 15]);
         let (mut points, mut ways) = (Guarded::new([7; 256]), Guarded::new([7; 256]));
+        let mut places = Guarded::new([7; 200]);
         let number = raw::collect(
             self.map,
             &self.layout,
@@ -256,14 +258,18 @@ impl Asked<'_> {
             &mut words.inner,
             &mut points.inner,
             &mut ways.inner,
+            &mut places.inner[..room],
         );
         let rows = if number == 0 { words.inner[9] as usize } else { 0 };
+        let features = if number == 0 { words.inner[11] + words.inner[12] } else { 0 } as usize;
+        assert!(features <= room && places.inner[features..].iter().all(|&place| place == 7));
+        assert!(number != 15 || words.inner[0] > room as u64 && words.inner[1..6] == [0; 5]);
         assert!(points.inner[rows..].iter().chain(&ways.inner[rows..]).all(|&row| row == 7));
         assert!(number == 0 || words.inner[6..] == [7; 9]);
-        (number, words.inner)
+        (number, words.inner, places.inner)
     }
 
-    fn fetch(&self, tile: usize, feature: u64) -> (u64, Box<FetchWords>) {
+    fn fetch(&self, of: Listed<'_>, feature: u64) -> (u64, Box<FetchWords>) {
         let mut lists = Guarded::new(([7u64; 8], [[7.0f64; 20]; 4], [b'#'; 60]));
         let (node_counts, places, buffer) = &mut lists.inner;
         let [latitudes, longitudes, initial_latitudes, initial_longitudes] = places;
@@ -282,9 +288,8 @@ impl Asked<'_> {
             ids: [7; 15],
             tags: [7; 75],
         });
-        let Asked { map, layout, starts, letters, interval } = self;
-        let number =
-            raw::fetch(map, layout, starts, letters, interval, GRID, tile, feature, lent, &mut got);
+        let Asked { map, layout, starts, letters, .. } = self;
+        let number = raw::fetch(map, layout, starts, letters, of, feature, lent, &mut got);
         let untouched = ([7; 8], [[7.0; 20]; 4], [b'#'; 60]);
         if number != 0 {
             let words = got.words[6..].iter().chain(&got.ids).chain(&got.tags);
@@ -293,6 +298,20 @@ impl Asked<'_> {
         }
         (number, got)
     }
+}
+
+/// A list of places and counts, with other entries here and there.
+fn any_places(random: &mut Random, map: &[u8], known: &Asked<'_>) -> (Vec<u64>, [u64; 2]) {
+    let (_, words, places) = known.collect(random.next() as usize % 12, 200);
+    let mut places = places.to_vec();
+    if random.next() & 3 == 0 {
+        places.truncate(random.next() as usize % 200);
+    }
+    for place in &mut places {
+        *place = if random.next() & 7 == 0 { random.word(map) } else { *place };
+    }
+    let counts = [words[word::COLLECT_POINTS], words[word::COLLECT_WAYS]];
+    (places, counts.map(|count| if random.next() & 3 == 0 { random.word(map) } else { count }))
 }
 
 /// Lists of any length, with other entries here and there.
@@ -322,6 +341,9 @@ fn any_layout_any_lists_and_any_interval_will_do() {
     let (known, known_lists) = (opened(&map), listed(&map));
     let mut random = Random(7);
     let mut seen = [0; 21];
+    let (layout, interval) = known;
+    let (starts, letters) = &known_lists;
+    let known_tiles = Asked { map: &map, layout, starts, letters, interval };
     for _ in 0..10_000 {
         let (mut layout, mut interval) = known;
         let (starts, letters) = &any_lists(&mut random, &map, &known_lists);
@@ -335,16 +357,21 @@ fn any_layout_any_lists_and_any_interval_will_do() {
         let asked = Asked { map: &map, layout, starts, letters, interval };
         let there = interval[0] != 0;
         assert_eq!(asked.on_grid(), if there { [[1, 12], [1, 5]] } else { [[0, 7]; 2] });
+        let room = random.next() as usize % 201;
         let numbers = [
             asked.entry(tile).0,
             asked.stream(tile, random.next() as u8).0,
-            asked.collect(tile).0,
-            asked.fetch(tile, feature).0,
+            asked.collect(tile, room).0,
         ];
-        numbers.iter().for_each(|&number| seen[number as usize] += 1);
         if !there || tile == 12 {
-            assert_eq!(numbers, [8; 4]);
+            assert_eq!(numbers, [8; 3]);
         }
+        let (places, [points, ways]) = &any_places(&mut random, &map, &known_tiles);
+        let of = Listed { places, points: *points, ways: *ways };
+        let fetched = asked.fetch(of, feature).0;
+        let is_listed = feature < points.saturating_add(*ways) && feature < places.len() as u64;
+        assert_eq!(fetched == 17, !is_listed);
+        numbers.iter().chain([&fetched]).for_each(|&number| seen[number as usize] += 1);
     }
     // Results, ends too early, missing tags, sub files and tiles, reversed intervals, lists too short, no such feature,
     // entries and heads that are cut off.
@@ -376,9 +403,12 @@ fn words_that_say_the_same_are_taken_alike() {
         assert_eq!(other.on_grid(), plain.on_grid());
         assert_eq!(other.entry(tile), plain.entry(tile));
         assert_eq!(other.stream(tile, zoom), plain.stream(tile, zoom));
-        assert_eq!(other.collect(tile), plain.collect(tile));
+        let (_, words, places) = plain.collect(tile, 200);
+        assert_eq!(other.collect(tile, 200), plain.collect(tile, 200));
+        let [points, ways] = [word::COLLECT_POINTS, word::COLLECT_WAYS].map(|k| words[k]);
+        let of = Listed { places: &places, points, ways };
         let [(number, got), (expected, known)] =
-            [other.fetch(tile, feature), plain.fetch(tile, feature)];
+            [other.fetch(of, feature), plain.fetch(of, feature)];
         assert_eq!((number, got.words, got.tags), (expected, known.words, known.tags));
     }
 }
@@ -448,6 +478,9 @@ fn any_state_any_letters_and_any_layout_will_do() {
 fn fetching_writes_nothing_but_its_lists() {
     let map = map_bytes("islands.map");
     let ((layout, interval), (starts, letters)) = (opened(&map), listed(&map));
+    let asked = Asked { map: &map, layout, starts: &starts, letters: &letters, interval };
+    let (_, _, places) = asked.collect(10, 176);
+    let of = Listed { places: &places, points: 35, ways: 141 };
     for feature in [0, 10, 35, 40, 46, 175, 176, u64::MAX] {
         for room in [0, 1, 3, 100] {
             let mut lists = Guarded::new(([7u64; 100], [[7.0f64; 100]; 4], [b'#'; 400]));
@@ -459,9 +492,7 @@ fn fetching_writes_nothing_but_its_lists() {
                 &layout,
                 &starts,
                 &letters,
-                &interval,
-                GRID,
-                10,
+                of,
                 feature,
                 FetchLists {
                     node_counts: &mut counts[..room],

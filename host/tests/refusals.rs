@@ -4,6 +4,7 @@ mod common;
 
 use common::lent::{self, twice, Layout, Opened, State, Tiles, Told};
 use common::repository;
+use mapsforge::raw::Listed;
 use mapsforge::{word, Refusal};
 use std::collections::BTreeSet;
 
@@ -111,6 +112,9 @@ struct Example {
     interval: [u64; 6],
     grid: [i32; 4],
     tile: usize,
+    /// The places of a tile's features, how many points and ways it has, and the feature that is fetched.
+    places: Vec<u64>,
+    counts: [u64; 2],
     feature: u64,
     /// A tag's number, and that of all tags.
     tag: [usize; 2],
@@ -132,6 +136,8 @@ impl Example {
             interval: [1, 0, 0, 0, 0, 0],
             grid: [0; 4],
             tile: 0,
+            places: vec![0],
+            counts: [1, 0],
             feature: 0,
             tag: [0, 1],
             way_tags: 0,
@@ -148,7 +154,9 @@ impl Example {
         let (name, rest) = given.split_once(' ').unwrap_or((&given, ""));
         match (name, rest) {
             ("no", "sub file") => return self.interval = [0; 6],
+            ("no", "place") => return self.places.clear(),
             ("debug", "") => return self.layout[0] = 1,
+            ("way", "") => return self.counts = [0, 1],
             _ => (),
         }
         match (name, &numbers(rest)[..]) {
@@ -156,6 +164,8 @@ impl Example {
             ("interval", &[low, high]) => self.interval[2..4].copy_from_slice(&[low, high]),
             ("grid", &[a, b, c, d]) => self.grid = [a, b, c, d].map(|side| side as i32),
             ("tile", &[tile]) => self.tile = tile as usize,
+            ("place", &[place]) => self.places = vec![place],
+            ("points", &[points]) => self.counts[0] = points,
             ("feature", &[feature]) => self.feature = feature,
             ("tag", &[k, count]) => self.tag = [k, count].map(|number| number as usize),
             ("tags", &[count]) => self.way_tags = count as u16,
@@ -173,7 +183,12 @@ impl Example {
         Tiles { opened: self.opened(), interval: self.interval, grid: self.grid }
     }
 
-    /// The answer of a call. The lists are empty.
+    fn listed(&self) -> Listed<'_> {
+        let [points, ways] = self.counts;
+        Listed { places: &self.places, points, ways }
+    }
+
+    /// The answer of a call. The lists that it writes are empty.
     fn ask(&self, call: &str) -> Answer {
         let Example { map, layout, interval, grid, tile, zoom, .. } = self;
         let (tiles, opened, [k, count]) = (self.tiles(), self.opened(), self.tag);
@@ -194,8 +209,8 @@ impl Example {
             "stream_next" => lent::next(&opened, &[0; 8], lent),
             "stream_accept" => lent::accept(map, &[0; 8], &[0; 6], lent),
             "stream_decline" => lent::decline(&[0; 8], lent),
-            "collect" => tiles.collect(*tile, lent),
-            "fetch" => tiles.fetch(*tile, self.feature, &[0; 6], lent),
+            "collect" => tiles.collect(*tile, &[0; 6], lent),
+            "fetch" => opened.fetch(self.listed(), self.feature, &[0; 6], lent),
             "measure_way_data" => lent::measure_way_data(map, 0, 1, lent),
             "read_way_data" => lent::read_way_data(map, 1, &[0; 6], lent),
             "check_rules" => lent::check_rules(map, self.way_tags, 0, lent),
@@ -316,7 +331,6 @@ fn every_example_gives_what_the_page_says() {
     }
     // What is refused before a tile's features is refused alike by all that reads it.
     for (example, told) in examples.iter().filter(|(example, _)| example.call == "collect") {
-        assert_eq!(example.ask("fetch"), *told, "{} as a fetch", example.text);
         if [8, 13, 14, 19, 20].contains(&told.0) {
             assert_eq!(example.ask("stream_open"), *told, "{} as a stream", example.text);
         }

@@ -18,7 +18,7 @@ static size_t len, sub_file, tile;
 static mapsforge_grid grid;
 static uint64_t feature, refusal, words[64], header[MAPSFORGE_OPEN_WORDS], layout[MAPSFORGE_LAYOUT_WORDS];
 static uint64_t interval[MAPSFORGE_INTERVAL_WORDS], state[MAPSFORGE_STATE_WORDS], points[MAPSFORGE_MAX_ROWS], ways[MAPSFORGE_MAX_ROWS];
-static uint64_t starts[ROOM], counts[ROOM], ids[MAPSFORGE_MAX_TAGS], tags[MAPSFORGE_MAX_TAGS * MAPSFORGE_STRING_WORDS];
+static uint64_t starts[ROOM], places[ROOM], point_count, way_count, counts[ROOM], ids[MAPSFORGE_MAX_TAGS], tags[MAPSFORGE_MAX_TAGS * MAPSFORGE_STRING_WORDS];
 static int64_t signed_words[MAPSFORGE_SIGNED_WORDS];
 static double degrees[MAPSFORGE_OPEN_DEGREES], place[MAPSFORGE_POSITION_DEGREES];
 static double latitudes[ROOM], longitudes[ROOM], initial_latitudes[ROOM], initial_longitudes[ROOM];
@@ -64,10 +64,10 @@ static void stream_skip(void) {
     refusal = mapsforge_stream_skip(map, len, layout, letters, ROOM, state, words, signed_words, place, ids);
 }
 static void collect(void) {
-    refusal = mapsforge_collect(map, len, layout, letters, ROOM, interval, MAPSFORGE_CORNERS(grid), tile, words, points, ways);
+    refusal = mapsforge_collect(map, len, layout, letters, ROOM, interval, MAPSFORGE_CORNERS(grid), tile, words, points, ways, places, ROOM);
 }
 static void fetch(void) {
-    refusal = mapsforge_fetch(map, len, layout, starts, ROOM, letters, ROOM, interval, MAPSFORGE_CORNERS(grid), tile, feature, counts, ROOM,
+    refusal = mapsforge_fetch(map, len, layout, starts, ROOM, letters, ROOM, places, ROOM, point_count, way_count, feature, counts, ROOM,
                               latitudes, ROOM, longitudes, ROOM, initial_latitudes, ROOM, initial_longitudes, ROOM, buffer, ROOM, words,
                               signed_words, place, ids, tags);
 }
@@ -185,8 +185,9 @@ static void walk_tile(void) {
     call(index_entry);
     call(window_tile);
     call(collect);
-    uint64_t features = words[MAPSFORGE_COLLECT_POINTS] + words[MAPSFORGE_COLLECT_WAYS];
-    for (feature = 0; feature < features; feature++) {
+    point_count = words[MAPSFORGE_COLLECT_POINTS];
+    way_count = words[MAPSFORGE_COLLECT_WAYS];
+    for (feature = 0; feature < point_count + way_count; feature++) {
         call(fetch);
     }
     walk_stream();

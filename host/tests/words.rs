@@ -5,7 +5,7 @@ mod common;
 
 use common::lent::{self, twice, Answered, Entry, Lengths, Told, Writes};
 use common::{map_bytes, SHIPPED};
-use mapsforge::raw::{self, FetchLists, FetchWords};
+use mapsforge::raw::{self, FetchLists, FetchWords, Listed};
 use mapsforge::{word, Map};
 use std::collections::BTreeSet;
 
@@ -46,8 +46,8 @@ impl Tiles {
         lent::Tiles { opened: self.opened(), interval: self.interval, grid: GRID }
     }
 
-    fn collect(&self, tile: usize) -> [u64; word::COLLECT_WORDS] {
-        let mut words = [7; word::COLLECT_WORDS];
+    fn collect(&self, tile: usize) -> ([u64; word::COLLECT_WORDS], [u64; 200]) {
+        let (mut words, mut places) = ([7; word::COLLECT_WORDS], [7; 200]);
         let (points, ways) = (&mut [7; 256], &mut [7; 256]);
         let number = raw::collect(
             &self.bytes,
@@ -59,9 +59,10 @@ impl Tiles {
             &mut words,
             points,
             ways,
+            &mut places,
         );
         assert_eq!(number, 0);
-        words
+        (words, places)
     }
 
     /// A stream at the highest zoom, so of the whole tile.
@@ -125,10 +126,11 @@ impl Tiles {
             initial_longitudes: &mut [7.0; 100],
             buffer: &mut [b'#'; 1000],
         };
-        let Tiles { bytes, layout, starts, letters, interval } = self;
-        let number = raw::fetch(
-            bytes, layout, starts, letters, interval, GRID, tile, feature, lists, &mut got,
-        );
+        let (words, places) = &self.collect(tile);
+        let [points, ways] = [word::COLLECT_POINTS, word::COLLECT_WAYS].map(|k| words[k]);
+        let of = Listed { places, points, ways };
+        let Tiles { bytes, layout, starts, letters, .. } = self;
+        let number = raw::fetch(bytes, layout, starts, letters, of, feature, lists, &mut got);
         assert_eq!(number, 0);
         (counts, got)
     }
@@ -334,11 +336,12 @@ fn a_state_has_what_is_to_come() {
     for name in SHIPPED {
         let tiles = Tiles::of(name);
         for tile in 0..12 {
-            let whole = tiles.collect(tile);
+            let (whole, places) = tiles.collect(tile);
             let mut state = tiles.open(tile);
             // The points stand behind the head, from where the first way's offset is counted.
             let offset = whole[word::COLLECT_FIRST_WAY_OFFSET];
             assert_eq!(state[word::IDLE_WAY] - state[word::IDLE_POINT], offset);
+            let mut places = places.into_iter();
             // All tiles of the first column are water.
             assert_eq!(state[word::STATE_WATER], u64::from(tile % 4 == 0));
             let mut points = whole[word::COLLECT_POINTS];
@@ -349,6 +352,11 @@ fn a_state_has_what_is_to_come() {
                 // All numbers of the shipped maps are plain.
                 assert_eq!(state[word::STATE_PLAIN], 1);
                 assert_eq!([state[word::IDLE_POINTS], state[word::IDLE_WAYS]], [points, ways]);
+                // What comes next starts where collecting listed it.
+                let start =
+                    if points > 0 { state[word::IDLE_POINT] } else { state[word::IDLE_WAY] };
+                let listed = places.next();
+                assert_eq!(listed, Some(if points + ways > 0 { start } else { 7 }));
                 let next = tiles.next(&mut state);
                 match next[word::NEXT_KIND] {
                     word::POINT => {
@@ -474,9 +482,20 @@ const ONE_WAY: [u8; 17] = [0, 0, 0, 0, 5, 0, 1, 0, 7, 0xff, 0xff, 0x51, 0, 0x7f,
 fn one_way(letters: &[u8]) -> (u64, u64) {
     let (layout, interval) = ([0, 0, 0, 0, 1, 0, 0], [1, 0, 0, 0, 0, 99]);
     let mut words = [7; word::COLLECT_WORDS];
-    let rows = (&mut [7; 256], &mut [7; 256]);
-    let number =
-        raw::collect(&ONE_WAY, &layout, letters, &interval, [0; 4], 0, &mut words, rows.0, rows.1);
+    let (points, ways, mut places) = (&mut [7; 256], &mut [7; 256], [7]);
+    let number = raw::collect(
+        &ONE_WAY,
+        &layout,
+        letters,
+        &interval,
+        [0; 4],
+        0,
+        &mut words,
+        points,
+        ways,
+        &mut places,
+    );
+    assert_eq!(places, if number == 0 { [8] } else { [7] });
     (number, words[word::COLLECT_EXACT])
 }
 
@@ -550,6 +569,9 @@ fn list_names(call: &str) -> [&'static str; 6] {
     let [mut first, mut second] = ["node_counts", "latitudes"];
     if call == "open" {
         [first, second] = ["starts", "letters"];
+    }
+    if call == "collect" {
+        first = "places";
     }
     [first, second, "longitudes", "initial_latitudes", "initial_longitudes", "buffer"]
 }
@@ -653,10 +675,12 @@ fn of_tile(tried: &mut Tried, tiles: &Tiles, tile: usize) {
         }
     });
     tried.of("index_entry", "an entry", |lent| asked.entry(tile, lent));
-    let whole = tried.of("collect", "a tile", |lent| asked.collect(tile, lent));
-    let features = whole.word(word::COLLECT_POINTS) + whole.word(word::COLLECT_WAYS);
-    for k in 0..features {
-        tried.with_lists("fetch", kind, |lengths, lent| asked.fetch(tile, k, lengths, lent));
+    let collect = |lengths: &Lengths, lent| asked.collect(tile, lengths, lent);
+    let whole = tried.with_lists("collect", |_| "a tile", collect);
+    let [points, ways] = [word::COLLECT_POINTS, word::COLLECT_WAYS].map(|k| whole.word(k));
+    let of = Listed { places: &whole.list("places"), points, ways };
+    for k in 0..points + ways {
+        tried.with_lists("fetch", kind, |lengths, lent| asked.opened.fetch(of, k, lengths, lent));
     }
     let opened = tried.of("stream_open", "a stream", |lent| asked.stream(2, tile, 21, lent));
     let (map, of_map, mut state) = (&tiles.bytes, tiles.opened(), opened.state());
@@ -704,11 +728,31 @@ fn refused_calls_leave_all_else_alone() {
     refused(14, none, twice(|lent| lent::window_count(reversed.grid, [1, 0, 0, 0], lent)));
     refused(14, none, twice(|lent| lent::window_tile(reversed.grid, [0; 4], 9, lent)));
     refused(8, none, twice(|lent| asked.stream(2, 12, 13, lent)));
-    refused(8, none, twice(|lent| asked.collect(12, lent)));
-    refused(17, none, twice(|lent| asked.fetch(10, 176, &[9; 6], lent)));
-    // The zoom table can be read here, and the points too.
-    refused(1, none, twice(|lent| front.collect(10, lent)));
-    refused(1, none, twice(|lent| front.fetch(10, 0, &[99; 6], lent)));
+    refused(8, none, twice(|lent| asked.collect(12, &[200; 6], lent)));
+    for length in [0, 1, 175] {
+        let lengths = [length, 0, 0, 0, 0, 0];
+        let short = twice(|lent| asked.collect(10, &lengths, lent));
+        assert_eq!(short.word(word::NEEDED_PLACES), 176);
+        refused(15, [176, 0, 0, 0, 0, 0], short);
+    }
+    let (_, places) = tiles.collect(10);
+    let of = Listed { places: &places, points: 35, ways: 141 };
+    // A number at or above the count, as whole numbers, or at or above the list's length: no byte is read.
+    let nothing = lent::Opened { map: &[], ..tiles.opened() };
+    for opened in [&asked.opened, &nothing] {
+        let fetch = |of, k| twice(|lent| opened.fetch(of, k, &[9; 6], lent));
+        refused(17, none, fetch(of, 176));
+        refused(17, none, fetch(of, u64::MAX));
+        refused(17, none, fetch(Listed { ways: 140, ..of }, 175));
+        refused(17, none, fetch(Listed { points: 0, ways: 0, ..of }, 0));
+        refused(17, none, fetch(Listed { places: &places[..9], ..of }, 9));
+        refused(17, none, fetch(Listed { points: u64::MAX, ways: u64::MAX, ..of }, 200));
+        refused(17, none, fetch(Listed { places: &[], points: u64::MAX, ways: 1 }, u64::MAX));
+    }
+    // The zoom table can be read here, and the points too; a fetch of one does not look behind it.
+    refused(1, none, twice(|lent| front.collect(10, &[200; 6], lent)));
+    assert_eq!(twice(|lent| front.opened.fetch(of, 0, &[99; 6], lent)).number, 0);
+    refused(1, none, twice(|lent| front.opened.fetch(of, 175, &[99; 6], lent)));
     refused(15, [0, 0, 0, 0, 0, 8], twice(|lent| lent::text(b"\xff text", 7, lent)));
     let rules = [0, 0, 7, 0xc0, 0, 1, 7, 0xc0];
     let short = twice(|lent| lent::check_rules(&rules, 2, 63, lent));

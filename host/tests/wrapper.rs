@@ -3,8 +3,8 @@
 mod common;
 
 use common::{
-    interval_place, map_bytes, map_path, offset_place, repository, stored, with_box, written,
-    SHIPPED,
+    interval_place, map_bytes, map_path, offset_place, one_row, repository, stored, with_box,
+    written, SHIPPED,
 };
 use mapsforge::check;
 use mapsforge::{
@@ -454,7 +454,7 @@ fn a_cut_map_is_refused_where_something_is_missing() {
         let head = sub_file.entry(10).unwrap().place as usize;
         let (_, end) = stored(&whole, offset_place(&sub_file, 10));
         let refused = |length: usize, entry: Option<Refusal>, tile: Refusal| {
-            assert_eq!(refused_when_cut(&whole, length), (entry, [tile; 3]), "{name} {length}");
+            assert_eq!(refused_when_cut(&whole, length), (entry, [tile; 2]), "{name} {length}");
         };
         for length in entry..entry + 5 {
             let cut_off = Refusal::IndexCutOff(entry as u64);
@@ -479,40 +479,125 @@ fn a_cut_map_is_refused_where_something_is_missing() {
     }
 }
 
-/// How tile 10 of sub file 2 of a cut map is refused: its entry, if that is, then a stream, collecting and a fetch.
-fn refused_when_cut(whole: &[u8], length: usize) -> (Option<Refusal>, [Refusal; 3]) {
+/// How tile 10 of sub file 2 of a cut map is refused: its entry, if that is, then a stream and collecting.
+fn refused_when_cut(whole: &[u8], length: usize) -> (Option<Refusal>, [Refusal; 2]) {
     let map = Map::open(&whole[..length]).unwrap();
     let sub_file = map.sub_file(2).unwrap();
     let (stream, tile) = (sub_file.stream(10, 13), sub_file.collect(10));
-    let refused = [stream.unwrap_err(), tile.unwrap_err(), fetch_refused(&sub_file, 10)];
-    (sub_file.entry(10).err(), refused)
+    (sub_file.entry(10).err(), [stream.unwrap_err(), tile.unwrap_err()])
 }
 
-/// How a fetch of feature 0 is refused, for which the tile need not be collected before.
-fn fetch_refused(sub_file: &SubFile<'_, '_>, tile: usize) -> Refusal {
-    let (map, corners) = (sub_file.map(), sub_file.grid().corners());
-    let interval = interval_words(map, sub_file.number());
+/// A map of one tile in which the first zoom adds these features, so many points of four bytes and ways of six.
+fn crowded(points: u64, ways: u64) -> Vec<u8> {
+    let number = |value: u64| -> Vec<u8> {
+        let groups =
+            (0..).map(|k| value.checked_shr(7 * k).unwrap_or(0)).take_while(|&rest| rest > 0);
+        let last = groups.clone().count().saturating_sub(1);
+        let bytes = groups.enumerate().map(|(k, rest)| rest as u8 & 0x7f | u8::from(k < last) << 7);
+        if value == 0 {
+            vec![0]
+        } else {
+            bytes.collect()
+        }
+    };
+    let points_bytes: Vec<u8> = (0..points).flat_map(|k| [k as u8 & 0x3f, 1, 0x50, 0]).collect();
+    // Without nodes; the bitmap tells them apart.
+    let ways_bytes = (0..ways).flat_map(|k| [5, (k >> 8) as u8, k as u8, 0x50, 0, 0]);
+    let head = [number(points), number(ways), vec![0; 16], number(points_bytes.len() as u64)];
+    one_row(&[0], &[head.concat(), points_bytes, ways_bytes.collect()].concat())
+}
+
+/// A tile of 240 KB with 60 000 points, and one of as many bytes of ways: each feature is read where it is listed. A reader
+/// that walked to each of them would take minutes here; nothing is timed.
+#[test]
+fn crowded_tiles_are_read_feature_by_feature() {
+    for (points, ways) in [(60_000, 0), (0, 40_000), (30_000, 20_000)] {
+        let bytes = crowded(points, ways);
+        let map = Map::open(&bytes).unwrap();
+        let sub_file = map.sub_file(0).unwrap();
+        let tile = sub_file.collect(0).unwrap();
+        assert_eq!((tile.point_count(), tile.way_count(), tile.exact()), (points, ways, true));
+        let places = tile.listed().places;
+        assert_eq!(places.len() as u64, points + ways);
+        let start = places.first().copied().unwrap();
+        let expected =
+            (0..points).map(|k| start + 4 * k).chain((0..ways).map(|k| start + 4 * points + 6 * k));
+        assert!(places.iter().copied().eq(expected));
+        let mut seen = 0;
+        for (k, point) in tile.points().enumerate() {
+            assert_eq!(point.unwrap().offset.latitude, (k & 0x3f) as f64 / 1e6);
+            seen += 1;
+        }
+        for (k, way) in tile.ways().enumerate() {
+            assert_eq!(u64::from(way.unwrap().bitmap), k as u64);
+            seen += 1;
+        }
+        assert_eq!(seen, points + ways);
+        assert_eq!(tile.features().count() as u64, points + ways);
+    }
+}
+
+/// Each feature of a tile, fetched from a map of which nothing else but the header is left.
+#[test]
+fn a_fetch_reads_its_feature_alone() {
+    for name in ["islands.map", "islands-debug.map"] {
+        let whole = map_bytes(name);
+        let map = Map::open(&whole).unwrap();
+        let sub_file = map.sub_file(2).unwrap();
+        let (tile, end) = (sub_file.collect(10).unwrap(), map.header().end as usize);
+        let places = tile.listed().places;
+        for k in 0..places.len() {
+            let start = places[k] as usize;
+            let next = places.get(k + 1).map_or(whole.len(), |&next| next as usize);
+            let mut bytes = vec![0xff; whole.len()];
+            bytes[..end].copy_from_slice(&whole[..end]);
+            // Between the points and the first way nothing stands in these maps.
+            bytes[start..next].copy_from_slice(&whole[start..next]);
+            let fetched = fetch_from(&bytes, &map, &tile, k as u64);
+            assert_eq!(fetched, fetch_from(&whole, &map, &tile, k as u64), "{name} {k}");
+        }
+    }
+}
+
+/// The words of a feature of the tile, as other bytes in the map's place have it.
+fn fetch_from(bytes: &[u8], map: &Map<'_>, tile: &mapsforge::Tile<'_, '_>, k: u64) -> Vec<u64> {
+    let (mut counts, mut degrees, mut buffer) = ([7; 100], [[7.0; 1000]; 4], [b'#'; 1000]);
+    let [latitudes, longitudes, initial_latitudes, initial_longitudes] = &mut degrees;
     let lists = raw::FetchLists {
-        node_counts: &mut [],
-        latitudes: &mut [],
-        longitudes: &mut [],
-        initial_latitudes: &mut [],
-        initial_longitudes: &mut [],
-        buffer: &mut [],
+        node_counts: &mut counts,
+        latitudes,
+        longitudes,
+        initial_latitudes,
+        initial_longitudes,
+        buffer: &mut buffer,
     };
     let mut got = raw::FetchWords::default();
-    let (bytes, layout, starts) = (map.bytes(), map.layout(), map.starts());
-    let letters = map.letters();
-    let number =
-        raw::fetch(bytes, layout, starts, letters, &interval, corners, tile, 0, lists, &mut got);
-    Refusal::check(number, &got.words).unwrap_err()
+    let (layout, starts, letters) = (map.layout(), map.starts(), map.letters());
+    let number = raw::fetch(bytes, layout, starts, letters, tile.listed(), k, lists, &mut got);
+    assert_eq!(number, 0);
+    let floats = degrees.as_flattened().iter().chain(&got.degrees).map(|degree| degree.to_bits());
+    let signed = got.signed_words.map(|word| word as u64);
+    let words = got.words.into_iter().chain(got.ids).chain(got.tags).chain(signed).chain(counts);
+    words.chain(floats).chain(buffer.map(u64::from)).collect()
 }
 
-fn interval_words(map: &Map<'_>, sub_file: usize) -> [u64; 6] {
-    let mut interval = [0; 6];
-    let number = raw::interval(map.bytes(), map.layout(), sub_file, &mut [0; 6], &mut interval);
-    assert_eq!(number, 0);
-    interval
+/// A head that counts more features than the map has makes no list of that length, and is refused as it was.
+#[test]
+fn a_head_may_count_any_number_of_features() {
+    let content = |count: &[u8]| [count, &[0; 18], &[1, 1, 0x50, 0]].concat();
+    for count in [&[2][..], &[0xff; 8], &[0x80, 0x80, 0x80, 0x80, 0x40]] {
+        let count: Vec<u8> =
+            if count.len() == 8 { [count, &[0x7f]].concat() } else { count.into() };
+        let bytes = one_row(&[0], &content(&count));
+        let map = Map::open(&bytes).unwrap();
+        assert_eq!(map.sub_file(0).unwrap().collect(0).unwrap_err(), Refusal::Source);
+    }
+    // More than the list has at first: collecting says how many there are.
+    let bytes = crowded(70_000, 1);
+    let map = Map::open(&bytes).unwrap();
+    let tile = map.sub_file(0).unwrap().collect(0).unwrap();
+    assert_eq!(tile.listed().places.len(), 70_001);
+    assert_eq!(tile.way(0).unwrap().bitmap, 0);
 }
 
 /// The lists that a map keeps are those of its own names, points first.

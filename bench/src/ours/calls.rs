@@ -65,6 +65,8 @@ pub struct Fetched {
 }
 
 pub struct Lists {
+    /// Of the features of the tile that was collected last.
+    places: Vec<u64>,
     pub node_counts: Vec<u64>,
     pub latitudes: Vec<f64>,
     pub longitudes: Vec<f64>,
@@ -74,10 +76,12 @@ pub struct Lists {
 }
 
 impl Lists {
-    /// A block or a node takes a byte or more. A byte of a text gives at most three, and a feature
-    /// has up to 18 texts; tags may share theirs.
+    /// A point takes four bytes or more and a way six, and they may share them. A block or a node takes a
+    /// byte or more. A byte of a text gives at most three, and a feature has up to 18 texts; tags may share
+    /// theirs.
     fn for_map(size: usize) -> Self {
         Lists {
+            places: vec![0; size / 2],
             node_counts: vec![0; size],
             latitudes: vec![0.0; size],
             longitudes: vec![0.0; size],
@@ -279,13 +283,16 @@ impl<'a> Calls<'a> {
                 words,
                 points,
                 ways,
+                self.lists.places.as_mut_ptr(),
+                self.lists.places.len(),
             )
         }
     }
 
-    pub fn fetch(&mut self, address: &Address, feature: u64) -> u64 {
-        let Address { sub_file, grid, tile } = *address;
+    /// A feature of the tile that was collected last.
+    pub fn fetch(&mut self, feature: u64) -> u64 {
         let lists = &mut self.lists;
+        let [points, ways] = [self.collected.words[11], self.collected.words[12]];
         let Fetched { words, signed, degrees, ids, tags } = &mut self.fetched;
         unsafe {
             sys::mapsforge_fetch(
@@ -296,12 +303,10 @@ impl<'a> Calls<'a> {
                 self.opened.starts.len(),
                 self.opened.letters.as_ptr(),
                 self.opened.letters.len(),
-                &self.intervals[sub_file],
-                grid.x_min,
-                grid.y_min,
-                grid.x_max,
-                grid.y_max,
-                tile,
+                lists.places.as_ptr(),
+                lists.places.len(),
+                points,
+                ways,
                 feature,
                 lists.node_counts.as_mut_ptr(),
                 lists.node_counts.len(),

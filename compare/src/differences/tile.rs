@@ -116,12 +116,28 @@ impl<'a> Opened<'a> {
     pub fn fetched(self, address: &Address) -> (Result<Collected, Answer>, Option<Parting>) {
         let mut reader = Reader::new(self, View::Collected);
         let tile = reader.tile(address);
-        let Reader { parting, signatures, .. } = reader;
+        let Reader { parting, signatures, places, .. } = reader;
         let with_texts = |tile: Tile| {
             let texts = tile.features().map(|feature| tags::texts(&feature, self)).collect();
-            Collected { tile, texts, signatures }
+            Collected { tile, texts, signatures, places }
         };
         (tile.map(with_texts), parting)
+    }
+
+    /// Wish 8: the one point or way that is read from a place on, as a tile that has nothing else, or the refusal; and
+    /// where reading ends.
+    #[cfg(feature = "both")]
+    pub fn feature_at(self, place: u64, is_way: bool) -> (Result<Collected, Answer>, u128) {
+        let mut reader = Reader::new(self, View::Collected);
+        reader.seek(u128::from(place));
+        let alone = reader.alone(is_way);
+        let end = reader.at();
+        let with_texts = |tile: Tile| {
+            let texts = tile.features().map(|feature| tags::texts(&feature, self)).collect();
+            // the first one would be the tile's
+            Collected { tile, texts, signatures: vec![0, place], places: vec![place] }
+        };
+        (alone.map(with_texts), end)
     }
 
     /// `visit_tile`; the answer is 0, sub file and water mark, or the refusal.
@@ -278,10 +294,15 @@ impl<'a> Reader<'a> {
     fn tile(&mut self, address: &Address) -> Read<Tile> {
         let Head { signature, table, first_way, ways: place, .. } = self.head(address)?;
         let [points, ways] = self.counts(&table);
-        let points = (0..points).map(|_| self.point()).collect::<Read<_>>()?;
+        let point = |_| {
+            self.places.push(cut(self.at()));
+            self.point()
+        };
+        let points = (0..points).map(point).collect::<Read<_>>()?;
         self.seek(place);
         let mut exact = true;
         let way = |_| {
+            self.places.push(cut(self.at()));
             let head = self.way_head()?;
             let stored_end = head.stored_end;
             let way = self.way_body(head)?;
@@ -291,6 +312,20 @@ impl<'a> Reader<'a> {
         let ways = (0..ways).map(way).collect::<Read<_>>()?;
         let padded = self.padded;
         Ok(Tile { signature, table, first_way, points, ways, exact, padded: Some(padded) })
+    }
+
+    /// A point or a way from here on, in a tile that has no head.
+    #[cfg(feature = "both")]
+    fn alone(&mut self, is_way: bool) -> Read<Tile> {
+        let (mut points, mut ways) = (Vec::new(), Vec::new());
+        if is_way {
+            let head = self.way_head()?;
+            ways.push(self.way_body(head)?);
+        } else {
+            points.push(self.point()?);
+        }
+        let (signature, table, first_way, exact, padded) = (None, Vec::new(), 0, true, None);
+        Ok(Tile { signature, table, first_way, points, ways, exact, padded })
     }
 
     /// Answers the water mark.

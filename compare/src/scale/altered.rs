@@ -174,7 +174,7 @@ impl Tile<'_> {
 
     /// Whether the altered tile still collects.
     fn collects(&self, copy: &mut Vec<u8>, damage: &Damage) -> bool {
-        on(copy, damage, |map| library::collect(&Ask { map, ..self.ask }).got.number == 0)
+        on(copy, damage, |map| library::collect_all(&Ask { map, ..self.ask }).0.got.number == 0)
     }
 }
 

@@ -8,7 +8,7 @@ use super::lent::Lent;
 use super::library::{Ask, Layout};
 use super::opening::{self, Opening, Said};
 use super::streamed::{self, Question};
-use super::{collected, foreign, indexed, way_data};
+use super::{collected, foreign, indexed, listed, way_data};
 use crate::differences::tile::Opened;
 use crate::random::Random;
 use crate::source::Source;
@@ -73,7 +73,7 @@ pub fn tile(
 ) -> Checked {
     indexed::entry(check, file, ask)?;
     let tile = known::tile(check, file, ask)?;
-    features(check, lent, ask, &tile, random)?;
+    features(check, lent, file, ask, &tile, random)?;
     let zoom = random.zoom(&file.header, &ask.at);
     let number = random.sub_file_number(ask.at.sub_file);
     let plan = Plan::of(random.policy());
@@ -86,20 +86,21 @@ pub fn tile(
     Ok(())
 }
 
-/// Collecting, and some fetches.
-pub fn features(
+/// Collecting, some fetches by the list that it filled, and one by an altered list.
+fn features(
     check: &mut Check,
     lent: &mut Lent,
+    file: &MapFile<Source>,
     ask: &Ask,
     tile: &Tile,
     random: &mut Random,
 ) -> Checked {
-    collected::collect(check, ask, tile)?;
+    let places = collected::collect(check, ask, tile, random)?;
     for k in random.features(tile.as_ref().map_or(0, |tile| tile.texts.len())) {
         let place = |why| format!("feature {k}: {why}");
-        collected::fetch(check, lent, ask, tile, k, random).map_err(place)?;
+        collected::fetch(check, lent, ask, (tile, &places), k, random).map_err(place)?;
     }
-    Ok(())
+    listed::compare(check, lent, file, ask, &places, random)
 }
 
 /// How many tiles there are, and the number of one in the grid or beside it.

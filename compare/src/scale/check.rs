@@ -4,8 +4,8 @@ use std::cell::Cell;
 use std::fmt::Debug;
 use std::panic::{self, AssertUnwindSafe};
 
-use super::general;
 use super::library::{kept_but, Got};
+use super::{general, listed};
 use crate::differences::tile::Cause;
 
 /// The calls of the library.
@@ -131,6 +131,8 @@ pub struct Check {
     pub padded_numbers: u64,
     /// Nexts that were held to the general one.
     pub general: general::Tally,
+    /// Lists of the places of features.
+    pub places: listed::Tally,
     /// Whether the case so far has such an answer.
     in_case: [bool; REASONS.len()],
 }
@@ -248,6 +250,7 @@ impl Check {
         add(&mut self.cases_settled, &other.cases_settled);
         add(self.said.as_flattened_mut(), other.said.as_flattened());
         self.general.add(&other.general);
+        self.places.add(&other.places);
         self.padded_numbers += other.padded_numbers;
         self.values += other.values;
         self.by_the_rust += other.by_the_rust;

@@ -3,7 +3,9 @@
 use super::check::{Call, Check, Checked, Said};
 use super::known::Tile;
 use super::lent::{suffice, Fronts, Lengths, Lent};
-use super::library::{self, degrees, kept_but, Ask, Fetch, SIGNED, WORD};
+use super::library::{
+    self, degrees, kept_but, Ask, Collect, Fetch, PlaceList, Places, BEHIND, SIGNED, WORD,
+};
 use super::opening::part;
 use crate::random::Random;
 use crate::tiles::feature::{Feature, Fetched, TagText, Text};
@@ -12,19 +14,50 @@ use crate::tiles::feature::{Feature, Fetched, TagText, Text};
 const TAGS: usize = 15;
 /// The words of a tag's string.
 const TAG_WORDS: usize = 5;
+/// Up to so many features all lists of places are lent that are too short.
+const ALL_SHORT: usize = 8;
 
-/// Collects a tile, and compares every word and the zoom table.
-pub fn collect(check: &mut Check, ask: &Ask, known: &Tile) -> Checked {
-    let ours = library::collect(ask);
-    let (mut points, mut ways) = ([WORD; 256], [WORD; 256]);
-    let tile = match known {
-        Ok(known) => &known.tile,
+/// Collects a tile with a list of places that has so many entries; and the list, with some behind it.
+fn collect_to(ask: &Ask, length: usize) -> (Collect, Vec<u64>) {
+    let mut places = vec![WORD; length + BEHIND];
+    let ours = library::collect(ask, &mut places[..length]);
+    (ours, places)
+}
+
+/// A refused collecting leaves rows and list alone.
+fn not_collected(check: &mut Check, ask: &Ask, length: usize, refusal: &[u64]) -> Checked {
+    let (ours, places) = collect_to(ask, length);
+    check.refused(Call::Collect, &ours.got, refusal)?;
+    check.words("points of no tile", &ours.points, &[WORD; 256])?;
+    check.words("ways of no tile", &ours.ways, &[WORD; 256])?;
+    check.words("places of no tile", &places, &vec![WORD; places.len()])
+}
+
+/// Collects a tile, to lists that are too short and then to one that is not, and compares every word, the zoom table and
+/// every entry of the list. The list is for fetches; it may be longer than there are features.
+pub fn collect(
+    check: &mut Check,
+    ask: &Ask,
+    known: &Tile,
+    random: &mut Random,
+) -> Checked<PlaceList> {
+    let (known_starts, tile) = match known {
+        Ok(known) => (&known.places, &known.tile),
         Err(refusal) => {
-            check.refused(Call::Collect, &ours.got, refusal)?;
-            check.words("points of no tile", &ours.points, &points)?;
-            return check.words("ways of no tile", &ours.ways, &ways);
+            not_collected(check, ask, random.below(9), refusal)?;
+            return Ok(PlaceList::default());
         }
     };
+    let needed = known_starts.len();
+    for length in random.too_short(needed) {
+        check.places.short += 1;
+        not_collected(check, ask, length, &[15, needed as u64, 0, 0, 0, 0, 0])?;
+    }
+    let length = needed + [0, 0, 1, random.below(9)][random.below(4)];
+    let (ours, places) = collect_to(ask, length);
+    let mut expected = vec![WORD; places.len()];
+    expected[..needed].copy_from_slice(known_starts);
+    let (mut points, mut ways) = ([WORD; 256], [WORD; 256]);
     for (k, [row_points, row_ways]) in tile.table.iter().enumerate() {
         (points[k], ways[k]) = (*row_points, *row_ways);
     }
@@ -40,7 +73,11 @@ pub fn collect(check: &mut Check, ask: &Ask, known: &Tile) -> Checked {
     words[11..15].copy_from_slice(&[counts[1], counts[2], said[0], said[1]]);
     check.got(Call::Collect, &ours.got, 0, &words)?;
     check.words("points of the zoom table", &ours.points, &points)?;
-    check.words("ways of the zoom table", &ours.ways, &ways)
+    check.words("ways of the zoom table", &ours.ways, &ways)?;
+    check.places.starts += needed as u64;
+    check.words("places of features", &places, &expected)?;
+    let starts = places[..length].to_vec();
+    Ok(PlaceList { starts, points: counts[1], ways: counts[2] })
 }
 
 /// The place of the signature of the tile, or of feature `k - 1`.
@@ -73,50 +110,90 @@ pub fn stored_part(
     Ok([1, ours[1], ours[2]])
 }
 
-/// Fetches feature `k` to lists of random lengths; where they are too short, to long ones behind that.
+/// Fetches feature `k` by the list that collecting filled, and at times by one that does not have it. A tile that does not
+/// collect has an empty list.
 pub fn fetch(
     check: &mut Check,
     lent: &mut Lent,
     ask: &Ask,
-    known: &Tile,
+    (known, places): (&Tile, &PlaceList),
     k: u64,
     random: &mut Random,
 ) -> Checked {
-    let fetched = match known {
-        Ok(tile) => usize::try_from(k).ok().and_then(|k| tile.get(k)).ok_or(vec![17]),
-        Err(refusal) => Err(refusal.clone()),
+    let of = places.lend();
+    let tile = known.as_ref().ok();
+    let fetched = tile.zip(usize::try_from(k).ok()).and_then(|(tile, k)| tile.get(k));
+    let Some(fetched) = fetched else {
+        return not_fetched(check, lent, ask, of, k, &[17], random);
     };
-    let fetched = match fetched {
-        Ok(fetched) => fetched,
-        Err(refusal) => {
-            let lengths = random.lengths(&[1, 2, 2, 1, 1, 3]);
-            return refuse(check, lent, ask, k, lengths, &refusal);
-        }
-    };
-    let fronts = Fronts::of_fetched(&fetched);
+    let question = Question { ask, of, k };
+    delivered(check, lent, &question, &fetched, known_place(known, k as usize + 1), random)?;
+    if random.below(4) > 0 {
+        return Ok(());
+    }
+    // "a number at or above the count or the list's length is 17, before reading"
+    let shorter = Places { starts: &of.starts[..random.below(k as usize + 1)], ..of };
+    not_fetched(check, lent, ask, shorter, k, &[17], random)?;
+    let points = random.below(k as usize + 1) as u64;
+    let fewer = Places { points, ways: k - points, ..of };
+    not_fetched(check, lent, ask, fewer, k, &[17], random)
+}
+
+/// What a fetch is asked for.
+pub struct Question<'a> {
+    pub ask: &'a Ask<'a>,
+    pub of: Places<'a>,
+    pub k: u64,
+}
+
+/// A feature that is fetched to lists of random lengths; where they are too short, to long ones behind that.
+pub fn delivered(
+    check: &mut Check,
+    lent: &mut Lent,
+    question: &Question,
+    fetched: &Fetched,
+    signature_place: Option<u64>,
+    random: &mut Random,
+) -> Checked {
+    let Question { ask, of, k } = *question;
+    let fronts = Fronts::of_fetched(fetched);
     let needed = fronts.lengths();
     let lengths = random.lengths(&needed);
     if !suffice(&lengths, &needed) {
         let lists = needed.map(|length| length as u64);
         let refusal = [&[15], &lists[..]].concat();
-        refuse(check, lent, ask, k, lengths, &refusal)?;
+        refuse(check, lent, question, lengths, &refusal)?;
     }
     let lengths = random.enough(&needed);
-    let ours = library::fetch(ask, k, lent.lists(lengths));
-    feature(check, ask.map, &ours, &fetched, known_place(known, k as usize + 1))?;
+    let ours = library::fetch(ask, of, k, lent.lists(lengths));
+    feature(check, ask.map, &ours, fetched, signature_place)?;
     lent.check(check, lengths, &fronts)
+}
+
+/// A fetch that is refused whatever lists are lent.
+pub fn not_fetched(
+    check: &mut Check,
+    lent: &mut Lent,
+    ask: &Ask,
+    of: Places,
+    k: u64,
+    refusal: &[u64],
+    random: &mut Random,
+) -> Checked {
+    let lengths = random.lengths(&[1, 2, 2, 1, 1, 3]);
+    refuse(check, lent, &Question { ask, of, k }, lengths, refusal)
 }
 
 /// A refused fetch leaves the lists and the buffer alone.
 fn refuse(
     check: &mut Check,
     lent: &mut Lent,
-    ask: &Ask,
-    k: u64,
+    question: &Question,
     lengths: Lengths,
     refusal: &[u64],
 ) -> Checked {
-    let ours = library::fetch(ask, k, lent.lists(lengths));
+    let Question { ask, of, k } = *question;
+    let ours = library::fetch(ask, of, k, lent.lists(lengths));
     check.refused(Call::Fetch, &ours.got, refusal)?;
     nothing(check, &ours)?;
     lent.check(check, lengths, &Fronts::default())
@@ -193,4 +270,14 @@ pub fn padded<const N: usize>(ids: &[u64]) -> [u64; N] {
     let mut words = [0; N];
     words[..ids.len()].copy_from_slice(ids);
     words
+}
+
+impl Random {
+    /// Lengths of lists that are too short for so many places: all of a few, else some of them.
+    fn too_short(&mut self, needed: usize) -> Vec<usize> {
+        if needed <= ALL_SHORT {
+            return (0..needed).collect();
+        }
+        vec![0, self.below(needed), needed - 1]
+    }
 }

@@ -33,7 +33,7 @@ pub fn tile(check: &mut Check, file: &mut MapFile<Source>, ask: &Ask) -> Checked
         (Err(rust), Ok(_)) => return Err(format!("the model collects, the Rust: {rust:x?}")),
     };
     if let Ok(model) = model {
-        rust.signatures = model.signatures;
+        (rust.signatures, rust.places) = (model.signatures, model.places);
         said_by_the_model(&mut rust.tile, model.tile)?;
     }
     Ok(Ok(rust))

@@ -403,7 +403,38 @@ pub struct Collect {
     pub ways: [u64; 256],
 }
 
-pub fn collect(ask: &Ask) -> Collect {
+/// The features of a collected tile, as collecting gave them: where each starts, and how many points and ways there are.
+#[derive(Clone, Copy, Debug)]
+pub struct Places<'a> {
+    pub starts: &'a [u64],
+    pub points: u64,
+    pub ways: u64,
+}
+
+/// The same, kept by the caller.
+#[derive(Clone, Debug, Default)]
+pub struct PlaceList {
+    pub starts: Vec<u64>,
+    pub points: u64,
+    pub ways: u64,
+}
+
+impl PlaceList {
+    pub fn lend(&self) -> Places<'_> {
+        Places { starts: &self.starts, points: self.points, ways: self.ways }
+    }
+}
+
+/// With a list that is long enough, once an empty one has told how long.
+pub fn collect_all(ask: &Ask) -> (Collect, PlaceList) {
+    let Got { number, words } = collect(ask, &mut []).got;
+    let mut starts = vec![WORD; if number == 15 { words[0] as usize } else { 0 }];
+    let tile = collect(ask, &mut starts);
+    let [points, ways] = [11, 12].map(|k| tile.got.words[k]);
+    (tile, PlaceList { starts, points, ways })
+}
+
+pub fn collect(ask: &Ask, places: &mut [u64]) -> Collect {
     let Ask { map, layout, interval, at: Address { grid, tile, .. }, .. } = ask;
     let letters = ask.tags.letters;
     let (mut points, mut ways) = ([WORD; 256], [WORD; 256]);
@@ -424,6 +455,8 @@ pub fn collect(ask: &Ask) -> Collect {
             words,
             &mut points,
             &mut ways,
+            places.as_mut_ptr(),
+            places.len(),
         )
     });
     Collect { got, points, ways }
@@ -446,8 +479,8 @@ pub struct Fetch {
     pub tags: [u64; 75],
 }
 
-pub fn fetch(ask: &Ask, feature: u64, lists: Lists) -> Fetch {
-    let Ask { map, layout, interval, at: Address { grid, tile, .. }, .. } = ask;
+pub fn fetch(ask: &Ask, of: Places, feature: u64, lists: Lists) -> Fetch {
+    let Ask { map, layout, .. } = ask;
     let Tags { starts, letters: listed } = ask.tags;
     let Lists { nodes, initial_latitudes, initial_longitudes, buffer } = lists;
     let Nodes { counts, latitudes, longitudes } = nodes;
@@ -463,12 +496,10 @@ pub fn fetch(ask: &Ask, feature: u64, lists: Lists) -> Fetch {
             starts.len(),
             listed.as_ptr(),
             listed.len(),
-            interval,
-            grid.x_min,
-            grid.y_min,
-            grid.x_max,
-            grid.y_max,
-            *tile as usize,
+            of.starts.as_ptr(),
+            of.starts.len(),
+            of.points,
+            of.ways,
             feature,
             counts.as_mut_ptr(),
             counts.len(),

@@ -11,7 +11,7 @@ use super::lent::Lent;
 use super::library::Ask;
 use super::opening::{self, Opening, Said};
 use super::streamed::{self, Question};
-use super::{asked, collected, foreign, indexed};
+use super::{asked, collected, foreign, indexed, listed};
 use crate::differences::header_parts;
 use crate::random::Random;
 use crate::source::Source;
@@ -24,6 +24,8 @@ const SOME_TILES: u64 = 16;
 const REFUSED_CALLS: usize = 6;
 /// So many times a tile is asked for by words that are not the map's own.
 const FOREIGN: usize = 4;
+/// So many times a feature of a tile is fetched by an altered list.
+const ALTERED_LISTS: usize = 32;
 
 /// Header, index and all tiles of a map.
 pub fn compare(check: &mut Check, lent: &mut Lent, base: &Base, random: &mut Random) -> Checked {
@@ -147,12 +149,16 @@ fn tile(
 ) -> Checked {
     indexed::entry(check, file, ask)?;
     let tile = known::tile(check, file, ask)?;
-    collected::collect(check, ask, &tile)?;
+    let places = collected::collect(check, ask, &tile, random)?;
     let features = tile.as_ref().map_or(0, |tile| tile.texts.len() as u64);
     for k in (0..=features).chain([u64::MAX]) {
         let feature = |why| format!("feature {k}: {why}");
-        collected::fetch(check, lent, ask, &tile, k, random).map_err(feature)?;
+        collected::fetch(check, lent, ask, (&tile, &places), k, random).map_err(feature)?;
     }
+    for _ in 0..ALTERED_LISTS {
+        listed::compare(check, lent, file, ask, &places, random)?;
+    }
+    listed::alone(check, file, ask, (&tile, &places), random)?;
     for zoom in zooms(&file.header, &ask.at) {
         let some = Policy::Random(random.next());
         for policy in [Policy::All, Policy::None, Policy::TwoOfThree, some] {

@@ -192,6 +192,9 @@ pub struct Collected {
     /// The places of the signatures of the tile and of its features, which the Rust does not say.
     #[cfg_attr(not(feature = "both"), allow(dead_code))]
     pub signatures: Vec<u64>,
+    /// Where each feature starts, points and then ways, which the Rust does not say either.
+    #[cfg_attr(not(feature = "both"), allow(dead_code))]
+    pub places: Vec<u64>,
 }
 
 /// A feature as it is fetched.

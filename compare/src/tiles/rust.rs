@@ -32,7 +32,7 @@ pub fn fetched(file: &mut MapFile<Source>, address: &Address) -> Result<Collecte
     };
     let of_points = tile.pois.iter().map(texts_of_point);
     let texts = of_points.chain(tile.ways.iter().map(texts_of_way)).collect();
-    Ok(Collected { tile: collected(&tile), texts, signatures: Vec::new() })
+    Ok(Collected { tile: collected(&tile), texts, signatures: Vec::new(), places: Vec::new() })
 }
 
 /// `visit_tile`: 0, sub file and water mark, or the refusal.

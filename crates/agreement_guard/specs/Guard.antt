@@ -4,11 +4,11 @@ use Prim.Native.Nat.{ℕ}
 use mathlib.Core.Path.{_≡_}
 use mathlib.Core.Bool.{Bool, true, false}
 use mathlib.Core.List.{List, [], _∷_}
-use Rattle.parsing.specs.Parse.{Res, andThen, mapRes, Maybe, nth}
+use Rattle.parsing.specs.Parse.{Res, ok, no, andThen, mapRes, Maybe, nth}
 use Rattle.error.specs.Refusals.{lentRefused}
 use Rattle.format.specs.Header.{Interval, Header, opened}
 use Rattle.format.specs.Index.{answer, Grid, Located}
-use Rattle.format.specs.Lent.{LentLists, Reply}
+use Rattle.format.specs.Lent.{LentLists, Replied, Reply}
 use Rattle.format.specs.TagLists.{TagLists, tagLists, listsWritten, listing}
 use Rattle.types.specs.Types.{intervalsOf}
 use Rattle.header.specs.HeaderView.{mapHeader}
@@ -22,7 +22,7 @@ use Rattle.agreement.specs.Demand3.{MapCollects}
 use Rattle.visit.specs.Visit.{ShownAnswer, nextAnswer, acceptAnswer, declineAnswer}
 use Rattle.visit.specs.declared.Stream.{Stream}
 use Rattle.visit.specs.declared.StreamedHead.{StreamedHead}
-use Rattle.tile.specs.Tile.{collectTile, TileIs}
+use Rattle.tile.specs.Tile.{collectTile, tilePlaces, listed, TileIs}
 use Rattle.tile.specs.declared.Tile.{Tile}
 use Rattle.tile.specs.declared.TileAnswer.{TileAnswer}
 use Rattle.tile.specs.declared.TileAnswer.the-variants as tile-answer
@@ -43,15 +43,15 @@ pub record OpenedIs (m : List ℕ) (subFile : ℕ) (lent left : TagLists) (r : O
   pub answers : Answers m subFile lent header left (r .layout) (intervalFound (r .found))
   pub end : r .end ≡ header .end
 
--- `read_tile`
+-- `read_tile`, with the list that it is lent and leaves
 abbrev pub collectingOf : TileAnswer → Bool → Collecting
 collectingOf tile-answer.Collected true = collecting.Exact
 collectingOf tile-answer.Collected false = collecting.Inexact
 collectingOf (tile-answer.Refused r) exact = collecting.Refused r
 
-pub record CollectingIs (m : List ℕ) (l : TileKinds) (i : Maybe Interval) (grid : Grid) (number : ℕ) (r : Collecting) : Type 0 where
+pub record CollectingIs (m : List ℕ) (l : TileKinds) (i : Maybe Interval) (grid : Grid) (number : ℕ) (lent left : List ℕ) (r : Collecting) : Type 0 where
   pub read : TileRead
-  pub tile : TileIs (collectTile l i grid number m) read
+  pub tile : TileIs (collectTile l i grid number m) (tilePlaces l i grid number m) lent read left
   pub answer : r ≡ collectingOf (read .answer) (read .tile .exact)
 
 -- next, accept and decline, by the lists lent to accept
@@ -71,12 +71,23 @@ pub record Called3 (m : List ℕ) (l : TileKinds) (s : Stream) (lent left : Lent
   pub head : StreamedHead
   pub called : Called m l s (threeCalls lent) (threeReplies r poi head left)
 
+-- collecting by the letters that opening listed: what is answered, and the list of places after it
+abbrev pub collectedIn : List ℕ → (lent : TagLists) → (subFile : ℕ) → Grid → (number : ℕ) → (places : List ℕ) → Header → Replied (List ℕ) (Res Tile)
+collectedIn m lent subFile grid number places h =
+    let l = kindsOf (layoutOf (mapHeader h)) (listsWritten (tagLists h) lent .letters) in
+    let i = nth (intervalsOf (mapHeader h)) subFile in
+    listed (collectTile l i grid number m) (tilePlaces l i grid number m) places
+
 -- whether every stored size of a map's tile is the decoded length; or the refusal, if the map does not open with these lists or the tile
--- does not collect. The tile is collected by the letters that opening listed.
-abbrev pub exactIn : List ℕ → (lent : TagLists) → (subFile : ℕ) → Grid → (number : ℕ) → Res Bool
-exactIn m lent subFile grid number =
-    andThen (listing (opened m) lent .answer) (λ h _.
-    mapRes (λ (t : Tile). t .exact) (collectTile (kindsOf (layoutOf (mapHeader h)) (listsWritten (tagLists h) lent .letters)) (nth (intervalsOf (mapHeader h)) subFile) grid number m))
+-- does not collect, or its list is too short
+abbrev pub exactIn : List ℕ → (lent : TagLists) → (subFile : ℕ) → Grid → (number : ℕ) → (places : List ℕ) → Res Bool
+exactIn m lent subFile grid number places =
+    andThen (listing (opened m) lent .answer) (λ h _. mapRes (λ (t : Tile). t .exact) (collectedIn m lent subFile grid number places h .answer))
+
+-- the list of places after the call: as it was, where the map does not open
+abbrev pub placesLeft : List ℕ → (lent : TagLists) → (subFile : ℕ) → Grid → (number : ℕ) → (places : List ℕ) → Res Header → List ℕ
+placesLeft m lent subFile grid number places (ok h e) = collectedIn m lent subFile grid number places h .lists
+placesLeft m lent subFile grid number places (no n v) = places
 
 -- what the outcome says of it
 abbrev pub exactness : Outcome → Res Bool
@@ -100,8 +111,10 @@ Replying m subFile grid number zoom lent left (outcome.Refused r) = left ≡ len
 Replying m subFile grid number zoom lent left outcome.Inexact = left ≡ lent
 Replying m subFile grid number zoom lent left (outcome.Replied a) = BookReplied m subFile grid number zoom lent left a
 
--- `tags` and `lent` before, `listed` and `left` after: whatever the outcome, the lists of tags are as opening leaves them
-pub record OutcomeIs (m : List ℕ) (subFile : ℕ) (grid : Grid) (number zoom : ℕ) (tags listed : TagLists) (lent left : LentLists) (r : Outcome) : Type 0 where
-  pub collecting : exactness r ≡ exactIn m tags subFile grid number
-  pub listing : listed ≡ listing (opened m) tags .lists
+-- `tags`, `room` and `lent` before, `tagged`, `places` and `left` after: whatever the outcome, the lists of tags are as opening leaves them, and
+-- the list of places is as collecting does
+pub record OutcomeIs (m : List ℕ) (subFile : ℕ) (grid : Grid) (number zoom : ℕ) (tags tagged : TagLists) (room places : List ℕ) (lent left : LentLists) (r : Outcome) : Type 0 where
+  pub collecting : exactness r ≡ exactIn m tags subFile grid number room
+  pub placing : places ≡ placesLeft m tags subFile grid number room (listing (opened m) tags .answer)
+  pub listing : tagged ≡ listing (opened m) tags .lists
   pub replying : Replying m subFile grid number zoom lent left r

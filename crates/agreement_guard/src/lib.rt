@@ -3,7 +3,6 @@
 // So if one of these contracts is weakened, or what the theorem supposes of them is no longer what they ensure, this crate is refused.
 // Nothing calls it.
 use error::LentRefusal;
-use error::Refusal;
 use index::IntervalRead;
 use opening::OpenEnd;
 use tile::TileAnswer;
@@ -32,7 +31,7 @@ pub struct OpenedMap {
 pub enum Collecting {
     Exact,
     Inexact,
-    Refused(Refusal),
+    Refused(LentRefusal),
 }
 
 // What the three calls answered. The point and the head that stand beside the first answer are not handed on.
@@ -43,7 +42,7 @@ pub struct Replies {
 }
 
 pub enum Outcome {
-    // the map does not open, 15 if its lists are too short; or the tile does not collect
+    // the map does not open, or the tile does not collect; 15 if a list is too short for it
     Refused(LentRefusal),
     Inexact,
     Replied(Replies),
@@ -68,10 +67,11 @@ fn collect(
     found: IntervalRead,
     grid: Grid,
     tile: usize,
+    places: &mut [u64],
 ) -> Collecting
-    ensures { λ r. ⌜ CollectingIs (now (map .entry)) (kindsOf layout (now (letters .entry))) (intervalFound found) (gridOf grid) tile r ⌝ }
+    ensures { λ r. ⌜ CollectingIs (now (map .entry)) (kindsOf layout (now (letters .entry))) (intervalFound found) (gridOf grid) tile (now (places .entry)) (now (places .exit)) r ⌝ }
 {
-    let read = tile::read_tile(map, layout, letters, found, grid, tile);
+    let read = tile::read_tile(map, layout, letters, found, grid, tile, places);
     let answer = read.answer;
     let whole = read.tile;
     match answer {
@@ -120,11 +120,12 @@ pub fn first_calls(
     grid: Grid,
     tile: usize,
     zoom: u8,
+    places: &mut [u64],
     node_counts: &mut [u64],
     latitudes: &mut [f64],
     longitudes: &mut [f64],
 ) -> Outcome
-    ensures { λ r. ⌜ OutcomeIs (now (map .entry)) «sub_file» (gridOf grid) tile zoom (lists (now (starts .entry)) (now (letters .entry))) (lists (now (starts .exit)) (now (letters .exit))) (lent (now («node_counts» .entry)) (now (latitudes .entry)) (now (longitudes .entry))) (lent (now («node_counts» .exit)) (now (latitudes .exit)) (now (longitudes .exit))) r ⌝ }
+    ensures { λ r. ⌜ OutcomeIs (now (map .entry)) «sub_file» (gridOf grid) tile zoom (lists (now (starts .entry)) (now (letters .entry))) (lists (now (starts .exit)) (now (letters .exit))) (now (places .entry)) (now (places .exit)) (lent (now («node_counts» .entry)) (now (latitudes .entry)) (now (longitudes .entry))) (lent (now («node_counts» .exit)) (now (latitudes .exit)) (now (longitudes .exit))) r ⌝ }
 {
     let opened = open_with_lists(map, starts, letters, sub_file);
     let end = opened.end;
@@ -133,9 +134,9 @@ pub fn first_calls(
     }
     let layout = opened.layout;
     let found = opened.found;
-    let collecting = collect(map, layout, letters, found, grid, tile);
+    let collecting = collect(map, layout, letters, found, grid, tile, places);
     match collecting {
-        Collecting::Refused(refusal) => Outcome::Refused(LentRefusal::Refused(refusal)),
+        Collecting::Refused(refusal) => Outcome::Refused(refusal),
         Collecting::Inexact => Outcome::Inexact,
         Collecting::Exact => {
             let got = visit::open(map, layout, found, sub_file, grid, tile, zoom);

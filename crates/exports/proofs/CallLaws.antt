@@ -22,7 +22,6 @@ use Rattle.visit.specs.declared.Stream.{Stream}
 use Rattle.visit.specs.declared.NextStep.{NextStep}
 use Rattle.visit.specs.declared.Accepted.{Accepted}
 use Rattle.visit.specs.declared.Declined.{Declined}
-use Rattle.types.specs.declared.IntervalTable.{IntervalTable}
 use Rattle.wire.specs.Wire.{Wire, Crosses}
 use Rattle.index_wire.specs.Index.{tagWire}
 use Rattle.stream_wire.specs.Streams.{nextWire, acceptWire, declineWire}
@@ -36,9 +35,9 @@ crosses encode Is a w i q = record { answer = a; is = i; crossed = q }
 pub tag-crosses : (starts letters : List ℕ) (t : TagRange) (k : ℕ) (m : List ℕ) (g : SpanRead) (y : Kind) (before w : Wire) → spanRes m g ≡ listedText starts (t .first) (t .count) k m → y ≡ kindAt (kindsBy letters t) k → w ≡ tagWire before (record { text = g; kind = y }) → Crosses (tagWire before) (TagIs starts letters t k m) w
 tag-crosses starts letters t k m g y before w p q s = crosses (tagWire before) (TagIs starts letters t k m) (record { text = g; kind = y }) w (record { text = p; kind = q }) s
 
--- a question about where the intervals stand
-pub table-crosses : {A : Type 0} (encode : A → Wire) (Of : IntervalTable → A → Type 0) (t t′ : IntervalTable) (x : A) (w : Wire) → t ≡ t′ → Of t x → w ≡ encode x → Crosses encode (Of t′) w
-table-crosses encode Of t t′ x w e i q = crosses encode (Of t′) x w (subst (λ u. Of u x) e i) q
+-- an answer by what was handed in (where the intervals stand, a layout), as the words say it
+pub crosses-by : {P A : Type 0} (encode : A → Wire) (Of : P → A → Type 0) (p p′ : P) (x : A) (w : Wire) → p ≡ p′ → Of p x → w ≡ encode x → Crosses encode (Of p′) w
+crosses-by encode Of p p′ x w e i q = crosses encode (Of p′) x w (subst (λ u. Of u x) e i) q
 
 -- a stream's calls, on the stream that the words say
 pub next-crosses : (m letters : List ℕ) (s s′ : Stream) (l l′ : TileLayout) (a : NextStep) (before w : Wire) → s ≡ s′ → l ≡ l′ → NextOf m letters l s a → w ≡ nextWire before a → Crosses (nextWire before) (NextOf m letters l′ s′) w

@@ -36,10 +36,10 @@ use Rattle.index.specs.declared.IntervalRead.{IntervalRead}
 use Rattle.index.specs.declared.CountRead.{CountRead}
 use Rattle.index.specs.declared.IndexRead.{IndexRead}
 use Rattle.index.specs.declared.EntryRead.{EntryRead}
-use Rattle.tile.specs.Tile.{collectTile, CollectIs}
+use Rattle.tile.specs.Tile.{collectTile, tilePlaces, TileLists, CollectIs}
 use Rattle.tile.specs.declared.SummaryRead.{SummaryRead}
 use Rattle.fetched.specs.Fetched.{FetchLists}
-use Rattle.fetch.specs.Fetch.{fetchTile, FeatureIs}
+use Rattle.fetch.specs.Fetch.{fetchListed, FeatureIs}
 use Rattle.fetched.specs.declared.Fetch.{Fetch}
 use Rattle.format.specs.IntervalTable.{rowAt, rowHolding}
 use Rattle.types.specs.declared.IntervalTable.{IntervalTable}
@@ -122,19 +122,12 @@ WindowTileOf k w g a = windowTileRes a ≡ windowTile (gridOf g) (rectangleOf w)
 abbrev pub StreamOf : (m : List ℕ) → (subFile number zoom : ℕ) → TileLayout → IntervalRead → Grid → OpenRead → Type 0
 StreamOf m s t zoom l i g a = openRes a ≡ openTile l (intervalFound i) s (gridOf g) t zoom m
 
--- (the rows' points and ways, in two lists)
-pub record LentRows : Type 0 where
-  pub points : List ℕ
-  pub ways : List ℕ
+abbrev pub TileOf : (m letters : List ℕ) → (number : ℕ) → (lent left : TileLists) → TileLayout → IntervalRead → Grid → SummaryRead → Type 0
+TileOf m letters t lent left l i g a =
+    CollectIs (collectTile (kindsOf l letters) (intervalFound i) (gridOf g) t m) (tilePlaces (kindsOf l letters) (intervalFound i) (gridOf g) t m) lent a left
 
-abbrev pub lentRows : (points ways : List ℕ) → LentRows
-lentRows p w = record { points = p; ways = w }
-
-abbrev pub TileOf : (m letters : List ℕ) → (number : ℕ) → (lent left : LentRows) → TileLayout → IntervalRead → Grid → SummaryRead → Type 0
-TileOf m letters t lent left l i g a = CollectIs (collectTile (kindsOf l letters) (intervalFound i) (gridOf g) t m) (lent .points) (lent .ways) a (left .points) (left .ways)
-
-abbrev pub FeatureOf : (m starts letters : List ℕ) → (number k : ℕ) → (lent left : FetchLists) → TileLayout → IntervalRead → Grid → Fetch → Type 0
-FeatureOf m starts letters t k lent left l i g a = FeatureIs (fetchTile l starts letters (intervalFound i) (gridOf g) t k m) lent a left
+abbrev pub FeatureOf : (m starts letters places : List ℕ) → (points ways k : ℕ) → (lent left : FetchLists) → TileLayout → Fetch → Type 0
+FeatureOf m starts letters places points ways k lent left l a = FeatureIs (fetchListed l starts letters places points ways k m) lent a left
 
 -- showing rules that are checked, and what the check leaves of the lent table
 pub record RulesOf (tags : ℕ) (rules lent left : List ℕ) (a : Checked) : Type 0 where

@@ -25,10 +25,11 @@ ghost use Rattle.window.specs.Window.{sharesCell};
 ghost use Rattle.window_wire.specs.Windows.{windowCountWire, windowTileWire};
 ghost use Rattle.header_wire.specs.Header.{headerWire, layoutIn, intervalsIn};
 ghost use Rattle.stream_wire.specs.Streams.{streamIn, selectionIn, openedWire, nextWire, acceptWire, declineWire};
+ghost use Rattle.tile.specs.Tile.{lentTile};
 ghost use Rattle.feature_wire.specs.Features.{tileWire, fetchWire};
 ghost use Rattle.showing.specs.Showing.{shown};
 ghost use Rattle.showing_wire.specs.Rules.{checkedWire, shownWire};
-ghost use Rattle.exports.specs.Calls.{gridIn, windowIn, OpenOf, tagsFrom, lentRows, TagIs, RowOf, SubFileOf, CountOf, IndexOf, EntryOf, WindowCountOf, WindowTileOf, StreamOf, NextOf, QuickOf, SelectedOf, SkipOf, AcceptOf, DeclineOf, TileOf, FeatureOf, RulesOf};
+ghost use Rattle.exports.specs.Calls.{gridIn, windowIn, OpenOf, tagsFrom, TagIs, RowOf, SubFileOf, CountOf, IndexOf, EntryOf, WindowCountOf, WindowTileOf, StreamOf, NextOf, QuickOf, SelectedOf, SkipOf, AcceptOf, DeclineOf, TileOf, FeatureOf, RulesOf};
 
 // The header but for its intervals, in 34 words and six degrees, and what tiles and sub files need of it, in seven words. The start and the
 // letter of each point tag and then of each way tag go to the fronts of two lists, which other calls take.
@@ -506,7 +507,7 @@ pub extern "C" fn mapsforge_stream_skip(
     put_back(number, before, state)
 }
 
-// A collected tile; its zoom table's rows go to the fronts of two lists.
+// A collected tile; its zoom table's rows go to the fronts of two lists, and where each feature starts to that of a third, `places`.
 #[no_mangle]
 pub extern "C" fn mapsforge_collect(
     map: &[u8],
@@ -521,8 +522,9 @@ pub extern "C" fn mapsforge_collect(
     words: &mut [u64; 15],
     points: &mut [u64; 256],
     ways: &mut [u64; 256],
+    places: &mut [u64],
 ) -> u64
-    ensures { λ r. ⌜ Crosses (tileWire (lending (now (words .entry) ∷ []) [] [])) (TileOf (now (map .entry)) (now (letters .entry)) tile (lentRows (now (points .entry)) (now (ways .entry))) (lentRows (now (points .exit)) (now (ways .exit))) (layoutIn (now (layout .entry))) (intervalIn (now (interval .entry))) (gridIn «x_min» «y_min» «x_max» «y_max»)) (wire r (now (words .exit) ∷ []) [] []) ⌝ }
+    ensures { λ r. ⌜ Crosses (tileWire (lending (now (words .entry) ∷ []) [] [])) (TileOf (now (map .entry)) (now (letters .entry)) tile (lentTile (now (points .entry)) (now (ways .entry)) (now (places .entry))) (lentTile (now (points .exit)) (now (ways .exit)) (now (places .exit))) (layoutIn (now (layout .entry))) (intervalIn (now (interval .entry))) (gridIn «x_min» «y_min» «x_max» «y_max»)) (wire r (now (words .exit) ∷ []) [] []) ⌝ }
 {
     let grid = Grid {
         x_min,
@@ -532,23 +534,20 @@ pub extern "C" fn mapsforge_collect(
     };
     let tiles = header_wire::layout_in(*layout);
     let found = index_wire::interval_in(*interval);
-    let got = tile::collect(map, tiles, letters, found, grid, tile, points, ways);
+    let got = tile::collect(map, tiles, letters, found, grid, tile, points, ways, places);
     feature_wire::put_tile(got, words)
 }
 
-// Feature k of a collected tile: points from 0, ways behind them.
+// Feature k of a collected tile: points from 0, ways behind them. It is read from where collecting listed it, and nothing else is.
 #[no_mangle]
 pub extern "C" fn mapsforge_fetch(
     map: &[u8],
     layout: &[u64; 7],
     starts: &[u64],
     letters: &[u8],
-    interval: &[u64; 6],
-    x_min: i32,
-    y_min: i32,
-    x_max: i32,
-    y_max: i32,
-    tile: usize,
+    places: &[u64],
+    points: u64,
+    ways: u64,
     feature: u64,
     node_counts: &mut [u64],
     latitudes: &mut [f64],
@@ -562,24 +561,17 @@ pub extern "C" fn mapsforge_fetch(
     ids: &mut [u64; 15],
     tags: &mut [u64; 75],
 ) -> u64
-    ensures { λ r. ⌜ Crosses (fetchWire (lending (now (words .entry) ∷ now (ids .entry) ∷ now (tags .entry) ∷ []) (now («signed_words» .entry)) (now (degrees .entry)))) (FeatureOf (now (map .entry)) (now (starts .entry)) (now (letters .entry)) tile feature (lentAll (now («node_counts» .entry)) (now (latitudes .entry)) (now (longitudes .entry)) (now («initial_latitudes» .entry)) (now («initial_longitudes» .entry)) (now (buffer .entry))) (lentAll (now («node_counts» .exit)) (now (latitudes .exit)) (now (longitudes .exit)) (now («initial_latitudes» .exit)) (now («initial_longitudes» .exit)) (now (buffer .exit))) (layoutIn (now (layout .entry))) (intervalIn (now (interval .entry))) (gridIn «x_min» «y_min» «x_max» «y_max»)) (wire r (now (words .exit) ∷ now (ids .exit) ∷ now (tags .exit) ∷ []) (now («signed_words» .exit)) (now (degrees .exit))) ⌝ }
+    ensures { λ r. ⌜ Crosses (fetchWire (lending (now (words .entry) ∷ now (ids .entry) ∷ now (tags .entry) ∷ []) (now («signed_words» .entry)) (now (degrees .entry)))) (FeatureOf (now (map .entry)) (now (starts .entry)) (now (letters .entry)) (now (places .entry)) points ways feature (lentAll (now («node_counts» .entry)) (now (latitudes .entry)) (now (longitudes .entry)) (now («initial_latitudes» .entry)) (now («initial_longitudes» .entry)) (now (buffer .entry))) (lentAll (now («node_counts» .exit)) (now (latitudes .exit)) (now (longitudes .exit)) (now («initial_latitudes» .exit)) (now («initial_longitudes» .exit)) (now (buffer .exit))) (layoutIn (now (layout .entry)))) (wire r (now (words .exit) ∷ now (ids .exit) ∷ now (tags .exit) ∷ []) (now («signed_words» .exit)) (now (degrees .exit))) ⌝ }
 {
-    let grid = Grid {
-        x_min,
-        y_min,
-        x_max,
-        y_max,
-    };
     let tiles = header_wire::layout_in(*layout);
-    let found = index_wire::interval_in(*interval);
     let fetch = fetch::fetch_feature(
         map,
         tiles,
         starts,
         letters,
-        found,
-        grid,
-        tile,
+        places,
+        points,
+        ways,
         feature,
         node_counts,
         latitudes,

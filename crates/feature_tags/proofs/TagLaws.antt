@@ -26,41 +26,72 @@ use Rattle.types.proofs.FillLaws.{front-map-more}
 use Rattle.fetched.specs.Fetched.{startedName, tagString, keyed, noText, noTexts, filledTexts}
 use Rattle.fetched.specs.declared.FeatureTexts.{FeatureTexts}
 use Rattle.feature_texts.specs.declared.TextParts.{TextParts}
-use Rattle.feature_tags.specs.FeatureTags.{stringsOf, textsOf}
+use Rattle.feature_tags.specs.FeatureTags.{stringsOf, ownTexts, textsOf}
 use Rattle.fetched.specs.declared.TagText.{TagText}
 use Rattle.fetched.specs.declared.OptionalText.{OptionalText}
 use Rattle.fetched.specs.declared.OptionalText.the-variants.{Absent, At}
 
--- the strings of the first i ids are in the array
-pub record Filled (starts : List ℕ) (t : TagRange) (m ids : List ℕ) (l : List TagText) (i : ℕ) : Type 0 where
-  pub within : i ≤ length ids
-  pub few : length ids ≤ 15
-  pub strings : l ≡ stringsOf starts t m (take i ids)
+-- the first 15 ids
+take-15 : (ids : List ℕ) (n : ℕ) → n ≡ min (length ids) 15 → take n ids ≡ take 15 ids
+take-15 ids n h = go (leb (length ids) 15) refl
+  where
+    go : (t : Bool) → leb (length ids) 15 ≡ t → take n ids ≡ take 15 ids
+    go true q =
+        let l = leb-true (length ids) 15 q in
+        let e : n ≡ length ids = omega arith in
+        ap (λ x. take x ids) e ∙ take-length ids ∙ sym (take-all 15 ids l)
+    go false q =
+        let l = leb-false (length ids) 15 q in
+        let e : n ≡ 15 = omega arith in
+        ap (λ x. take x ids) e
 
-module _ (starts : List ℕ) (t : TagRange) (m ids : List ℕ) where
-  pub strings-none : (e : TagText) → e ≡ noText → length ids ≤ 15 → Filled starts t m ids (replicate 15 e) 0
+-- a feature's own texts, with other strings of tags
+abbrev pub tagsOf : FeatureTexts → List TagText → FeatureTexts
+tagsOf x l = record { tags = l; name = x .name; «house_number» = x .«house_number»; reference = x .reference }
+
+-- the strings of the first i of n ids are in the record
+pub record Telling (starts : List ℕ) (t : TagRange) (m ids : List ℕ) (n : ℕ) (x₀ x : FeatureTexts) (i : ℕ) : Type 0 where
+  pub within : i ≤ n
+  pub most : n ≡ min (length ids) 15
+  pub told : x ≡ tagsOf x₀ (stringsOf starts t m (take i ids))
+
+module _ (starts : List ℕ) (p : TextParts) (m ids : List ℕ) (n : ℕ) (x₀ : FeatureTexts) where
+  pub telling-none : x₀ ≡ ownTexts p m → n ≡ min (length ids) 15 → Telling starts (p .tags) m ids n x₀ x₀ 0
   unfolding filledTexts stringsOf
-  strings-none e h b = record { within = omega arith; few = b; strings = ap (replicate 15) h }
+  telling-none e h = record { within = omega arith; most = h; told = ap (λ (y : FeatureTexts). tagsOf x₀ (y .tags)) e }
 
-  grown : (i d : ℕ) → i < length ids → length ids ≤ 15 → stringsOf starts t m (take i ids ++ (getD ids i d ∷ [])) ≡ set (stringsOf starts t m (take i ids)) i (tagString (startedName starts t m (getD ids i d)))
+  grown : (i d : ℕ) → i < length ids → i < 15 → stringsOf starts (p .tags) m (take i ids ++ (getD ids i d ∷ [])) ≡ set (stringsOf starts (p .tags) m (take i ids)) i (tagString (startedName starts (p .tags) m (getD ids i d)))
   unfolding filledTexts stringsOf
   grown i d b f =
-      let n : length (take i ids) ≡ i = length-take-le i ids (omega arith) in
-      let k : length (take i ids) < 15 = omega arith in
-      front-map-more (λ i. tagString (startedName starts t m i)) (take i ids) (getD ids i d) (replicate 15 noText) k
-      ∙ ap (λ x. set (stringsOf starts t m (take i ids)) x (tagString (startedName starts t m (getD ids i d)))) n
+      let k : length (take i ids) ≡ i = length-take-le i ids (omega arith) in
+      let l : length (take i ids) < 15 = omega arith in
+      front-map-more (λ i. tagString (startedName starts (p .tags) m i)) (take i ids) (getD ids i d) (replicate 15 noText) l
+      ∙ ap (λ x. set (stringsOf starts (p .tags) m (take i ids)) x (tagString (startedName starts (p .tags) m (getD ids i d)))) k
 
-  pub strings-more : (l : List TagText) (i d : ℕ) (v : TagText) (s : List ℕ) → Filled starts t m ids l i → i < length ids → s ≡ startedName starts t m (getD ids i d) → v ≡ tagString s → Filled starts t m ids (set l i v) (i + 1)
-  strings-more l i d v s h b e q = record {
-    within = omega arith;
-    few = h .few;
-    strings =
-        ap (λ x. set x i v) (h .strings) ∙ ap (set (stringsOf starts t m (take i ids)) i) (q ∙ ap tagString e) ∙ sym (grown i d b (h .few))
-        ∙ ap (stringsOf starts t m) (sym (take-suc ids i d b) ∙ ap (λ x. take x ids) (sym (add-one i)));
-  }
+  module _ (x : FeatureTexts) (i : ℕ) (h : Telling starts (p .tags) m ids n x₀ x i) where
+    pub telling-within : i < n → i < length ids
+    telling-within b = let k = h .most in omega arith
 
-  pub strings-done : (l : List TagText) (i : ℕ) → Filled starts t m ids l i → length ids ≤ i → l ≡ stringsOf starts t m ids
-  strings-done l i h b = h .strings ∙ ap (stringsOf starts t m) (take-all i ids b)
+    pub telling-few : i < n → i < 15
+    telling-few b = let k = h .most in omega arith
+
+    pub telling-more : (d : ℕ) (v : TagText) (s : List ℕ) → i < n → s ≡ startedName starts (p .tags) m (getD ids i d) → v ≡ tagString s → Telling starts (p .tags) m ids n x₀ (tagsOf x (set (x .tags) i v)) (i + 1)
+    telling-more d v s b e q = record {
+      within = omega arith;
+      most = h .most;
+      told =
+          ap (λ y. tagsOf y (set (y .tags) i v)) (h .told)
+          ∙ ap (λ w. tagsOf x₀ (set (stringsOf starts (p .tags) m (take i ids)) i w)) (q ∙ ap tagString e)
+          ∙ ap (tagsOf x₀) (sym (grown i d (telling-within b) (telling-few b)))
+          ∙ ap (λ l. tagsOf x₀ (stringsOf starts (p .tags) m l)) (sym (take-suc ids i d (telling-within b)) ∙ ap (λ y. take y ids) (sym (add-one i)));
+    }
+
+    pub telling-done : n ≤ i → x₀ ≡ ownTexts p m → x ≡ textsOf starts p m ids
+    unfolding stringsOf
+    telling-done b e =
+        let w = h .within in
+        let k : i ≡ min (length ids) 15 = (let q : i ≡ n = omega arith in q ∙ h .most) in
+        h .told ∙ ap (λ y. tagsOf y (stringsOf starts (p .tags) m (take i ids))) e ∙ ap (λ l. tagsOf (ownTexts p m) (stringsOf starts (p .tags) m l)) (take-15 ids i k)
 
 -- another text
 pub own-absent : (m : List ℕ) (key : TextKey) (o : OptionalSpan) → o ≡ span.Absent → Absent ≡ keyed key (maybePart m o)
@@ -79,29 +110,7 @@ none-of e h = rw h
 
 pub ruleset records = (needs, string-of, none-of)
 
--- the first 15 ids
-take-15 : (ids : List ℕ) (n : ℕ) → n ≡ min (length ids) 15 → take n ids ≡ take 15 ids
-take-15 ids n h = go (leb (length ids) 15) refl
-  where
-    go : (t : Bool) → leb (length ids) 15 ≡ t → take n ids ≡ take 15 ids
-    go true q =
-        let l = leb-true (length ids) 15 q in
-        let e : n ≡ length ids = omega arith in
-        ap (λ x. take x ids) e ∙ take-length ids ∙ sym (take-all 15 ids l)
-    go false q =
-        let l = leb-false (length ids) 15 q in
-        let e : n ≡ 15 = omega arith in
-        ap (λ x. take x ids) e
-
-pub first-sized : (ids : List ℕ) (n : ℕ) → n ≡ min (length ids) 15 → n ≡ length (take n ids)
-first-sized ids n h = let e : n ≤ length ids = omega arith in sym (length-take-le n ids e)
-
-pub first-few : (ids : List ℕ) (n : ℕ) → n ≡ min (length ids) 15 → length (take n ids) ≤ 15
-first-few ids n h = let e : n ≤ length ids = omega arith in let k = length-take-le n ids e in omega arith
-
-pub texts-of : (starts : List ℕ) (p : TextParts) (m ids : List ℕ) (n : ℕ) (l : List TagText) (a b c : OptionalText) → n ≡ min (length ids) 15
-    → l ≡ stringsOf starts (p .tags) m (take n ids) → a ≡ keyed Name (maybePart m (p .name)) → b ≡ keyed HouseNumber (maybePart m (p .«house_number»))
-    → c ≡ keyed Ref (maybePart m (p .reference)) → _≡_ {A = FeatureTexts} (record { tags = l; name = a; «house_number» = b; reference = c }) (textsOf starts p m ids)
-unfolding stringsOf
-texts-of starts p m ids n l a b c h e f g k =
-    rw (e, f, g, k, take-15 ids n h)
+pub own-of : (p : TextParts) (m : List ℕ) (z : TagText) (a b c : OptionalText) → z ≡ noText → a ≡ keyed Name (maybePart m (p .name))
+    → b ≡ keyed HouseNumber (maybePart m (p .«house_number»)) → c ≡ keyed Ref (maybePart m (p .reference))
+    → _≡_ {A = FeatureTexts} (record { tags = replicate 15 z; name = a; «house_number» = b; reference = c }) (ownTexts p m)
+own-of p m z a b c h f g k = rw (h, f, g, k)

@@ -6,13 +6,11 @@ use fetched::TagText;
 use tag::Tag;
 use tag::TextKey;
 use types::OptionalSpan;
-use types::TagRange;
 ghost use mathlib.Core.Path.{_≡_};
-ghost use Prim.Native.Nat.{_≤_, min};
-ghost use lib.ListN.{length};
+ghost use Prim.Native.Nat.{min};
 ghost use Rattle.types.specs.Types.{maybePart};
 ghost use Rattle.fetched.specs.Fetched.{tagString, keyed, noText, noTexts};
-ghost use Rattle.feature_tags.specs.FeatureTags.{stringsOf, textsOf};
+ghost use Rattle.feature_tags.specs.FeatureTags.{ownTexts, textsOf};
 
 // A tag's string, by its stored name.
 fn tag_string(name: &[u8]) -> TagText
@@ -36,21 +34,6 @@ fn no_text() -> TagText
             value_code: 0,
         },
     }
-}
-
-// The strings of the tags with these ids, from the front.
-fn tag_strings(map: &[u8], starts: &[u64], tags: TagRange, ids: &[u64]) -> [TagText; 15]
-    requires { ⌜ length (now ids) ≤ 15 ⌝ }
-    ensures { λ r. ⌜ r ≡ stringsOf (now (starts .entry)) tags (now (map .entry)) (now (ids .entry)) ⌝ }
-{
-    let empty = no_text();
-    let mut strings = [empty; 15];
-    let mut i = 0;
-    while i < ids.len() {
-        strings[i] = tag_string(feature_texts::tag_name(map, starts, tags, ids[i]));
-        i += 1;
-    }
-    strings
 }
 
 // A text of the feature's own, and the tag that is made of it.
@@ -90,19 +73,34 @@ fn at_most_15(n: usize) -> usize
     n
 }
 
-// The texts of a feature with these tag ids, of which it has 15 at most.
+// The texts of a feature without tags.
+fn own_texts(map: &[u8], parts: TextParts) -> FeatureTexts
+    ensures { λ r. ⌜ r ≡ ownTexts parts (now (map .entry)) ⌝ }
+{
+    let empty = no_text();
+    let name = parts.name;
+    let house_number = parts.house_number;
+    let reference = parts.reference;
+    FeatureTexts {
+        tags: [empty; 15],
+        name: own_text(map, TextKey::Name, name),
+        house_number: own_text(map, TextKey::HouseNumber, house_number),
+        reference: own_text(map, TextKey::Ref, reference),
+    }
+}
+
+// The texts of a feature with these tag ids, of which it has 15 at most. The tags' strings are put where they are to stand: an array
+// made beside the record would be copied into it.
 pub fn texts_of(map: &[u8], starts: &[u64], ids: &[u64], parts: TextParts) -> FeatureTexts
     ensures { λ r. ⌜ r ≡ textsOf (now (starts .entry)) parts (now (map .entry)) (now (ids .entry)) ⌝ }
 {
     let n = at_most_15(ids.len());
     let tags = parts.tags;
-    let name = parts.name;
-    let house_number = parts.house_number;
-    let reference = parts.reference;
-    FeatureTexts {
-        tags: tag_strings(map, starts, tags, &ids[..n]),
-        name: own_text(map, TextKey::Name, name),
-        house_number: own_text(map, TextKey::HouseNumber, house_number),
-        reference: own_text(map, TextKey::Ref, reference),
+    let mut texts = own_texts(map, parts);
+    let mut i = 0;
+    while i < n {
+        texts.tags[i] = tag_string(feature_texts::tag_name(map, starts, tags, ids[i]));
+        i += 1;
     }
+    texts
 }

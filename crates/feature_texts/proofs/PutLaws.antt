@@ -1,28 +1,22 @@
 -- The texts of a feature, written one behind the other to a buffer that has room for all.
-use Prim.Native.Nat.{ℕ, _+_, _-_, _≤_, _<_, _^_}
+use Prim.Native.Nat.{ℕ, _+_, _≤_, _<_}
 use native.Mathlib.Nat.{zero-add}
 use native.Mathlib.Numerals.{add-one}
 use native.Mathlib.Omega.{arith}
 use mathlib.Core.Path.{_≡_, refl, sym, ap, _∙_}
-use mathlib.Core.Bool.{Bool, true, false, cond}
 use mathlib.Core.List.{List, [], _++_}
-use lib.Dec.{leb, ltb}
 use lib.ListN.{length, getD, drop, length-append, drop-of-length-le}
 use lib.Seq.{sets, length-sets, drop-cons}
-use borrow.Author.Tests.{ltb-true, ltb-false, lt-ltb, le-leb, lt-leb}
 use Rattle.parsing.proofs.Loops.{sets-append}
 use Rattle.error.specs.declared.LentRefusal.{LentRefusal}
-use Rattle.arithmetic.specs.Cut.{cut}
-use Rattle.arithmetic.proofs.CutLaws.{cut-fits, cut-over}
 use Rattle.text.specs.Utf8.{replaced}
 use Rattle.text.specs.Writing.{outcome, writing}
 use Rattle.text.specs.declared.Written.{Written}
 use Rattle.text.specs.declared.Written.the-variants.{Upto, Refused}
 use Rattle.text.proofs.WrittenLaws.{written-fits, written-short}
-use Rattle.format.specs.Lent.{front, sets-front}
 use Rattle.types.specs.Types.{maybePart}
 use Rattle.fetched.specs.Fetched.{partBytes, startedName, idTexts}
-use Rattle.feature_texts.specs.FeatureTexts.{textsIn, writeTexts}
+use Rattle.feature_texts.specs.FeatureTexts.{textsIn}
 use Rattle.feature_texts.specs.declared.TextParts.{TextParts}
 use Rattle.feature_texts.proofs.TextLaws.{texts-are}
 
@@ -172,42 +166,3 @@ module _ (s : List ℕ) (p : TextParts) (m ids b : List ℕ) (room : length (tex
             ∙ ap (λ x. sets b 0 (strings ++ replaced name ++ replaced x ++ replaced s₃)) e₂
             ∙ ap (λ x. sets b 0 (strings ++ replaced name ++ replaced house ++ replaced x)) e₃
             ∙ ap (sets b 0) (sym all)
-
--- by the length that was measured
-module _ (texts b : List ℕ) (n : ℕ) (e : n ≡ cut (length texts)) where
-  abbrev large : Bool → List ℕ
-  large t = cond t (cond (leb (length texts) (length b)) (front texts b) b) b
-
-  measured : length texts < 2 ^ 64 - 1 → n ≡ length texts
-  measured h = e ∙ cut-fits (length texts) (omega arith)
-
-  over : 2 ^ 64 - 1 ≤ length texts → n ≡ 2 ^ 64 - 1
-  over h = e ∙ cut-over (length texts) h
-
-  small : n ≤ 18446744073709551614 → length texts < 2 ^ 64 - 1
-  small h = go (ltb (length texts) (2 ^ 64 - 1)) refl
-    where
-      go : (t : Bool) → ltb (length texts) (2 ^ 64 - 1) ≡ t → length texts < 2 ^ 64 - 1
-      go true q = ltb-true (length texts) (2 ^ 64 - 1) q
-      go false q = let x = over (ltb-false (length texts) (2 ^ 64 - 1) q) in absurd (omega arith)
-
-  pub write-large : 18446744073709551614 < n → b ≡ writeTexts texts b
-  write-large h = go (ltb (length texts) (2 ^ 64 - 1)) refl
-    where
-      go : (t : Bool) → ltb (length texts) (2 ^ 64 - 1) ≡ t → b ≡ large t
-      go true q = let x = measured (ltb-true (length texts) (2 ^ 64 - 1) q) in let y = ltb-true (length texts) (2 ^ 64 - 1) q in absurd (omega arith)
-      go false q = refl
-
-  pub write-short : n ≤ 18446744073709551614 → length b < n → b ≡ writeTexts texts b
-  write-short h k =
-      let x = measured (small h) in
-      let y : length b < length texts = omega arith in
-      rw (lt-ltb (length texts) (2 ^ 64 - 1) (small h), lt-leb (length texts) (length b) y)
-
-  pub write-room : n ≤ 18446744073709551614 → n ≤ length b → length texts ≤ length b
-  write-room h k = let x = measured (small h) in omega arith
-
-  pub write-done : (b′ : List ℕ) → n ≤ 18446744073709551614 → n ≤ length b → b′ ≡ sets b 0 texts → b′ ≡ writeTexts texts b
-  write-done b′ h k w =
-      let y = write-room h k in
-      w ∙ sets-front texts b y ∙ rw (lt-ltb (length texts) (2 ^ 64 - 1) (small h), le-leb (length texts) (length b) y)

@@ -12,7 +12,7 @@ ghost use Rattle.arithmetic.specs.Cut.{cut};
 ghost use Rattle.text.specs.Utf8.{replaced};
 ghost use Rattle.types.specs.Types.{maybePart};
 ghost use Rattle.fetched.specs.Fetched.{partBytes, startedName, idTexts};
-ghost use Rattle.feature_texts.specs.FeatureTexts.{textsIn, writeTexts};
+ghost use Rattle.feature_texts.specs.FeatureTexts.{textsIn, writeTexts, AtMost, roomFor};
 
 // What a feature's texts are made of.
 pub struct TextParts {
@@ -74,6 +74,51 @@ pub fn texts_len(map: &[u8], starts: &[u64], ids: &[u64], parts: TextParts) -> u
     arithmetic::saturating_add_usize(len, reference)
 }
 
+// How long the tags' strings are as stored. 2^64 - 1 stands for any larger length.
+fn stored_ids(map: &[u8], starts: &[u64], tags: TagRange, ids: &[u64]) -> usize
+    ensures { λ r. ⌜ AtMost (idTexts (startedName (now (starts .entry)) tags (now (map .entry))) (now (ids .entry))) r ⌝ }
+{
+    let mut len = 0;
+    let mut i = 0;
+    while i < ids.len() {
+        let name = tag_name(map, starts, tags, ids[i]);
+        len = arithmetic::saturating_add_usize(len, name.len());
+        i += 1;
+    }
+    len
+}
+
+// How long all texts are as stored.
+fn stored_len(map: &[u8], starts: &[u64], ids: &[u64], parts: TextParts) -> usize
+    ensures { λ r. ⌜ AtMost (textsIn (now (starts .entry)) parts (now (map .entry)) (now (ids .entry))) r ⌝ }
+{
+    let tags = parts.tags;
+    let len = stored_ids(map, starts, tags, ids);
+    let text = parts.name;
+    let name = optional_bytes(map, text);
+    let text = parts.house_number;
+    let house_number = optional_bytes(map, text);
+    let text = parts.reference;
+    let reference = optional_bytes(map, text);
+    let len = arithmetic::saturating_add_usize(len, name.len());
+    let len = arithmetic::saturating_add_usize(len, house_number.len());
+    arithmetic::saturating_add_usize(len, reference.len())
+}
+
+// Whether `room` bytes have room for the texts. They are measured only if three times their stored length is too long.
+fn has_room(map: &[u8], starts: &[u64], ids: &[u64], parts: TextParts, room: usize) -> bool
+    ensures { λ r. ⌜ r ≡ roomFor (textsIn (now (starts .entry)) parts (now (map .entry)) (now (ids .entry))) room ⌝ }
+{
+    if stored_len(map, starts, ids, parts) < room / 3 {
+        return true;
+    }
+    let len = texts_len(map, starts, ids, parts);
+    if 18446744073709551614 < len {
+        return false;
+    }
+    len <= room
+}
+
 // A text in a buffer that has room for it; the place behind it.
 fn put(bytes: &[u8], buffer: &mut [u8], at: usize) -> usize
     requires { ⌜ at + length (replaced (now bytes)) ≤ length (now buffer) ⌝ }
@@ -119,12 +164,7 @@ fn put_texts(map: &[u8], starts: &[u64], ids: &[u64], parts: TextParts, buffer: 
 pub fn write_texts(map: &[u8], starts: &[u64], ids: &[u64], parts: TextParts, buffer: &mut [u8])
     ensures { λ r. ⌜ now (buffer .exit) ≡ writeTexts (textsIn (now (starts .entry)) parts (now (map .entry)) (now (ids .entry))) (now (buffer .entry)) ⌝ }
 {
-    let len = texts_len(map, starts, ids, parts);
-    if 18446744073709551614 < len {
-        return;
+    if has_room(map, starts, ids, parts, buffer.len()) {
+        put_texts(map, starts, ids, parts, buffer);
     }
-    if buffer.len() < len {
-        return;
-    }
-    put_texts(map, starts, ids, parts, buffer);
 }

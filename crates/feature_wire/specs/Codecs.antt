@@ -26,7 +26,7 @@ use Rattle.fetched.specs.declared.FetchAnswer.{FetchAnswer}
 use Rattle.fetched.specs.declared.FetchAnswer.the-variants as fetch-answer
 use Rattle.fetched.specs.declared.Fetch.{Fetch}
 use Rattle.wire.specs.Wire.{Wire, Lent, Decoder, Codec, listOf, word, signedAt, truth, there}
-use Rattle.wire.specs.Codecs.{settle, settled, settleLent, settled-lent, truth-back, spanIn, span-back, placeIn, place-back, degree}
+use Rattle.wire.specs.Codecs.{settleLent, settled-lent, truth-back, spanIn, span-back, placeIn, place-back, degree}
 use Rattle.wire.specs.Elevation.{metresIn, metres-back}
 use Rattle.wire.specs.Spread.{spreadWire, spread-out}
 use Rattle.feature_wire.specs.Features.{tileWire, textWords, tagWords, fetchWith, fetchWire}
@@ -44,14 +44,14 @@ summaryIn w = record {
 }
 
 abbrev pub tileIn : Wire → SummaryRead
-tileIn w = settle summary.Refused (summary.Value (summaryIn w)) w
+tileIn w = settleLent summary.Refused (summary.Value (summaryIn w)) w
 
 summary-with : (t : TileSummary) (s s′ : OptionalSpan) (b b′ a a′ : Bool) → s ≡ s′ → b ≡ b′ → a ≡ a′ → _≡_ {A = SummaryRead} (summary.Value (record { signature = s; «first_way_offset» = t .«first_way_offset»; points = t .points; ways = t .ways; rows = t .rows; exact = b; plain = a })) (summary.Value (record { signature = s′; «first_way_offset» = t .«first_way_offset»; points = t .points; ways = t .ways; rows = t .rows; exact = b′; plain = a′ }))
 summary-with t s s′ b b′ a a′ q1 q2 q3 = rw (q1, q2, q3) refl
 
 tile-spread : (w : Wire) (r : SummaryRead) → tileIn (tileWire (spreadWire (15 ∷ []) 0 0 w) r) ≡ r
 tile-spread w (summary.Value t) = summary-with t _ _ _ _ _ _ (span-back (t .signature)) (truth-back (t .exact)) (truth-back (t .plain))
-tile-spread w (summary.Refused r) = settled summary.Refused _ _ _ r
+tile-spread w (summary.Refused r) = settled-lent summary.Refused _ _ _ _ _ _ _ _ r
 
 pub tile-back : (w : Wire) → Lent (15 ∷ []) 0 0 w → (r : SummaryRead) → tileIn (tileWire w r) ≡ r
 tile-back w h r = spread-out (15 ∷ []) 0 0 w h (λ (v : Wire). tileIn (tileWire v r) ≡ r) (tile-spread w r)

@@ -15,7 +15,7 @@ use Rattle.fetched.specs.declared.FetchedWay.{FetchedWay}
 use Rattle.fetched.specs.declared.FetchAnswer.{FetchAnswer}
 use Rattle.fetched.specs.declared.FetchAnswer.the-variants as fetch-answer
 use Rattle.fetched.specs.declared.Fetch.{Fetch}
-use Rattle.wire.specs.Wire.{Wire, put, putAll, putSigned, putDegrees, numbered, putRefusal, putLentRefusal}
+use Rattle.wire.specs.Wire.{Wire, put, putAll, putSigned, putDegrees, numbered, putLentRefusal}
 use Rattle.wire.specs.Verdicts.{spanWords, placeWords}
 use Rattle.wire.specs.Elevation.{metreWords}
 use Rattle.feature_wire.specs.declared.TextWords.{TextWords}
@@ -30,7 +30,7 @@ putSummary s w = put 0 6 (spanBefore (s .signature) (s .rows ∷ s .«first_way_
 
 abbrev pub tileWire : (before : Wire) → SummaryRead → Wire
 tileWire w (summary.Value s) = numbered 0 (putSummary s w)
-tileWire w (summary.Refused r) = putRefusal r w
+tileWire w (summary.Refused r) = putLentRefusal r w
 
 -- fetching: words from 6 on, the tag ids, the tags
 abbrev pub textWords : OptionalText → TextWords

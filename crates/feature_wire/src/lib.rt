@@ -43,7 +43,7 @@ pub fn put_tile(read: SummaryRead, words: &mut [u64; 15]) -> u64
             put_summary(summary, words);
             0
         }
-        SummaryRead::Refused(r) => wire::put_refusal(r, words),
+        SummaryRead::Refused(r) => wire::put_lent_refusal(r, words),
     }
 }
 

@@ -1,12 +1,14 @@
 -- Fetching: document 01, "The stream and the collected tile": "Feature k of a collected tile can then be fetched, points from 0, ways
 -- behind them". Which feature that is says `fetch` of crate agreement; what is given of it, crate fetched.
-use Prim.Native.Nat.{ℕ}
-use mathlib.Core.Bool.{Bool}
+use Prim.Native.Nat.{ℕ, _+_}
+use mathlib.Core.Bool.{Bool, _&&_, cond}
 use mathlib.Core.Path.{_≡_}
 use mathlib.Core.List.{List, []}
+use lib.Dec.{ltb}
 use lib.Ieee.{Float}
+use lib.ListN.{length, getD}
 use Rattle.parsing.specs.Parse.{Res, ok, no, andThen, mapRes, Maybe}
-use Rattle.error.specs.Refusals.{lentRefused}
+use Rattle.error.specs.Refusals.{refused, lentRefused}
 use Rattle.error.specs.declared.LentRefusal.the-variants as lent-refusal
 use Rattle.error.specs.declared.Refusal.{Refusal}
 use Rattle.error.specs.declared.Refusal.the-variants.{Source}
@@ -22,9 +24,8 @@ use Rattle.agreement.specs.Collected as collected
 use Rattle.agreement.specs.Collected.{storedCollection, storedTile, collect}
 use Rattle.tile_layout.specs.TileLayout.{kindsOf, formatOf}
 use Rattle.tile_layout.specs.declared.TileLayout.{TileLayout}
-use Rattle.feature_place.specs.FeaturePlace.{Place, pointAt, wayAt, featurePlaceRes}
-use Rattle.feature_place.specs.declared.FeaturePlace.{FeaturePlace}
-use Rattle.feature_place.specs.declared.FeaturePlace.the-variants as place
+use Rattle.fetch.specs.declared.FeaturePlace.{FeaturePlace}
+use Rattle.fetch.specs.declared.FeaturePlace.the-variants as place
 use Rattle.fetched.specs.Fetched.{startedName, FetchLists, Fetched, fetchedPoint, fetchedWay, FetchReply, deliverAll}
 use Rattle.fetched.specs.declared.FetchEnd.{FetchEnd}
 use Rattle.fetched.specs.declared.FetchEnd.the-variants as fetch-end
@@ -67,6 +68,25 @@ fetchAt l starts letters k a m =
 unfoldable pub fetchTile : TileLayout → (starts letters : List ℕ) → Maybe Interval → Grid → (number k : ℕ) → List ℕ → Res (Fetched Feature)
 fetchTile l starts letters i g n k m = andThen (locate (l .debug) i g n m) (λ a _. fetchAt l starts letters k a m)
 
+-- Request 8 (document 02): the same through the list that collecting filled, which reads only the one feature. Where it starts:
+pub data Place : Type 0 where
+  pointAt : ℕ → Place
+  wayAt : ℕ → Place
+
+-- points from 0, ways behind them; 17 for a number at or above the count or the list's length
+abbrev pub listedPlace : (places : List ℕ) → (points ways k : ℕ) → Res Place
+listedPlace places points ways k =
+    cond (ltb k (points + ways) && ltb k (length places)) (answer (cond (ltb k points) (pointAt (getD places k 0)) (wayAt (getD places k 0)))) (no 17 [])
+
+-- the feature that is read from there
+abbrev pub readAt : TileLayout → (starts letters : List ℕ) → Place → List ℕ → Res (Fetched Feature)
+readAt l starts letters (pointAt i) m = mapRes (fetchedAs aPoi) (poiStored (l .debug) starts letters (l .«poi_tags») m i)
+readAt l starts letters (wayAt i) m = mapRes (fetchedAs aWay) (wayStored (l .debug) starts letters (l .«way_tags») m i)
+
+-- by any list and counts
+abbrev pub fetchListed : TileLayout → (starts letters places : List ℕ) → (points ways k : ℕ) → List ℕ → Res (Fetched Feature)
+fetchListed l starts letters places points ways k m = answered (andThen (listedPlace places points ways k) (λ p _. readAt l starts letters p m))
+
 -- the answer of the code
 abbrev pub featureRes : FetchAnswer → FetchedPoi → FetchedWay → Res Feature
 featureRes fetch-answer.Point p w = answer (aPoi p)
@@ -91,6 +111,11 @@ pub record FeatureIs (stored : Res (Fetched Feature)) (lent : FetchLists) (r : F
   pub way : r .way ≡ wayIn (deliverAll stored lent .answer)
 
 -- What private functions make, which need not be believed.
+abbrev pub placeRes : FeaturePlace → Res Place
+placeRes (place.Point n) = answer (pointAt n)
+placeRes (place.Way n) = answer (wayAt n)
+placeRes (place.Refused r) = refused r
+
 abbrev pub answerAt : FetchAnswer → FetchEnd → FetchAnswer
 answerAt a (fetch-end.At n) = a
 answerAt a (fetch-end.Refused r) = fetch-answer.Refused r
@@ -104,11 +129,7 @@ ofWay g = record { answer = answerAt fetch-answer.Way (g .end); poi = emptyPoi; 
 abbrev pub noFetch : Refusal → Fetch
 noFetch r = record { answer = fetch-answer.Refused (lent-refusal.Refused r); poi = emptyPoi; way = emptyWay }
 
--- the feature that is read from a place, and what is delivered of it
-abbrev pub readAt : TileLayout → (starts letters : List ℕ) → Place → List ℕ → Res (Fetched Feature)
-readAt l starts letters (pointAt i) m = mapRes (fetchedAs aPoi) (poiStored (l .debug) starts letters (l .«poi_tags») m i)
-readAt l starts letters (wayAt i) m = mapRes (fetchedAs aWay) (wayStored (l .debug) starts letters (l .«way_tags») m i)
-
+-- what is delivered of the feature at a place
 abbrev pub FetchedAt : TileLayout → (starts letters : List ℕ) → Res Place → List ℕ → (lent : FetchLists) → Fetch → (left : FetchLists) → Type 0
 FetchedAt l starts letters p m lists r left = FeatureIs (answered (andThen p (λ q _. readAt l starts letters q m))) lists r left
 
@@ -120,4 +141,4 @@ wayEnd (place.Refused r) = end.Refused Source
 
 -- a place that is no way's: the lists keep their values
 pub record OtherAt (l : TileLayout) (starts letters : List ℕ) (p : FeaturePlace) (m buffer : List ℕ) (r : Fetch) (left : List ℕ) : Type 0 where
-  pub each : (x : Refusal) → wayEnd p ≡ end.Refused x → (c : List ℕ) (la lo il io : List Float) → FetchedAt l starts letters (featurePlaceRes p) m (lent c la lo il io buffer) r (lent c la lo il io left)
+  pub each : (x : Refusal) → wayEnd p ≡ end.Refused x → (c : List ℕ) (la lo il io : List Float) → FetchedAt l starts letters (placeRes p) m (lent c la lo il io buffer) r (lent c la lo il io left)

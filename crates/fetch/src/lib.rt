@@ -1,21 +1,23 @@
-// tile.rs: a feature of a collected tile, by its number: points from 0, ways behind them.
+// tile.rs: a feature of a collected tile, by its number: points from 0, ways behind them. It is read from where collecting listed it.
 use error::LentRefusal;
 use error::Refusal;
-use feature_place::FeaturePlace;
 use fetch_poi::PoiFetch;
 use fetch_way::WayFetch;
 use fetched::Fetch;
 use fetched::FetchAnswer;
 use fetched::FetchEnd;
-use index::IntervalRead;
 use tile_layout::TileLayout;
 use types::End;
-use types::Grid;
 ghost use mathlib.Core.Path.{_≡_};
-ghost use Rattle.types.specs.Types.{gridOf};
-ghost use Rattle.index.specs.Answers.{intervalFound};
 ghost use Rattle.fetch_way.specs.FetchWay.{lent};
-ghost use Rattle.fetch.specs.Fetch.{answerAt, ofPoi, ofWay, noFetch, fetchTile, wayEnd, OtherAt, FeatureIs};
+ghost use Rattle.fetch.specs.Fetch.{answerAt, ofPoi, ofWay, noFetch, placeRes, listedPlace, fetchListed, wayEnd, OtherAt, FeatureIs};
+
+// Where a point starts, or a way; its signature's place in debug maps.
+enum FeaturePlace {
+    Point(usize),
+    Way(usize),
+    Refused(Refusal),
+}
 
 // An answer that came from a place, or the refusal there.
 fn answer_at(answer: FetchAnswer, end: FetchEnd) -> FetchAnswer
@@ -72,6 +74,23 @@ fn way_end(place: FeaturePlace) -> End
     }
 }
 
+// Feature k by the list that collecting filled: points from 0, ways behind them. 17 for a number at or above the count or the list's length.
+fn listed_place(places: &[u64], points: u64, ways: u64, feature: u64) -> FeaturePlace
+    ensures { λ r. ⌜ placeRes r ≡ listedPlace (now (places .entry)) points ways feature ⌝ }
+{
+    if places.len() as u64 <= feature {
+        return FeaturePlace::Refused(Refusal::InvalidFeature);
+    }
+    let at = places[feature as usize] as usize;
+    if feature < points {
+        return FeaturePlace::Point(at);
+    }
+    if ways <= feature - points {
+        return FeaturePlace::Refused(Refusal::InvalidFeature);
+    }
+    FeaturePlace::Way(at)
+}
+
 // The point at a place, or why there is no feature. A way is not read here: it needs more lists.
 fn of_place(
     map: &[u8],
@@ -93,17 +112,18 @@ fn of_place(
     }
 }
 
-// Refused as collecting is; then 17 for a number at or above the count of features; then 15, with every length needed, if a list or the
-// buffer is too short. A point's texts go to the buffer; a way's node counts, latitudes and longitudes go to the first three lists, its
-// blocks' initial latitudes and longitudes to the others. A refusal leaves them all alone.
+// `places`, `points` and `ways` are what collecting the tile gave; only this feature is read. 17 for a number at or above the count of
+// features or the list's length, before reading; 15 last, with every length needed, if a list or the buffer is too short. A point's texts
+// go to the buffer; a way's node counts, latitudes and longitudes go to the first three lists, its blocks' initial latitudes and longitudes
+// to the others. A refusal leaves them all alone.
 pub fn fetch_feature(
     map: &[u8],
     layout: TileLayout,
     starts: &[u64],
     letters: &[u8],
-    found: IntervalRead,
-    grid: Grid,
-    tile: usize,
+    places: &[u64],
+    points: u64,
+    ways: u64,
     feature: u64,
     node_counts: &mut [u64],
     latitudes: &mut [f64],
@@ -112,9 +132,9 @@ pub fn fetch_feature(
     initial_longitudes: &mut [f64],
     buffer: &mut [u8],
 ) -> Fetch
-    ensures { λ r. ⌜ FeatureIs (fetchTile layout (now (starts .entry)) (now (letters .entry)) (intervalFound found) (gridOf grid) tile feature (now (map .entry))) (lent (now («node_counts» .entry)) (now (latitudes .entry)) (now (longitudes .entry)) (now («initial_latitudes» .entry)) (now («initial_longitudes» .entry)) (now (buffer .entry))) r (lent (now («node_counts» .exit)) (now (latitudes .exit)) (now (longitudes .exit)) (now («initial_latitudes» .exit)) (now («initial_longitudes» .exit)) (now (buffer .exit))) ⌝ }
+    ensures { λ r. ⌜ FeatureIs (fetchListed layout (now (starts .entry)) (now (letters .entry)) (now (places .entry)) points ways feature (now (map .entry))) (lent (now («node_counts» .entry)) (now (latitudes .entry)) (now (longitudes .entry)) (now («initial_latitudes» .entry)) (now («initial_longitudes» .entry)) (now (buffer .entry))) r (lent (now («node_counts» .exit)) (now (latitudes .exit)) (now (longitudes .exit)) (now («initial_latitudes» .exit)) (now («initial_longitudes» .exit)) (now (buffer .exit))) ⌝ }
 {
-    let place = feature_place::find_feature(map, layout, letters, found, grid, tile, feature);
+    let place = listed_place(places, points, ways, feature);
     let end = way_end(place);
     let End::At(at) = end else {
         return of_place(map, place, layout, starts, letters, buffer);

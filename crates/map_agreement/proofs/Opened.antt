@@ -1,11 +1,11 @@
--- Any map that opens with the stored header h: what locating, opening, collecting and fetching a tile read of it, by the header's value;
+-- Any map that opens with the stored header h: what locating, opening and collecting a tile read of it, by the header's value;
 -- and what a program sees of such a map, where the machine's replies are the book's.
 use Prim.Native.Nat.{ℕ}
 use mathlib.Core.Path.{_≡_, refl, sym, ap, _∙_, subst}
 use mathlib.Core.Bool.{Bool, true, cond}
 use mathlib.Core.List.{List, [], _∷_, map}
 use lib.ListN.{length}
-use Rattle.parsing.specs.Parse.{Res, ok, no, andThen, mapRes, Part, Maybe, none, some, nth}
+use Rattle.parsing.specs.Parse.{Res, ok, no, andThen, mapRes, listOf, Part, Maybe, none, some, nth}
 use Rattle.parsing.specs.Good.{split, ok-val, ok-at, no-ok}
 use Rattle.format.specs.Header.{Interval, Header, header, opened, debug}
 use Rattle.format.specs.Index.{answer, answered, Grid, Located, located, locate, locateIn, inSubFile}
@@ -35,17 +35,14 @@ use Rattle.agreement.specs.MapLayout.{MapLayout, rowsAt}
 use Rattle.agreement.specs.MapLayout as layout
 use Rattle.agreement.specs.Stream.{stream, openStream}
 use Rattle.agreement.specs.View.{streamedReplies}
-use Rattle.agreement.specs.TileFormat.{TileEnd, tileEnd, tileFormat}
+use Rattle.agreement.specs.TileFormat.{TileEnd, tileFormat}
 use Rattle.agreement.specs.Demand3.{MapAgrees, freshTile}
 use Rattle.visit.specs.Visit.{TileState, stateOf, openTile, openRes, ShownAnswer, shown}
 use Rattle.visit.specs.declared.Stream.{Stream}
 use Rattle.visit.specs.declared.OpenRead.{OpenRead}
 use Rattle.visit.specs.declared.OpenRead.the-variants as open-read
-use Rattle.tile.specs.Tile.{shownTile, collectTile}
+use Rattle.tile.specs.Tile.{shownTile, featurePlaces, collectTile, tilePlaces}
 use Rattle.tile.specs.declared.Tile.{Tile}
-use Rattle.agreement.specs.Collected as collected
-use Rattle.fetched.specs.Fetched.{startedName, Fetched}
-use Rattle.fetch.specs.Fetch as fetch
 use Rattle.map_agreement.specs.TileView.{tileView}
 use Rattle.map_agreement.specs.MapsforgeMap.{ofInterval, interval, lowest, highest, mapsforge}
 use Rattle.map_agreement.specs.BookSays.{Opens, opens, bookAt, SeesBook}
@@ -144,7 +141,7 @@ module _ (s : ℕ) (grid : Grid) (number : ℕ) (h : Header) (lent : TagLists) w
   abbrev tags : TagLists
   tags = listsWritten (tagLists h) lent
 
-  kinds : ListedKinds h (tags .letters)
+  pub kinds : ListedKinds h (tags .letters)
   kinds = kinds-listed h lent
 
   -- the kinds of the way tags
@@ -174,18 +171,16 @@ module _ (s : ℕ) (grid : Grid) (number : ℕ) (h : Header) (lent : TagLists) w
           ∙ ap (λ p. collects p wayLetters) (kinds .poi)
           ∙ ap (λ w. collects poiKinds w) (kinds .way)
 
-      -- fetching, by the header's value
-      abbrev pub fetchesAt : (k : ℕ) (p w : List Kind) → Res (Fetched fetch.Feature)
-      fetchesAt k p w =
-          andThen (collect (C .tileHead h l) (tileFormat (debug h) p w) m (C .tileAt h l)) (λ t _.
-          fetch.givenBy (debug h) p w (startedName (tags .starts) (lay .«poi_tags») m) (startedName (tags .starts) (lay .«way_tags») m) (collected.fetch (collected.storedTile t (tileEnd s (l .entry .water))) k))
+      -- its places
+      abbrev pub listsAt : (p w : List Kind) → List ℕ
+      listsAt p w = listOf (mapRes (featurePlaces (tileFormat (debug h) p w) m) (collect (C .tileHead h l) (tileFormat (debug h) p w) m (C .tileAt h l)))
 
-      pub fetched-as : (k : ℕ) → fetch.fetchTile lay (tags .starts) (tags .letters) found grid number k m ≡ fetchesAt k poiKinds wayKinds
-      unfolding fetch.fetchTile
-      fetched-as k =
-          ap (λ r. andThen {B = Fetched fetch.Feature} r (λ l _. fetch.fetchAt lay (tags .starts) (tags .letters) k l m)) (located-as ∙ ap answered en)
-          ∙ ap (λ p. fetchesAt k p wayLetters) (kinds .poi)
-          ∙ ap (λ w. fetchesAt k poiKinds w) (kinds .way)
+      pub listed-as : tilePlaces (kindsOf lay (tags .letters)) found grid number m ≡ listsAt poiKinds wayKinds
+      unfolding tilePlaces
+      listed-as =
+          ap (λ r. listOf (andThen {B = List ℕ} r (λ l _. mapRes (featurePlaces (formatOf (kindsOf lay (tags .letters))) m) (collect (C .tileHead h l) (formatOf (kindsOf lay (tags .letters))) m (C .tileAt h l))))) (located-as ∙ ap answered en)
+          ∙ ap (λ p. listsAt p wayLetters) (kinds .poi)
+          ∙ ap (λ w. listsAt poiKinds w) (kinds .way)
 
       abbrev opensAt : (low high zoom : ℕ) → Res (TileState)
       opensAt low high zoom = answered (openStream (C .tileHead h l) (rowsUpto low high zoom) (C .end h l) m (C .tileAt h l))

@@ -1,19 +1,19 @@
 -- Demand 3 from the functions' contracts (specs/BookSays.antt).
-use Prim.Native.Nat.{ℕ, _^_, _<_}
+use Prim.Native.Nat.{ℕ, _+_, _^_, _≤_, _<_}
 use mathlib.Core.Path.{_≡_, refl, sym, ap, _∙_, subst}
 use mathlib.Core.Bool.{true}
 use mathlib.Core.List.{List, map}
 use lib.ListN.{length, getD}
-use Rattle.parsing.specs.Parse.{Res, ok, no, andThen, mapRes, Maybe, nth}
+use Rattle.parsing.specs.Parse.{Res, ok, no, andThen, mapRes, endOf, listOf, Maybe, nth}
 use Rattle.parsing.specs.Good.{ok-val, no-ok}
-use Rattle.format.specs.Header.{Interval, Header, opened, debug}
+use Rattle.format.specs.Header.{Interval, Header, header, header-good, opened, debug}
 use Rattle.format.specs.Index.{answer, answered, Grid, Located}
 use Rattle.format.specs.Kinds.{kindOfText}
 use Rattle.format.specs.TagLists.{TagLists, tagLists, listsFit, listsWritten}
-use Rattle.format.proofs.ListLaws.{ListedNames, names-listed}
+use Rattle.format.specs.Lent.{front}
+use Rattle.format.proofs.ListLaws.{names-listed}
 use Rattle.tag.specs.declared.Kind.{Kind}
 use Rattle.types.specs.Types.{intervalsOf}
-use Rattle.types.specs.Beside.{viewOr}
 use Rattle.opening.specs.Opening.{openEndRes, OpenIs}
 use Rattle.opening.specs.declared.MapRead.{MapRead}
 use Rattle.opening.proofs.OpenedLaws.{OpenedWith, opened-with}
@@ -27,23 +27,27 @@ use Rattle.agreement.specs.Collected.{StoredTile, allExact, collect}
 use Rattle.agreement.specs.MapLayout.{MapLayout, openedBytes}
 use Rattle.agreement.specs.Demand3.{Demand3, MapCollects, mapReplies, MapAlterable}
 use Rattle.agreement.proofs.Agreement.{demand-3, open-near}
-use Rattle.tile.specs.Tile.{shownTile, collectTile, tileRes, emptyTile}
+use Rattle.tile.specs.Tile.{shownTile, featurePlaces, collectTile, tilePlaces, TileIs}
+use Rattle.tile.proofs.PlaceLaws.{places-count}
+use Rattle.tile.proofs.CollectLaws.{is-collected, long-enough}
+use Rattle.tile.specs.declared.TileAnswer.the-variants as tile-answer
 use Rattle.tile.specs.declared.Tile.{Tile}
 use Rattle.tile.specs.declared.TileRead.{TileRead}
 use Rattle.agreement.specs.Collected as collected
 use Rattle.fetched.specs.Fetched.{startedName, Fetched}
 use Rattle.fetch.specs.Fetch as fetch
+use Rattle.fetch.proofs.FetchLaws.{gives-by}
 use Rattle.map_agreement.specs.TileView.{fetchGives}
 use Rattle.map_agreement.proofs.FetchGives.{name-is, fetch-gives}
 use Rattle.map_agreement.specs.MapsforgeMap.{mapsforge}
-use Rattle.map_agreement.specs.BookSays.{Collected, BookSays, fedTile, bookAt}
+use Rattle.map_agreement.specs.BookSays.{Collected, BookSays, fedTile, bookAt, Unread}
 use Rattle.map_agreement.proofs.MapLaws.{mapsforge-laws}
 use Rattle.map_agreement.proofs.HeaderFacts.{opened-is, header-of}
 use Rattle.agreement.specs.Calls.{Call}
-use Rattle.agreement.specs.Declined.{LiesIn, DifferOnly}
+use Rattle.agreement.specs.Declined.{LiesIn, this, later, DifferOnly}
 use Rattle.agreement.proofs.TileAltered.{decided}
 use Rattle.map_agreement.specs.Texts.{textsFound}
-use Rattle.map_agreement.proofs.Opened.{Listed, located-as, collected-as, fetched-as, entry-is, sees-book}
+use Rattle.map_agreement.proofs.Opened.{Listed, kinds, located-as, collected-as, listed-as, entry-is, sees-book}
 
 -- the stored header of a map that was opened, with lists that have room
 stored : (m : List ℕ) (lent : TagLists) (b : MapRead) (t : TagLists) (e : ℕ) → OpenIs (opened m) lent b t → b .end ≡ end.At e → OpenedWith mapHeader (opened m) lent (b .header) e t
@@ -98,15 +102,31 @@ module _ (m : List ℕ) (small : length m < 2 ^ 64) (s : ℕ) (grid : Grid) (num
       shown-is : collectTile (kindsOf lay (tags .letters)) found grid number m ≡ answer (shownTile t)
       shown-is = collected-as s grid number h lent m e o l x en ∙ ap (λ r. answered (mapRes shownTile r)) c
 
-      names : ListedNames m h (tags .starts)
-      names = names-listed m h e (header-of m h e o) lent
+      -- and lists its places
+      places-are : tilePlaces (kindsOf lay (tags .letters)) found grid number m ≡ featurePlaces (C .format h) m t
+      places-are = listed-as s grid number h lent m e o l x en ∙ ap (λ r. listOf (mapRes (featurePlaces (C .format h) m) r)) c
+
+      shows : (r : TileRead) (list left : List ℕ) → length (t .points) + length (t .ways) ≤ length list
+          → TileIs (collectTile (kindsOf lay (tags .letters)) found grid number m) (tilePlaces (kindsOf lay (tags .letters)) found grid number m) list r left
+          → (r .answer ≡ tile-answer.Collected) × (r .tile ≡ shownTile t) × (left ≡ front (featurePlaces (C .format h) m t) list)
+      shows r list left k i =
+          let q = long-enough _ (shownTile t) _ list r left shown-is (subst (λ (x : List ℕ). length x ≤ length list) (sym places-are) (subst (λ n. n ≤ length list) (sym (places-count (C .format h) m t)) k)) i in
+          (q .0, q .1, q .2 ∙ ap (λ (x : List ℕ). front x list) places-are)
 
       -- what the fetches give is what the book is fed
-      fetched-is : (k : ℕ) → fetch.fetchTile lay (tags .starts) (tags .letters) found grid number k m ≡ fetchGives (collected.fetch (fedTile s grid number h l t) k)
-      fetched-is k =
-          fetched-as s grid number h lent m e o l x en k
-          ∙ ap (λ r. andThen {B = Fetched fetch.Feature} r (λ t _. fetch.givenBy (debug h) poiKinds wayKinds (startedName (tags .starts) (lay .«poi_tags») m) (startedName (tags .starts) (lay .«way_tags») m) (collected.fetch (collected.storedTile t (C .end h l)) k))) c
-          ∙ fetch-gives (debug h) poiKinds wayKinds (h .poiTags .texts) (h .wayTags .texts) (startedName (tags .starts) (lay .«poi_tags») m) (startedName (tags .starts) (lay .«way_tags») m) (name-is (tags .starts) m (lay .«poi_tags») (h .poiTags) (names .poi)) (name-is (tags .starts) m (lay .«way_tags») (h .wayTags) (names .way)) t (C .end h l) k
+      fetched-is : (list : List ℕ) (k : ℕ) (m′ : List ℕ) → DifferOnly m m′ (Unread s grid number h l t m k)
+          → fetch.fetchListed lay (tags .starts) (tags .letters) (front (featurePlaces (C .format h) m t) list) (length (t .points)) (length (t .ways)) k m′ ≡ fetchGives (collected.fetch (fedTile s grid number h l t) k)
+      fetched-is list k m′ a =
+          let header-too : header m′ 0 ≡ ok h e = header-near m′ a in
+          let names = names-listed m′ h e header-too lent in
+          gives-by lay (tags .starts) (tags .letters) (C .tileHead h l) m (C .tileAt h l) (C .end h l) k m′ list poiKinds wayKinds (kinds s grid number h lent .poi) (kinds s grid number h lent .way) t past c
+          (record { long = a .long; same = λ j u v. decided _ _ (λ q. a .only j q (later (this u v))) })
+          ∙ fetch-gives (debug h) poiKinds wayKinds (h .poiTags .texts) (h .wayTags .texts) (startedName (tags .starts) (lay .«poi_tags») m′) (startedName (tags .starts) (lay .«way_tags») m′) (name-is (tags .starts) m′ (lay .«poi_tags») (h .poiTags) (names .poi)) (name-is (tags .starts) m′ (lay .«way_tags») (h .wayTags) (names .way)) t (C .end h l) k
+        where
+          header-near : (m′ : List ℕ) → DifferOnly m m′ (Unread s grid number h l t m k) → header m′ 0 ≡ ok h e
+          header-near m′ a =
+              let q = header-of m h e o in
+              header-good .near m m′ 0 h e (record { long = a .long; same = λ j u v. decided _ _ (λ w. a .only j w (this u (subst (λ n. j < n) (sym (ap endOf q)) v))) }) q
 
       says : Says
       says = record {
@@ -115,9 +135,9 @@ module _ (m : List ℕ) (small : length m < 2 ^ 64) (s : ℕ) (grid : Grid) (num
         tile = t;
         collects = whole;
         demand-3 = D;
-        shows = λ r k. k .whole ∙ ap (viewOr (λ v. v) emptyTile) shown-is;
+        shows = shows;
         entry = entry-is s grid number h lent m e o l x en;
-        fetches = λ k lists left r f. subst (λ (x : Res (Fetched fetch.Feature)). fetch.FeatureIs x lists r left) (fetched-is k) f;
+        fetches = λ list k m′ a lists left r f. subst (λ (x : Res (Fetched fetch.Feature)). fetch.FeatureIs x lists r left) (fetched-is list k m′ a) f;
         sees = λ zoom cs. sees-book s grid number h lent m e o l t zoom cs (D .agrees zoom cs) room b d;
         altered = λ zoom cs m′ a.
             sees-book s grid number h lent m′ e (opens-too m′ (a .long) (λ j k. decided _ _ (λ q. a .only j q .only .opened k))) l t zoom cs (D .altered zoom cs m′ a) room b d;
@@ -153,7 +173,7 @@ book-says m s grid number lent h tags l i t c =
     let g : tags ≡ filled = k .lists in
     let a : l ≡ lay = n .layout ∙ ap layoutOf (k .shown) in
     let b : intervalFound i ≡ found = n .interval ∙ ap (λ x. nth (intervalsOf x) s) (k .shown) in
-    let q : answer (t .tile) ≡ collectTile (kindsOf l (tags .letters)) (intervalFound i) grid number m = ap (λ a. tileRes a (t .tile)) (sym (c .collects)) ∙ c .tile .answer in
+    let q : answer (t .tile) ≡ collectTile (kindsOf l (tags .letters)) (intervalFound i) grid number m = sym (is-collected _ _ (c .room) t (c .places) (c .tile) (c .collects) .tile) in
     subst (λ x. BookSays m s grid number lent h x l (intervalFound i)) (sym g)
     (subst (λ x. BookSays m s grid number lent h filled x (intervalFound i)) (sym a)
     (subst (λ x. BookSays m s grid number lent h filled lay x) (sym b)

@@ -1,14 +1,14 @@
 -- Demand 3, from the functions' contracts: what a program that opened a map, collected a tile and opened its stream knows, and what then
 -- holds of every list of calls, on that map and on one that is altered in ways declined untried.
-use Prim.Native.Nat.{ℕ, _^_, _<_}
+use Prim.Native.Nat.{ℕ, _+_, _^_, _≤_, _<_}
 use mathlib.Core.Path.{_≡_}
 use mathlib.Core.Bool.{true}
-use mathlib.Core.List.{List}
+use mathlib.Core.List.{List, [], _∷_}
 use lib.ListN.{length}
 use Rattle.parsing.specs.Parse.{Part, Maybe, nth}
-use Rattle.format.specs.Header.{Interval, Header, opened}
+use Rattle.format.specs.Header.{Interval, Header, header, opened}
 use Rattle.format.specs.Index.{Grid, Located, tileIndexEntry}
-use Rattle.format.specs.Lent.{Reply}
+use Rattle.format.specs.Lent.{front, Reply}
 use Rattle.format.specs.TagLists.{TagLists}
 use Rattle.types.specs.Types.{intervalsOf}
 use Rattle.opening.specs.Opening.{OpenIs}
@@ -23,7 +23,7 @@ use Rattle.tile_layout.specs.declared.TileLayout.{TileLayout}
 use Rattle.agreement.specs.Calls.{Call}
 use Rattle.agreement.specs.Book.{bookReplies}
 use Rattle.agreement.specs.Collected.{CollectedTile, StoredTile, fetch}
-use Rattle.agreement.specs.Declined.{DifferOnly}
+use Rattle.agreement.specs.Declined.{LiesIn, passedBytes, DifferOnly}
 use Rattle.agreement.specs.MapLayout.{rowsAt}
 use Rattle.agreement.specs.View.{collectedTile}
 use Rattle.agreement.specs.Demand3.{Demand3, MapCollects, mapReplies, WaysBehind, OnlyDeclined, MapAlterable}
@@ -31,11 +31,12 @@ use Rattle.visit.specs.Visit.{openTile, openRes, ShownAnswer}
 use Rattle.visit.specs.declared.Stream.{Stream}
 use Rattle.visit.specs.declared.OpenRead.{OpenRead}
 use Rattle.visit.specs.declared.OpenRead.the-variants as open-read
-use Rattle.tile.specs.Tile.{shownTile, collectTile, TileIs}
+use Rattle.tile.specs.Tile.{shownTile, featurePlaces, collectTile, tilePlaces, TileIs}
 use Rattle.tile.specs.declared.TileAnswer.the-variants as tile-answer
 use Rattle.tile.specs.declared.TileRead.{TileRead}
 use Rattle.fetched.specs.Fetched.{FetchLists}
-use Rattle.fetch.specs.Fetch.{fetchTile, FeatureIs}
+use Rattle.fetch.specs.Fetch.{fetchListed, FeatureIs}
+use Rattle.fetch.specs.Direct.{featureBytes}
 use Rattle.fetched.specs.declared.Fetch.{Fetch}
 use Rattle.map_agreement.specs.TileView.{tileCollection, fetchGives}
 use Rattle.map_agreement.specs.MapsforgeMap.{mapsforge}
@@ -48,14 +49,16 @@ pub record Answers (m : List ℕ) (subFile : ℕ) (lent : TagLists) (h : MapRead
   pub layout : l ≡ layoutOf (h .header)
   pub interval : i ≡ nth (intervalsOf (h .header)) subFile
 
--- and that of `read_tile`: the map opened, the tile collected, and collecting said that every stored size is the decoded length. The tags
--- are those that opening listed, and nobody has written the lists since. (No lent map has 2 ^ 64 bytes.)
+-- and that of `read_tile`: the map opened, the tile collected, with a list that is long enough, and collecting said that every stored size is
+-- the decoded length. The tags are those that opening listed, and nobody has written the lists since. (No lent map has 2 ^ 64 bytes.)
 pub record Collected (m : List ℕ) (subFile : ℕ) (grid : Grid) (number : ℕ) (lent : TagLists) (h : MapRead) (tags : TagLists) (l : TileLayout) (i : IntervalRead) (t : TileRead) : Type 0 where
   pub small : length m < 2 ^ 64
   pub answers : Answers m subFile lent h tags l (intervalFound i)
   pub headerEnd : ℕ
   pub opens : h .end ≡ end.At headerEnd
-  pub tile : TileIs (collectTile (kindsOf l (tags .letters)) (intervalFound i) grid number m) t
+  pub room : List ℕ
+  pub places : List ℕ
+  pub tile : TileIs (collectTile (kindsOf l (tags .letters)) (intervalFound i) grid number m) (tilePlaces (kindsOf l (tags .letters)) (intervalFound i) grid number m) room t places
   pub collects : t .answer ≡ tile-answer.Collected
   pub exact : t .tile .exact ≡ true
 
@@ -90,8 +93,17 @@ module _ (subFile : ℕ) (grid : Grid) (number : ℕ) (stored : Header) (place :
   abbrev pub SeesBook : (x : List ℕ) → (lent : TagLists) → MapRead → TagLists → TileLayout → Maybe Interval → (zoom : ℕ) → List Call → Type 0
   SeesBook x lent h t l i zoom cs = Sees x subFile grid number zoom lent h t l i cs (bookAt zoom cs) (textsAt zoom cs)
 
+  -- the places of its features, as collecting lists them in the map m, in front of a list that is long enough
+  abbrev pub listedIn : (m lent : List ℕ) → List ℕ
+  listedIn m lent = front (featurePlaces (mapsforge subFile grid number .format stored) m tile) lent
+
+  -- a byte that a fetch of feature k does not read: it lies neither in the header nor in the feature
+  abbrev pub Unread : (m : List ℕ) → (k j : ℕ) → Type 0
+  Unread m k j = LiesIn j (passedBytes header m 0 ∷ featureBytes (mapsforge subFile grid number .format stored) m tile k ∷ []) → ⊥
+
 -- The map's stored header and the tile as stored, of which demand 3 holds. `shows`, `entry`, `fetches`: what the book is fed is what
--- collecting answers, what `tile_index_entry` answers, and what the fetches give. `sees`: whatever a program calls, it sees the book's
+-- collecting answers with a list that is long enough, what `tile_index_entry` answers, and what the fetches give through that list and the
+-- counts, also on a map in which bytes are altered that they do not read (request 8). `sees`: whatever a program calls, it sees the book's
 -- replies. `altered`, `literal`: so it does on a map of the same length that is altered in ways declined untried, though the tile need
 -- not collect there (agreement, Demand3.antt, says why there are two).
 pub record BookSays (m : List ℕ) (subFile : ℕ) (grid : Grid) (number : ℕ) (lent : TagLists) (h : MapRead) (tags : TagLists) (l : TileLayout) (i : Maybe Interval) : Type 0 where
@@ -100,9 +112,12 @@ pub record BookSays (m : List ℕ) (subFile : ℕ) (grid : Grid) (number : ℕ) 
   pub tile : StoredTile (mapsforge subFile grid number .format stored)
   pub collects : MapCollects (mapsforge subFile grid number) m stored place tile
   pub demand-3 : Demand3 (mapsforge subFile grid number) m stored place tile
-  pub shows : (t : TileRead) → TileIs (collectTile (kindsOf l (tags .letters)) i grid number m) t → t .tile ≡ shownTile tile
+  pub shows : (t : TileRead) (room left : List ℕ) → length (tile .points) + length (tile .ways) ≤ length room
+      → TileIs (collectTile (kindsOf l (tags .letters)) i grid number m) (tilePlaces (kindsOf l (tags .letters)) i grid number m) room t left
+      → (t .answer ≡ tile-answer.Collected) × (t .tile ≡ shownTile tile) × (left ≡ listedIn subFile grid number stored place tile m room)
   pub entry : (r : EntryRead) → entryRes r ≡ heldRes (tileIndexEntry (l .debug) i grid number m) → r ≡ entry-read.Entry (heldEntry (place .entry))
-  pub fetches : (k : ℕ) (lists left : FetchLists) (r : Fetch) → FeatureIs (fetchTile l (tags .starts) (tags .letters) i grid number k m) lists r left
+  pub fetches : (room : List ℕ) (k : ℕ) (m′ : List ℕ) → DifferOnly m m′ (Unread subFile grid number stored place tile m k) → (lists left : FetchLists) (r : Fetch)
+      → FeatureIs (fetchListed l (tags .starts) (tags .letters) (listedIn subFile grid number stored place tile m room) (length (tile .points)) (length (tile .ways)) k m′) lists r left
       → FeatureIs (fetchGives (fetch (fedTile subFile grid number stored place tile) k)) lists r left
   pub sees : (zoom : ℕ) (cs : List Call) → SeesBook subFile grid number stored place tile m lent h tags l i zoom cs
   pub altered : (zoom : ℕ) (cs : List Call) (m′ : List ℕ)

@@ -80,7 +80,7 @@ fn follow_at(text: &[u8], at: usize, more: u32, low: u32, high: u32, c: u32, n: 
 }
 
 // The sequence that starts at `at`: the rows of Table 3-7 in their order.
-fn sequence_at(text: &[u8], at: usize) -> Sequence
+fn by_table(text: &[u8], at: usize) -> Sequence
     requires { ⌜ at < length (now text) ⌝ }
     ensures { λ r. ⌜ r ≡ sequenceAt (now (text .entry)) at ⌝ }
 {
@@ -118,6 +118,18 @@ fn sequence_at(text: &[u8], at: usize) -> Sequence
     Sequence::Ill(1)
 }
 
+// The same, small enough to be inlined into a loop: most bytes are of the first row.
+fn sequence_at(text: &[u8], at: usize) -> Sequence
+    requires { ⌜ at < length (now text) ⌝ }
+    ensures { λ r. ⌜ r ≡ sequenceAt (now (text .entry)) at ⌝ }
+{
+    let b = wide(text[at]);
+    if b < 128 {
+        return Sequence::Char(b, 1);
+    }
+    by_table(text, at)
+}
+
 // Whether each sequence of the text is a character.
 pub fn utf8_valid(text: &[u8]) -> bool
     ensures { λ r. ⌜ r ≡ valid (now (text .entry)) ⌝ }
@@ -128,7 +140,7 @@ pub fn utf8_valid(text: &[u8]) -> bool
             at += 1;
             continue;
         }
-        let Sequence::Char(_, n) = sequence_at(text, at) else {
+        let Sequence::Char(_, n) = by_table(text, at) else {
             return false;
         };
         at += n;
@@ -264,21 +276,20 @@ fn char_count(text: &[u8]) -> usize
     n
 }
 
-// The hash of the replaced text, whose characters are those of the text. 31 to the power n - i + 1 is taken in two factors, since
-// n + 1 may pass 64 bits.
+// The hash of the replaced text, whose characters are those of the text. The power of 31 falls by one from character to character, by
+// 31's inverse modulo 2^64; n + 1 may pass 64 bits, so the first one is taken in two factors.
 pub fn hash_tag_parameter(text: &[u8]) -> u64
     ensures { λ r. ⌜ r ≡ hash (codePoints (replaced (now (text .entry)))) ⌝ }
 {
     let n = char_count(text);
+    let mut power = arithmetic::wrapping_mul_u64(arithmetic::wrapping_pow_u64(31, n as u64), 31);
     let mut h = 0;
-    let mut i = 0;
     let mut at = 0;
     while at < text.len() {
         let next = sequence_at(text, at);
         let sum = std::num::wrapping_add_u64(h, code_of(next));
-        let power = arithmetic::wrapping_pow_u64(31, (n - i) as u64);
-        h = arithmetic::wrapping_mul_u64(arithmetic::wrapping_mul_u64(sum, 31), power);
-        i += 1;
+        h = arithmetic::wrapping_mul_u64(sum, power);
+        power = arithmetic::wrapping_mul_u64(power, 17256631552825064415);
         at += size_of(next);
     }
     h

@@ -1,3 +1,4 @@
 pub mod RowLaws
+pub mod PlaceLaws
 pub mod TileLaws
 pub mod CollectLaws

@@ -7,7 +7,7 @@ use mathlib.Core.List.{List}
 use lib.ListN.{length}
 use borrow.Author.Needs.{needs}
 use borrow.Author.Tests.{le-leb}
-use Rattle.parsing.specs.Parse.{Res, ok, no, andThen, mapRes, many, Maybe}
+use Rattle.parsing.specs.Parse.{Res, ok, no, andThen, mapRes, many, listOf, Maybe}
 use Rattle.parsing.specs.Good.{ok-val, ok-at, no-ok}
 use Rattle.parsing.proofs.Views.{viewed, view-stop}
 use Rattle.parsing.proofs.Loops.{many-count}
@@ -15,7 +15,7 @@ use Rattle.error.specs.Refusals.{refused, numberOf, valuesOf}
 use Rattle.error.specs.declared.Refusal.{Refusal}
 use Rattle.arithmetic.specs.Cut.{cut}
 use Rattle.format.specs.Header.{Interval}
-use Rattle.format.specs.Index.{answer, answered, Grid, Located, locate, tileAt}
+use Rattle.format.specs.Index.{answered, Grid, Located, locate, tileAt}
 use Rattle.format.specs.Rows.{markedHead, locatedHead, rowsOfInterval, intervalHead, pointsOf, waysOf}
 use Rattle.format.specs.Tile as format
 use Rattle.format.specs.Tile.{Point, point}
@@ -40,7 +40,7 @@ use Rattle.tile_walk.specs.declared.PointsRead.the-variants as points-read
 use Rattle.tile_walk.specs.declared.WaysSaid.{WaysSaid}
 use Rattle.tile_walk.specs.declared.WaysRead.{WaysRead}
 use Rattle.tile_walk.specs.declared.WaysRead.the-variants as ways-read
-use Rattle.tile.specs.Tile.{shownTile, collectAt, collectTile, summaryOf, alsoPoints, walked}
+use Rattle.tile.specs.Tile.{shownTile, shownFrom, storedAt, collectAt, placesAt, featurePlaces, collectTile, tilePlaces, summaryOf, alsoPoints, walked}
 use Rattle.tile.specs.declared.Tile.{Tile}
 use Rattle.tile.specs.declared.TileSummary.{TileSummary}
 use Rattle.tile.proofs.RowLaws.{head-table}
@@ -83,7 +83,7 @@ module _ (l : TileKinds) (m : List ℕ) (small : length m < 2 ^ 64) (empty : Boo
   ways h = cut (waysOf (h .table))
 
   abbrev shown : Res (StoredTile (formatOf l)) → Res Tile
-  shown r = answered (mapRes shownTile r)
+  shown r = shownFrom r
 
   -- the place is not shown
   place-gone : (r : Res (StoredTile (formatOf l))) → shown r ≡ shown (cutPlace r)
@@ -128,17 +128,17 @@ module _ (l : TileKinds) (m : List ℕ) (small : length m < 2 ^ 64) (empty : Boo
       go (ok ps x) d = on ps (many (way (formatOf l)) (ways h) m (cut (e + h .offset))) d
       go (no x y) d = cc
 
-  behind-ok : (h : format.TileHead) (e : ℕ) (b : WaysSaid) (y : ℕ) → ok b y ≡ walked l m e (points h) (ways h) (h .offset) → answer (made h b) ≡ shown (behind h e)
+  behind-ok : (h : format.TileHead) (e : ℕ) (b : WaysSaid) (y : ℕ) → ok b y ≡ walked l m e (points h) (ways h) (h .offset) → ok (made h b) e ≡ shown (behind h e)
   behind-ok h e b y q = go (many (point (l .debug) (l .points)) (points h) m e) refl q
     where
-      on : (ps : List Point) (r : Res (List (Way (formatOf l)))) → many (way (formatOf l)) (ways h) m (cut (e + h .offset)) ≡ r → length ps ≡ points h → ok b y ≡ mapRes (alsoPoints (plainPoints (formatOf l) ps)) (mapRes (saidOfAll l) r) → answer (made h b) ≡ shown (andThen r (λ ws y. ok (stored h e ps ws) y))
+      on : (ps : List Point) (r : Res (List (Way (formatOf l)))) → many (way (formatOf l)) (ways h) m (cut (e + h .offset)) ≡ r → length ps ≡ points h → ok b y ≡ mapRes (alsoPoints (plainPoints (formatOf l) ps)) (mapRes (saidOfAll l) r) → ok (made h b) e ≡ shown (andThen r (λ ws y. ok (stored h e ps ws) y))
       on ps (ok ws z) f c d =
           let n = many-count (way (formatOf l)) m (ways h) (cut (e + h .offset)) ws z f in
           let u : b ≡ alsoPoints (plainPoints (formatOf l) ps) (saidOfAll l ws) = ok-val d in
           rw (c, n, u)
       on ps (no x w) f c d = no-ok (sym d)
 
-      go : (r : Res (List Point)) → many (point (l .debug) (l .points)) (points h) m e ≡ r → ok b y ≡ andThen r (λ ps _. mapRes (alsoPoints (plainPoints (formatOf l) ps)) (saidWays l m (ways h) (cut (e + h .offset)))) → answer (made h b) ≡ shown (andThen r (λ ps _. andThen (many (way (formatOf l)) (ways h) m (cut (e + h .offset))) (λ ws y. ok (stored h e ps ws) y)))
+      go : (r : Res (List Point)) → many (point (l .debug) (l .points)) (points h) m e ≡ r → ok b y ≡ andThen r (λ ps _. mapRes (alsoPoints (plainPoints (formatOf l) ps)) (saidWays l m (ways h) (cut (e + h .offset)))) → ok (made h b) e ≡ shown (andThen r (λ ps _. andThen (many (way (formatOf l)) (ways h) m (cut (e + h .offset))) (λ ws y. ok (stored h e ps ws) y)))
       go (ok ps x) f d = on ps (many (way (formatOf l)) (ways h) m (cut (e + h .offset))) refl (many-count (point (l .debug) (l .points)) m (points h) e ps x f) d
       go (no x w) f d = no-ok (sym d)
 
@@ -190,14 +190,22 @@ module _ (l : TileKinds) (empty : Bool) (low high : ℕ) (m : List ℕ) (at : �
         ∙ sym collected-as)
 
     pub summarized : (b : WaysSaid) (y : ℕ) (p : Bool) → w ≡ ways-read.Value b y → p ≡ (v .plain && b .plain)
-        → _≡_ {A = Res TileSummary} (answer (record { signature = v .signature; «first_way_offset» = v .offset; points = v .sums .«all_points»; ways = v .sums .«all_ways»; rows = high - low + 1; exact = b .exact; plain = p })) (mapRes summaryOf (collectAt l empty low high at m))
+        → _≡_ {A = Res TileSummary} (ok (record { signature = v .signature; «first_way_offset» = v .offset; points = v .sums .«all_points»; ways = v .sums .«all_ways»; rows = high - low + 1; exact = b .exact; plain = p }) n) (mapRes summaryOf (collectAt l empty low high at m))
     summarized b y p d u =
         summary-is (found .value) v b p (found .known) u (head-table empty (l .debug) low high m at o (found .value) n (found .same) .count)
         ∙ ap (mapRes summaryOf) (behind-ok l m small empty (rowsOfInterval low high) at (found .value) n b y (ap waysRes (sym d) ∙ walked-as) ∙ sym collected-as)
       where
         summary-is : (k : format.TileHead) (x : TileHead) (b : WaysSaid) (p : Bool) → x ≡ headAt low high high k → p ≡ (x .plain && b .plain) → length (k .table) ≡ rowsOfInterval low high
-            → _≡_ {A = Res TileSummary} (answer (record { signature = x .signature; «first_way_offset» = x .offset; points = x .sums .«all_points»; ways = x .sums .«all_ways»; rows = high - low + 1; exact = b .exact; plain = p })) (answer (summaryOf (made l m small empty (rowsOfInterval low high) at k b)))
+            → _≡_ {A = Res TileSummary} (ok (record { signature = x .signature; «first_way_offset» = x .offset; points = x .sums .«all_points»; ways = x .sums .«all_ways»; rows = high - low + 1; exact = b .exact; plain = p }) n) (ok (summaryOf (made l m small empty (rowsOfInterval low high) at k b)) n)
         summary-is k x b p h u q = rw (u, h, q, add-one (high - low))
+
+-- what is read from a place is what the definitions say
+pub record At (stored : Res Tile) (places : List ℕ) (read : Res Tile) (starts : List ℕ) : Type 0 where
+  pub tile : answered read ≡ stored
+  pub same : starts ≡ places
+
+abbrev pub AtPlace : TileKinds → Maybe Interval → Grid → ℕ → List ℕ → Res Tile → List ℕ → Type 0
+AtPlace l i grid number m read starts = At (collectTile l i grid number m) (tilePlaces l i grid number m) read starts
 
 -- a tile's place, first
 module _ (l : TileKinds) (i : Maybe Interval) (grid : Grid) (number : ℕ) (m : List ℕ) (g : PlaceRead) (q : placeRes g ≡ mapRes placeOf (locate (l .debug) i grid number m)) where
@@ -219,13 +227,25 @@ module _ (l : TileKinds) (i : Maybe Interval) (grid : Grid) (number : ℕ) (m : 
         go (ok a e) f d = rw (ok-val d) (located-ordered (l .debug) i grid number m a e f)
         go (no k v) f d = no-ok (sym d)
 
-    pub at-place : length m < 2 ^ 64 → collectAt l (p .empty) (p .«min_zoom») (p .«max_zoom») (p .at) m ≡ collectTile l i grid number m
-    unfolding collectTile
+    -- the tile is that at the place, which may be cut
+    pub at-place : length m < 2 ^ 64 → AtPlace l i grid number m (collectAt l (p .empty) (p .«min_zoom») (p .«max_zoom») (p .at) m) (placesAt l (p .empty) (p .«min_zoom») (p .«max_zoom») (p .at) m)
+    unfolding collectTile tilePlaces
     at-place small = go located (ap placeRes (sym e) ∙ q)
       where
-        go : (k : Res Located) → ok p 0 ≡ mapRes placeOf k → collectAt l (p .empty) (p .«min_zoom») (p .«max_zoom») (p .at) m ≡ andThen k (λ a _. there a)
-        go (ok a n) d =
-            ap (λ (x : FoundTile). collectAt l (x .empty) (x .«min_zoom») (x .«max_zoom») (x .at) m) (ok-val d)
-            ∙ ap (λ x. answered (mapRes shownTile x))
-            (collect-at (locatedHead (l .debug) a) (formatOf l) m (placeOf a .at) (tileAt a) (head-cut (a .empty) (l .debug) (rowsOfInterval (a .interval .min) (a .interval .max)) m (a .entry .absolute) small))
+        shows : (r : Res (StoredTile (formatOf l))) → answered (shownFrom r) ≡ answered (mapRes shownTile r)
+        shows (ok t e) = refl
+        shows (no k v) = refl
+
+        same : (a : Located) → p ≡ placeOf a → storedAt l (p .empty) (p .«min_zoom») (p .«max_zoom») (p .at) m ≡ collect (locatedHead (l .debug) a) (formatOf l) m (tileAt a)
+        same a d =
+            ap (λ (x : FoundTile). storedAt l (x .empty) (x .«min_zoom») (x .«max_zoom») (x .at) m) d
+            ∙ collect-at (locatedHead (l .debug) a) (formatOf l) m (placeOf a .at) (tileAt a) (head-cut (a .empty) (l .debug) (rowsOfInterval (a .interval .min) (a .interval .max)) m (a .entry .absolute) small)
+
+        go : (k : Res Located) → ok p 0 ≡ mapRes placeOf k
+            → At (andThen k (λ a _. there a)) (listOf (andThen k (λ a _. mapRes (featurePlaces (formatOf l) m) (collect (locatedHead (l .debug) a) (formatOf l) m (tileAt a)))))
+            (collectAt l (p .empty) (p .«min_zoom») (p .«max_zoom») (p .at) m) (placesAt l (p .empty) (p .«min_zoom») (p .«max_zoom») (p .at) m)
+        go (ok a n) d = record {
+          tile = ap (λ r. answered (shownFrom r)) (same a (ok-val d)) ∙ shows (collect (locatedHead (l .debug) a) (formatOf l) m (tileAt a));
+          same = ap (λ r. listOf (mapRes (featurePlaces (formatOf l) m) r)) (same a (ok-val d));
+        }
         go (no k v) d = no-ok (sym d)

@@ -1,4 +1,6 @@
-// tile.rs: collecting a tile, which decodes every feature of every row.
+// tile.rs: collecting a tile, which decodes every feature of every row, and lists where each one starts.
+use error::Lengths;
+use error::LentRefusal;
 use error::Refusal;
 use fields::OptionalSpanRead;
 use index::IntervalRead;
@@ -12,13 +14,15 @@ use tile_walk::WaysSaid;
 use types::End;
 use types::Grid;
 use types::OptionalSpan;
+use utils::VbeRead;
 use zoom_table::RowRead;
 use zoom_table::Sums;
 use zoom_table::ZoomRow;
 use zoom_table::ZoomTableRead;
 ghost use mathlib.Core.Path.{_≡_};
-ghost use Prim.Native.Nat.{_≤_};
+ghost use Prim.Native.Nat.{_+_, _≤_};
 ghost use Rattle.parsing.specs.Parse.{mapRes, many};
+ghost use lib.ListN.{length};
 ghost use Rattle.utils.specs.Vbe.{valuesOf};
 ghost use Rattle.format.specs.Index.{answer};
 ghost use Rattle.format.specs.Rows.{emptyHead};
@@ -26,9 +30,10 @@ ghost use Rattle.format.specs.Tile.{row};
 ghost use Rattle.types.specs.Types.{gridOf};
 ghost use Rattle.index.specs.Answers.{intervalFound};
 ghost use Rattle.zoom_table.specs.Blocks.{TableIs};
-ghost use Rattle.tile_layout.specs.TileLayout.{kindsOf};
+ghost use Rattle.agreement.specs.Collected.{way};
+ghost use Rattle.tile_layout.specs.TileLayout.{kindsOf, formatOf};
 ghost use Rattle.tile_walk.specs.TileWalk.{waysRes};
-ghost use Rattle.tile.specs.Tile.{emptyTile, rowsRead, walked, collectAt, collectTile, TileIs, summaryOf, summaryRes, summaryRefusal, RowsPut, CollectIs};
+ghost use Rattle.tile.specs.Tile.{emptyTile, rowsRead, walked, collectAt, collectTile, tilePlaces, TileIs, summaryOf, measuredRes, measuredRefusal, hasRoom, tooShort, RowsPut, ReadsPut, ExactPut, WaysPut, PlacesPut, EndsExact, lentTile, CollectIs};
 
 // A collected tile. `zoom_table` has `rows` rows from the front, zeros behind them. `exact`: every way's stored size is its decoded
 // length. `plain`: every number of the tile was.
@@ -45,7 +50,7 @@ pub struct Tile {
 
 pub enum TileAnswer {
     Collected,
-    Refused(Refusal),
+    Refused(LentRefusal),
 }
 
 // Where collecting is refused, the tile is empty.
@@ -67,19 +72,25 @@ pub struct TileSummary {
 
 pub enum SummaryRead {
     Value(TileSummary),
+    Refused(LentRefusal),
+}
+
+// The same before a list is looked at, with the place behind the tile's head, where its points start.
+enum MeasuredRead {
+    Value(TileSummary, usize),
     Refused(Refusal),
 }
 
-fn summary_refusal(got: SummaryRead) -> Refusal
-    ensures { λ r. ⌜ r ≡ summaryRefusal got ⌝ }
+fn measured_refusal(got: MeasuredRead) -> Refusal
+    ensures { λ r. ⌜ r ≡ measuredRefusal got ⌝ }
 {
     match got {
-        SummaryRead::Refused(r) => r,
-        SummaryRead::Value(_) => Refusal::Source,
+        MeasuredRead::Refused(r) => r,
+        MeasuredRead::Value(_, _) => Refusal::Source,
     }
 }
 
-fn refused_tile(refusal: Refusal) -> TileRead
+fn refused_tile(refusal: LentRefusal) -> TileRead
     ensures { λ r. ⌜ (r .tile ≡ emptyTile) × (r .answer ≡ TileAnswer.Refused refusal) ⌝ }
 {
     let empty = ZoomRow { points: 0, ways: 0 };
@@ -152,9 +163,9 @@ fn walk(
 }
 
 // What is said of the tile at a place that was found.
-fn summarize(map: &[u8], place: FoundTile, layout: TileLayout, letters: &[u8]) -> SummaryRead
+fn summarize(map: &[u8], place: FoundTile, layout: TileLayout, letters: &[u8]) -> MeasuredRead
     requires { ⌜ place .«min_zoom» ≤ place .«max_zoom» ⌝ }
-    ensures { λ r. ⌜ summaryRes r ≡ mapRes summaryOf (collectAt (kindsOf layout (now (letters .entry))) (place .empty) (place .«min_zoom») (place .«max_zoom») (place .at) (now (map .entry))) ⌝ }
+    ensures { λ r. ⌜ measuredRes r ≡ mapRes summaryOf (collectAt (kindsOf layout (now (letters .entry))) (place .empty) (place .«min_zoom») (place .«max_zoom») (place .at) (now (map .entry))) ⌝ }
 {
     let min = place.min_zoom;
     let max = place.max_zoom;
@@ -162,28 +173,181 @@ fn summarize(map: &[u8], place: FoundTile, layout: TileLayout, letters: &[u8]) -
     let at = place.at as usize;
     let got = tile_head::read_tile_head(map, at, place.empty, layout.debug, min, max, max);
     let TileHeadRead::Value(head, start) = got else {
-        return SummaryRead::Refused(tile_head::tile_head_refusal(got));
+        return MeasuredRead::Refused(tile_head::tile_head_refusal(got));
     };
     let sums = head.sums;
     let walked = walk(map, start, sums, head.offset, layout, letters);
     let WaysRead::Value(said, _) = walked else {
-        return SummaryRead::Refused(tile_walk::ways_refusal(walked));
+        return MeasuredRead::Refused(tile_walk::ways_refusal(walked));
     };
     let plain = types::both(head.plain, said.plain);
     let signature = head.signature;
-    SummaryRead::Value(TileSummary {
-        signature,
-        first_way_offset: head.offset,
-        points: sums.all_points,
-        ways: sums.all_ways,
-        rows,
-        exact: said.exact,
-        plain,
+    MeasuredRead::Value(
+        TileSummary {
+            signature,
+            first_way_offset: head.offset,
+            points: sums.all_points,
+            ways: sums.all_ways,
+            rows,
+            exact: said.exact,
+            plain,
+        },
+        start,
+    )
+}
+
+// Whether a list has room for the places of so many points and ways.
+fn has_room(points: u64, ways: u64, len: usize) -> bool
+    ensures { λ r. ⌜ r ≡ hasRoom points ways len ⌝ }
+{
+    let room = len as u64;
+    if room < points {
+        return false;
+    }
+    ways <= room - points
+}
+
+// The refusal that gives the length needed.
+fn too_short(points: u64, ways: u64) -> LentRefusal
+    ensures { λ r. ⌜ r ≡ tooShort points ways ⌝ }
+{
+    let needed = arithmetic::saturating_add_usize(points as usize, ways as usize);
+    LentRefusal::Short(Lengths {
+        list1: needed as u64,
+        list2: 0,
+        list3: 0,
+        list4: 0,
+        list5: 0,
+        buffer: 0,
     })
 }
 
+// Where each of n points starts. They were read before.
+fn put_point_places(
+    map: &[u8],
+    at: usize,
+    n: u64,
+    layout: TileLayout,
+    letters: &[u8],
+    places: &mut [u64],
+)
+    requires { ⌜ n ≤ length (now places) ⌝ }
+    ensures { λ r. ⌜ ReadsPut (formatOf (kindsOf layout (now (letters .entry))) .point) n (now (map .entry)) at 0 (now (places .entry)) (now (places .exit)) ⌝ }
+{
+    let mut next = at;
+    let mut i = 0;
+    while i < n {
+        let got = poi::read_poi(map, next, layout.debug, letters, layout.poi_tags);
+        let end = got.end;
+        let End::At(after) = end else {
+            return;
+        };
+        places[i as usize] = next as u64;
+        next = after;
+        i += 1;
+    }
+}
+
+// Where each of n ways starts, from entry `first` on, each measured again.
+fn put_measured_places(
+    map: &[u8],
+    at: usize,
+    n: u64,
+    layout: TileLayout,
+    letters: &[u8],
+    places: &mut [u64],
+    first: u64,
+)
+    requires { ⌜ first + n ≤ length (now places) ⌝ }
+    ensures { λ r. ⌜ ReadsPut (way (formatOf (kindsOf layout (now (letters .entry))))) n (now (map .entry)) at first (now (places .entry)) (now (places .exit)) ⌝ }
+{
+    let mut next = at;
+    let mut i = 0;
+    while i < n {
+        let got = tile_walk::measure_way(map, next, layout, letters);
+        let WaysRead::Value(_, after) = got else {
+            return;
+        };
+        places[(first + i) as usize] = next as u64;
+        next = after;
+        i += 1;
+    }
+}
+
+// Where a way ends whose stored size is exact: nothing behind its size is read.
+fn exact_end(map: &[u8], at: usize, debug: bool) -> End
+    ensures { λ r. ⌜ EndsExact debug (now (map .entry)) at r ⌝ }
+{
+    let got = fields::read_signature(map, at, debug);
+    let OptionalSpanRead::Value(_, at) = got else {
+        return End::Refused(Refusal::Source);
+    };
+    let got = utils::read_vbe_u_int(map, at);
+    let VbeRead::Value(size, start) = got else {
+        return End::Refused(Refusal::Source);
+    };
+    End::At(arithmetic::saturating_add_usize(start, size.value as usize))
+}
+
+// Where each of n ways starts, by their stored sizes, which are exact.
+fn put_exact_places(map: &[u8], at: usize, n: u64, debug: bool, places: &mut [u64], first: u64)
+    requires { ⌜ first + n ≤ length (now places) ⌝ }
+    ensures { λ r. ⌜ ExactPut debug n (now (map .entry)) at first (now (places .entry)) (now (places .exit)) ⌝ }
+{
+    let mut next = at;
+    let mut i = 0;
+    while i < n {
+        let end = exact_end(map, next, debug);
+        let End::At(after) = end else {
+            return;
+        };
+        places[(first + i) as usize] = next as u64;
+        next = after;
+        i += 1;
+    }
+}
+
+// Where each way starts, in the cheapest way.
+fn put_way_places(
+    map: &[u8],
+    at: usize,
+    summary: TileSummary,
+    layout: TileLayout,
+    letters: &[u8],
+    places: &mut [u64],
+)
+    requires { ⌜ summary .points + summary .ways ≤ length (now places) ⌝ }
+    ensures { λ r. ⌜ WaysPut (kindsOf layout (now (letters .entry))) (summary .ways) (summary .exact) (now (map .entry)) at (summary .points) (now (places .entry)) (now (places .exit)) ⌝ }
+{
+    let n = summary.ways;
+    let first = summary.points;
+    if summary.exact {
+        put_exact_places(map, at, n, layout.debug, places, first);
+        return;
+    }
+    put_measured_places(map, at, n, layout, letters, places, first);
+}
+
+// Where each feature of a collected tile starts, whose points start at `start`.
+fn put_places(
+    map: &[u8],
+    start: usize,
+    summary: TileSummary,
+    layout: TileLayout,
+    letters: &[u8],
+    places: &mut [u64],
+)
+    requires { ⌜ summary .points + summary .ways ≤ length (now places) ⌝ }
+    ensures { λ r. ⌜ PlacesPut (kindsOf layout (now (letters .entry))) (now (map .entry)) start summary (now (places .entry)) (now (places .exit)) ⌝ }
+{
+    let offset = summary.first_way_offset;
+    put_point_places(map, start, summary.points, layout, letters, places);
+    let first = arithmetic::saturating_add_usize(start, offset as usize);
+    put_way_places(map, first, summary, layout, letters, places);
+}
+
 // Refused in this order: sub file (8), grid (14), tile (8), its entry and the next one (19), interval (13), then as the tile's bytes are
-// read. A tile that its index marks empty has none.
+// read, and 15 last, if the list is shorter than the count of features. A tile that its index marks empty has none.
 pub fn read_tile(
     map: &[u8],
     layout: TileLayout,
@@ -191,17 +355,22 @@ pub fn read_tile(
     found: IntervalRead,
     grid: Grid,
     tile: usize,
+    places: &mut [u64],
 ) -> TileRead
-    ensures { λ r. ⌜ TileIs (collectTile (kindsOf layout (now (letters .entry))) (intervalFound found) (gridOf grid) tile (now (map .entry))) r ⌝ }
+    ensures { λ r. ⌜ TileIs (collectTile (kindsOf layout (now (letters .entry))) (intervalFound found) (gridOf grid) tile (now (map .entry))) (tilePlaces (kindsOf layout (now (letters .entry))) (intervalFound found) (gridOf grid) tile (now (map .entry))) (now (places .entry)) r (now (places .exit)) ⌝ }
 {
     let got = tile_place::find_tile(map, layout.debug, found, grid, tile);
     let PlaceRead::At(place) = got else {
-        return refused_tile(tile_place::place_refusal(got));
+        return refused_tile(LentRefusal::Refused(tile_place::place_refusal(got)));
     };
     let read = summarize(map, place, layout, letters);
-    let SummaryRead::Value(summary) = read else {
-        return refused_tile(summary_refusal(read));
+    let MeasuredRead::Value(summary, start) = read else {
+        return refused_tile(LentRefusal::Refused(measured_refusal(read)));
     };
+    if !has_room(summary.points, summary.ways, places.len()) {
+        return refused_tile(too_short(summary.points, summary.ways));
+    }
+    put_places(map, start, summary, layout, letters, places);
     let table = read_rows(map, place, layout.debug);
     let signature = summary.signature;
     let zoom_table = table.rows;
@@ -286,17 +455,22 @@ pub fn collect(
     tile: usize,
     points: &mut [u64; 256],
     ways: &mut [u64; 256],
+    places: &mut [u64],
 ) -> SummaryRead
-    ensures { λ r. ⌜ CollectIs (collectTile (kindsOf layout (now (letters .entry))) (intervalFound found) (gridOf grid) tile (now (map .entry))) (now (points .entry)) (now (ways .entry)) r (now (points .exit)) (now (ways .exit)) ⌝ }
+    ensures { λ r. ⌜ CollectIs (collectTile (kindsOf layout (now (letters .entry))) (intervalFound found) (gridOf grid) tile (now (map .entry))) (tilePlaces (kindsOf layout (now (letters .entry))) (intervalFound found) (gridOf grid) tile (now (map .entry))) (lentTile (now (points .entry)) (now (ways .entry)) (now (places .entry))) r (lentTile (now (points .exit)) (now (ways .exit)) (now (places .exit))) ⌝ }
 {
     let got = tile_place::find_tile(map, layout.debug, found, grid, tile);
     let PlaceRead::At(place) = got else {
-        return SummaryRead::Refused(tile_place::place_refusal(got));
+        return SummaryRead::Refused(LentRefusal::Refused(tile_place::place_refusal(got)));
     };
     let read = summarize(map, place, layout, letters);
-    let SummaryRead::Value(_) = read else {
-        return read;
+    let MeasuredRead::Value(summary, start) = read else {
+        return SummaryRead::Refused(LentRefusal::Refused(measured_refusal(read)));
     };
+    if !has_room(summary.points, summary.ways, places.len()) {
+        return SummaryRead::Refused(too_short(summary.points, summary.ways));
+    }
+    put_places(map, start, summary, layout, letters, places);
     put_table(map, place, layout.debug, points, ways);
-    read
+    SummaryRead::Value(summary)
 }

@@ -1,11 +1,11 @@
 -- Demand 3 by words (specs/WordBook.antt): each exported call is a call of the inner function on what the words say, and its state's
 -- words say the stream that the inner call left; so a chain of exported calls is a chain of inner calls.
-use Prim.Native.Nat.{ℕ, _%_, _<_}
+use Prim.Native.Nat.{ℕ, _+_, _%_, _≤_, _<_}
 use mathlib.Core.Path.{_≡_, refl, sym, ap, _∙_, subst}
 use mathlib.Core.Bool.{Bool, true, false}
 use mathlib.Core.List.{List, [], _∷_}
 use native.Mathlib.Omega.{arith}
-use lib.ListN.{getD}
+use lib.ListN.{length, getD}
 use lib.Seq.{sets}
 use Rattle.parsing.specs.Parse.{Res, ok, no, mapRes, Part, Maybe, none, some, nth}
 use Rattle.parsing.specs.Good.{ok-val, ok-at, no-ok}
@@ -16,7 +16,7 @@ use Rattle.error.specs.declared.Refusal.{Refusal}
 use Rattle.format.specs.Header.{Interval, Header, bit, opened}
 use Rattle.format.specs.Index.{answer}
 use Rattle.format.specs.IntervalTable.{startBefore, rowAt}
-use Rattle.format.specs.Lent.{LentLists, Replied, Reply}
+use Rattle.format.specs.Lent.{front, LentLists, Replied, Reply}
 use Rattle.format.specs.TagLists.{TagLists, listing}
 use Rattle.format.proofs.TagLaws.{opened-header}
 use Rattle.format.proofs.IntervalLaws.{opened-row}
@@ -51,17 +51,21 @@ use Rattle.visit.specs.declared.Declined.{Declined}
 use Rattle.visit.specs.declared.StreamedHead.{StreamedHead}
 use Rattle.poi.specs.declared.Poi.{Poi}
 use Rattle.types.specs.Beside.{viewOr}
-use Rattle.tile.specs.Tile.{shownTile, collectTile, TileIs, summaryOf, summaryRes, rowsOfTile, rowPoints, rowWays}
+use Rattle.tile.specs.Tile.{shownTile, featurePlaces, collectTile, tilePlaces, listed, TileIs, summaryOf, rowsOfTile, rowPoints, rowWays, TileLists}
+use Rattle.tile.proofs.CollectLaws.{answerOf, read-is, said-of, rows-written}
+use Rattle.tile.proofs.CollectLaws.{readOf as tileOf}
 use Rattle.tile.specs.declared.Tile.{Tile}
 use Rattle.tile.specs.declared.TileSummary.{TileSummary}
 use Rattle.tile.specs.declared.SummaryRead.{SummaryRead}
 use Rattle.tile.specs.declared.SummaryRead.the-variants as summary
+use Rattle.tile.specs.declared.TileAnswer.{TileAnswer}
 use Rattle.tile.specs.declared.TileAnswer.the-variants as tile-answer
+use Rattle.tile.specs.declared.TileRead.{TileRead}
 use Rattle.zoom_intervals.specs.Rows.{tableBefore, rowRes}
 use Rattle.zoom_intervals.specs.declared.IntervalAnswer.{IntervalAnswer}
 use Rattle.zoom_intervals.specs.declared.IntervalAnswer.the-variants as interval
 use Rattle.wire.specs.Wire.{Wire, Crosses, lending, listOf, received, there}
-use Rattle.wire.specs.Codecs.{refusalIn, settled, truth-back}
+use Rattle.wire.specs.Codecs.{lentRefusalIn, settled, truth-back}
 use Rattle.wire.specs.Spread.{spreadWire, spread-out}
 use Rattle.header_wire.specs.Header.{headerWire, layoutWords, layoutIn, intervalsIn}
 use Rattle.header_wire.specs.Codecs.{HeaderLent, headerIn, headerCodec}
@@ -71,9 +75,10 @@ use Rattle.stream_wire.specs.Streams.{streamIn, openedWire, nextWire, acceptWir
 use Rattle.stream_wire.specs.Codecs.{OpenedLent, opened-back, shownOf, seen, Seen, nextIn, nextDecoder, acceptIn, acceptSeen, acceptDecoder, declineIn, declineSeen, declineDecoder}
 use Rattle.feature_wire.specs.Features.{tileWire}
 use Rattle.feature_wire.specs.Codecs.{summaryIn, tileIn, tileCodec}
-use Rattle.exports.specs.Calls.{LentRows, OpenOf, StreamOf, NextOf, AcceptOf, DeclineOf, EntryOf, TileOf}
+use Rattle.exports.specs.Calls.{OpenOf, StreamOf, NextOf, AcceptOf, DeclineOf, EntryOf, TileOf}
 use Rattle.map_agreement.specs.Called.{Called}
 use Rattle.map_agreement.specs.Called as called
+use Rattle.map_agreement.specs.MapsforgeMap.{mapsforge}
 use Rattle.map_agreement.specs.BookSays.{BookSays, Opens, opens, Sees}
 use Rattle.map_agreement.proofs.Theorem.{book-says}
 use Rattle.word_agreement.specs.WordCalls.{shownAnswer, WordCalled, no-call, call-next, call-accept, call-decline, WordStreams}
@@ -385,7 +390,7 @@ few-of m lists g tags e bytes k q =
 -- a tile that collects, by its words
 tile-value : (w : Wire) (r : SummaryRead) → tileWire w r .number ≡ 0 → (t : TileSummary) × (r ≡ summary.Value t)
 tile-value w (summary.Value t) q = (t, refl)
-tile-value w (summary.Refused r) q = refusal-number r (sym q)
+tile-value w (summary.Refused r) q = lent-number r (sym q)
 
 abbrev value-of : SummaryRead → TileSummary → TileSummary
 value-of (summary.Value t) d = t
@@ -393,39 +398,37 @@ value-of (summary.Refused r) d = d
 
 read-as : (after : Wire) (t : TileSummary) → after .number ≡ 0 → tileIn after ≡ summary.Value t → summaryIn after ≡ t
 read-as after t n q =
-    let p : there 0 (summary.Value (summaryIn after)) (summary.Refused (refusalIn 0 (listOf after 0))) ≡ summary.Value t = subst (λ (k : ℕ). there k (summary.Value (summaryIn after)) (summary.Refused (refusalIn k (listOf after 0))) ≡ summary.Value t) n q in
+    let p : there 0 (summary.Value (summaryIn after)) (summary.Refused (lentRefusalIn 0 (listOf after 0))) ≡ summary.Value t = subst (λ (k : ℕ). there k (summary.Value (summaryIn after)) (summary.Refused (lentRefusalIn k (listOf after 0))) ≡ summary.Value t) n q in
     ap (λ r. value-of r t) p
 
--- the tile that was collected
-pub record Taken (stored : Res Tile) (t : TileSummary) : Type 0 where
-  pub tile : Tile
-  pub is : stored ≡ answer tile
-  pub same : t ≡ summaryOf tile
+-- the tile that was collected, as `read_tile` answers it
+module _ (m letters : List ℕ) (number : ℕ) (layout : TileLayout) (i : IntervalRead) (grid : Grid) (room left : TileLists) (before after : Wire) (h : TileLent before)
+    (x : Crosses (tileWire before) (TileOf m letters number room left layout i grid) after) where
+  abbrev stored : Res Tile
+  stored = collectTile (kindsOf layout letters) (intervalFound i) (gridOf grid) number m
 
-taken : (stored : Res Tile) (t : TileSummary) → answer t ≡ mapRes summaryOf stored → Taken stored t
-taken (ok x e) t q = record { tile = x; is = ap (ok x) (sym (ok-at q)); same = ok-val q }
-taken (no n v) t q = no-ok (sym q)
+  abbrev starts : List ℕ
+  starts = tilePlaces (kindsOf layout letters) (intervalFound i) (gridOf grid) number m
 
-tile-is : (stored : Res Tile) (x : Tile) → stored ≡ answer x → TileIs stored (record { tile = x; answer = tile-answer.Collected })
-tile-is stored x q = rw q (record { answer = refl; whole = refl })
+  abbrev pub tileRead : TileRead
+  tileRead = tileOf (listed stored starts (room .places) .answer) (x .answer)
 
-rows-written : (stored : Res Tile) (f : Tile → List ℕ) (l k : List ℕ) (x : Tile) → stored ≡ answer x → k ≡ viewOr (λ t. sets l 0 (f t)) l stored → k ≡ sets l 0 (f x)
-rows-written stored f l k x q p = p ∙ ap (viewOr (λ t. sets l 0 (f t)) l) q
-
-module _ (m letters : List ℕ) (number : ℕ) (layout : TileLayout) (i : IntervalRead) (grid : Grid) (rows left : LentRows) (before after : Wire) (h : TileLent before)
-    (x : Crosses (tileWire before) (TileOf m letters number rows left layout i grid) after) where
   tile-read : tileIn after ≡ x .answer
-  tile-read = received (tileWire before) (λ y. y) (tileCodec before h) (TileOf m letters number rows left layout i grid) after x
+  tile-read = received (tileWire before) (λ y. y) (tileCodec before h) (TileOf m letters number room left layout i grid) after x
+
+  pub tile-is : TileIs stored starts (room .places) tileRead (left .places)
+  tile-is = read-is stored starts room (x .answer) left (x .is)
 
   module _ (t : TileSummary) (v : x .answer ≡ summary.Value t) where
-    pub tile-of : Taken (collectTile (kindsOf layout letters) (intervalFound i) (gridOf grid) number m) t
-    tile-of = taken _ t (sym (ap summaryRes v) ∙ x .is .answer)
+    pub said : t ≡ summaryOf (tileRead .tile)
+    said = said-of stored starts room (x .answer) left (x .is) t v
 
-    pub shows-tile : ShowsTile (tile-of .tile) rows left after
-    shows-tile = record {
-      words = tile-read ∙ v ∙ ap summary.Value (tile-of .same);
-      points = rows-written _ (λ y. rowPoints (rowsOfTile y)) (rows .points) (left .points) (tile-of .tile) (tile-of .is) (x .is .points);
-      ways = rows-written _ (λ y. rowWays (rowsOfTile y)) (rows .ways) (left .ways) (tile-of .tile) (tile-of .is) (x .is .ways);
+    pub shows-tile : (y : Tile) (places : List ℕ) → tileRead .tile ≡ y → left .places ≡ front places (room .places) → ShowsTile y places room left after
+    shows-tile y places e l = record {
+      words = tile-read ∙ v ∙ ap summary.Value (said ∙ ap summaryOf e);
+      points = rows-written stored starts room (x .answer) left (x .is) (λ y. rowPoints (rowsOfTile y)) (room .points) (left .points) t v (x .is .points) ∙ ap (λ (y : Tile). sets (room .points) 0 (rowPoints (rowsOfTile y))) e;
+      ways = rows-written stored starts room (x .answer) left (x .is) (λ y. rowWays (rowsOfTile y)) (room .ways) (left .ways) t v (x .is .ways) ∙ ap (λ (y : Tile). sets (room .ways) 0 (rowWays (rowsOfTile y))) e;
+      list = l;
     }
 
 -- Demand 3, from the contracts of the exported functions
@@ -442,9 +445,11 @@ word-book m s grid number lists header tags interval c =
     let a = layout-of m s lists header tags interval n (ends .0) (ends .1) in
     let b = interval-read-as m s lists header tags interval n (ends .0) (ends .1) few in
     let v = tile-value (c .before) (c .tile .answer) (sym (ap (λ (w : Wire). w .number) (c .tile .crossed)) ∙ c .collects) in
-    let t = tile-of m (tags .letters) number (layoutIn layout) i grid (c .rows) (c .left) (c .before) (c .after) (c .lent) (c .tile) (v .0) (v .1) in
-    let read = tile-read m (tags .letters) number (layoutIn layout) i grid (c .rows) (c .left) (c .before) (c .after) (c .lent) (c .tile) in
-    let says = book-says m s (gridOf grid) number lists h tags (layoutIn layout) i (record { tile = t .tile; answer = tile-answer.Collected }) (record {
+    let letters = tags .letters in
+    let y = said m letters number (layoutIn layout) i grid (c .room) (c .left) (c .before) (c .after) (c .lent) (c .tile) (v .0) (v .1) in
+    let read = tile-read m letters number (layoutIn layout) i grid (c .room) (c .left) (c .before) (c .after) (c .lent) (c .tile) in
+    let t = tileRead m letters number (layoutIn layout) i grid (c .room) (c .left) (c .before) (c .after) (c .lent) (c .tile) in
+    let says = book-says m s (gridOf grid) number lists h tags (layoutIn layout) i t (record {
       small = c .small;
       answers = record {
         header = k .is;
@@ -453,39 +458,43 @@ word-book m s grid number lists header tags interval c =
       };
       headerEnd = ends .0;
       opens = ends .1;
-      tile = tile-is _ (t .tile) (t .is);
-      collects = refl;
-      exact = ap (λ (y : TileSummary). y .exact) (sym (read-as (c .after) (v .0) (c .collects) (read ∙ v .1) ∙ t .same)) ∙ c .exact;
+      room = c .room .places;
+      places = c .left .places;
+      tile = tile-is m letters number (layoutIn layout) i grid (c .room) (c .left) (c .before) (c .after) (c .lent) (c .tile);
+      collects = ap answerOf (v .1);
+      exact = ap (λ (z : TileSummary). z .exact) (sym (read-as (c .after) (v .0) (c .collects) (read ∙ v .1) ∙ y)) ∙ c .exact;
     }) in
     let crosses = word-sees s grid number layout (listOf interval 1) lists h tags (ends .0) (ends .1) few a b in
     record {
       header = h;
       fields = fieldsRead (h .header) (h .end);
       says = says;
-      shows = λ rows left before after l x. shown-as m s grid number layout (listOf interval 1) lists h tags says t rows left before after l x;
+      shows = λ room left before after l f x. shown-as m s grid number layout (listOf interval 1) lists h tags says room left before after l f x;
       entry = λ before after l x.
           received (entryWire before) (λ y. y) (entryCodec before l) (EntryOf m number (layoutIn layout) i grid) after x
           ∙ says .entry (x .answer) (x .is);
-      fetches = λ k lent left before after x. record { answer = x .answer; is = says .fetches k lent left (x .answer) (x .is); crossed = x .crossed };
+      fetches = λ room k m′ d lent left before after x. record { answer = x .answer; is = says .fetches room k m′ d lent left (x .answer) (x .is); crossed = x .crossed };
       sees = λ zoom cs. crosses m zoom cs _ _ (says .sees zoom cs);
       altered = λ zoom cs m′ d. crosses m′ zoom cs _ _ (says .altered zoom cs m′ d);
       literal = λ zoom cs m′ w d. crosses m′ zoom cs _ _ (says .literal zoom cs m′ w d);
     }
   where
-    -- whatever was lent, the tile that was collected is the one that the book is fed
+    -- whatever was lent, if the list is long enough, the tile that was collected is the one that the book is fed
     shown-as : (m : List ℕ) (s : ℕ) (grid : Grid) (number : ℕ) (layout interval : List ℕ) (lists : TagLists) (h : MapRead) (tags : TagLists) (says : BookSays m s (gridOf grid) number lists h tags (layoutIn layout) (intervalFound (intervalIn interval)))
-        {u : TileSummary} → Taken (collectTile (kindsOf (layoutIn layout) (tags .letters)) (intervalFound (intervalIn interval)) (gridOf grid) number m) u
-        → (rows left : LentRows) (before after : Wire) → TileLent before → (x : Crosses (tileWire before) (TileOf m (tags .letters) number rows left (layoutIn layout) (intervalIn interval) grid) after)
-        → ShowsTile (shownTile (says .tile)) rows left after
-    shown-as m s grid number layout interval lists h tags says {u} t rows left before after l x =
-        go (x .answer) refl
+        → (room left : TileLists) (before after : Wire) → TileLent before → length (says .tile .points) + length (says .tile .ways) ≤ length (room .places)
+        → (x : Crosses (tileWire before) (TileOf m (tags .letters) number room left (layoutIn layout) (intervalIn interval) grid) after)
+        → ShowsTile (shownTile (says .tile)) (featurePlaces (mapsforge s (gridOf grid) number .format (says .stored)) m (says .tile)) room left after
+    shown-as m s grid number layout interval lists h tags says room left before after l f x =
+        let t = tileRead m (tags .letters) number (layoutIn layout) (intervalIn interval) grid room left before after l x in
+        let k = says .shows t (room .places) (left .places) f (tile-is m (tags .letters) number (layoutIn layout) (intervalIn interval) grid room left before after l x) in
+        go (x .answer) refl (k .0) (k .1) (k .2)
       where
-        stored : Res Tile
-        stored = collectTile (kindsOf (layoutIn layout) (tags .letters)) (intervalFound (intervalIn interval)) (gridOf grid) number m
+        was : TileAnswer → ℕ
+        was tile-answer.Collected = 0
+        was (tile-answer.Refused r) = 1
 
-        go : (r : SummaryRead) → x .answer ≡ r → ShowsTile (shownTile (says .tile)) rows left after
-        go (summary.Value y) v =
-            let k = tile-of m (tags .letters) number (layoutIn layout) (intervalIn interval) grid rows left before after l x y v in
-            subst (λ (z : Tile). ShowsTile z rows left after) (says .shows (record { tile = k .tile; answer = tile-answer.Collected }) (tile-is _ (k .tile) (k .is)))
-            (shows-tile m (tags .letters) number (layoutIn layout) (intervalIn interval) grid rows left before after l x y v)
-        go (summary.Refused r) v = no-ok (sym (ap summaryRes v) ∙ x .is .answer ∙ ap (mapRes summaryOf) (t .is))
+        go : (r : SummaryRead) → x .answer ≡ r → answerOf (x .answer) ≡ tile-answer.Collected → tileRead m (tags .letters) number (layoutIn layout) (intervalIn interval) grid room left before after l x .tile ≡ shownTile (says .tile)
+            → left .places ≡ front (featurePlaces (mapsforge s (gridOf grid) number .format (says .stored)) m (says .tile)) (room .places)
+            → ShowsTile (shownTile (says .tile)) (featurePlaces (mapsforge s (gridOf grid) number .format (says .stored)) m (says .tile)) room left after
+        go (summary.Value y) v a b d = shows-tile m (tags .letters) number (layoutIn layout) (intervalIn interval) grid room left before after l x y v (shownTile (says .tile)) _ b d
+        go (summary.Refused r) v a b d = absurd (let z : _≡_ {A = ℕ} 1 0 = ap was (sym (ap answerOf v) ∙ a) in omega arith)

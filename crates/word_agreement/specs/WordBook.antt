@@ -1,13 +1,13 @@
 -- Demand 3 for a program in another language: what it knows that opened a map, asked for a sub file's interval and collected a tile,
 -- none of which was refused, and what it then sees of every list of calls.
-use Prim.Native.Nat.{ℕ, _^_, _<_}
+use Prim.Native.Nat.{ℕ, _+_, _^_, _≤_, _<_}
 use mathlib.Core.Path.{_≡_}
 use mathlib.Core.Bool.{true}
 use mathlib.Core.List.{List, [], _∷_}
 use lib.ListN.{length, getD}
 use lib.Seq.{sets}
 use Rattle.parsing.specs.Parse.{Part, Maybe}
-use Rattle.format.specs.Lent.{Reply}
+use Rattle.format.specs.Lent.{front, Reply}
 use Rattle.types.specs.Types.{gridOf}
 use Rattle.types.specs.declared.Grid.{Grid}
 use Rattle.format.specs.TagLists.{TagLists}
@@ -30,14 +30,14 @@ use Rattle.index_wire.specs.Index.{intervalWire, intervalIn, entryWire}
 use Rattle.index_wire.specs.Codecs.{entryIn}
 use Rattle.feature_wire.specs.Features.{tileWire, fetchWire}
 use Rattle.feature_wire.specs.Codecs.{summaryIn, tileIn}
-use Rattle.tile.specs.Tile.{shownTile, summaryOf, rowsOfTile, rowPoints, rowWays}
+use Rattle.tile.specs.Tile.{shownTile, featurePlaces, summaryOf, rowsOfTile, rowPoints, rowWays, TileLists}
 use Rattle.tile.specs.declared.Tile.{Tile}
 use Rattle.tile.specs.declared.SummaryRead.the-variants as summary
-use Rattle.exports.specs.Calls.{LentRows, OpenOf, RowOf, EntryOf, TileOf, FeatureOf}
+use Rattle.exports.specs.Calls.{OpenOf, RowOf, EntryOf, TileOf, FeatureOf}
 use Rattle.map_agreement.specs.Texts.{textsFound}
 use Rattle.map_agreement.specs.TileView.{fetchGives}
 use Rattle.map_agreement.specs.MapsforgeMap.{mapsforge}
-use Rattle.map_agreement.specs.BookSays.{BookSays, fedTile, bookAt, textsAt}
+use Rattle.map_agreement.specs.BookSays.{BookSays, fedTile, bookAt, textsAt, listedIn, Unread}
 use Rattle.word_agreement.specs.WordCalls.{WordStreams}
 
 abbrev pub IntervalLent : Wire → Type 0
@@ -49,11 +49,12 @@ EntryLent = Lent (9 ∷ []) 0 0
 abbrev pub TileLent : Wire → Type 0
 TileLent = Lent (15 ∷ []) 0 0
 
--- what `mapsforge_collect` left says this tile: its words, and its rows in front of the two lists
-pub record ShowsTile (t : Tile) (rows left : LentRows) (after : Wire) : Type 0 where
+-- what `mapsforge_collect` left says this tile: its words, its rows in front of two lists, and its features' places in front of the third
+pub record ShowsTile (t : Tile) (places : List ℕ) (lent left : TileLists) (after : Wire) : Type 0 where
   pub words : tileIn after ≡ summary.Value (summaryOf t)
-  pub points : left .points ≡ sets (rows .points) 0 (rowPoints (rowsOfTile t))
-  pub ways : left .ways ≡ sets (rows .ways) 0 (rowWays (rowsOfTile t))
+  pub points : left .points ≡ sets (lent .points) 0 (rowPoints (rowsOfTile t))
+  pub ways : left .ways ≡ sets (lent .ways) 0 (rowWays (rowsOfTile t))
+  pub list : left .places ≡ front places (lent .places)
 
 -- the contracts of `mapsforge_open` and `mapsforge_interval` on the map x, whatever words were lent to them: what they left there, and what
 -- opening left of the lists that it was lent
@@ -75,10 +76,10 @@ pub record WordCollected (m : List ℕ) (subFile : ℕ) (grid : Grid) (number : 
   pub found : interval .number ≡ 0
   pub before : Wire
   pub after : Wire
-  pub rows : LentRows
-  pub left : LentRows
+  pub room : TileLists
+  pub left : TileLists
   pub lent : TileLent before
-  pub tile : Crosses (tileWire before) (TileOf m (tags .letters) number rows left (layoutIn (listOf header 1)) (intervalIn (listOf interval 1)) grid) after
+  pub tile : Crosses (tileWire before) (TileOf m (tags .letters) number room left (layoutIn (listOf header 1)) (intervalIn (listOf interval 1)) grid) after
   pub collects : after .number ≡ 0
   pub exact : summaryIn after .exact ≡ true
 
@@ -94,18 +95,21 @@ pub record WordSees (x : List ℕ) (subFile : ℕ) (grid : Grid) (number zoom : 
   pub streams : WordStreams x subFile grid number zoom layout (tags .letters) interval cs replied
   pub texts : textsFound x replied ≡ spelled
 
--- Demand 3 holds of the map (`says`: BookSays of map_agreement). `shows`, `entry`, `fetches`: what crosses back from `mapsforge_collect`,
--- from `mapsforge_index_entry`, and from `mapsforge_fetch` with all lent lists, is what the book is fed. `sees`, `altered`, `literal`: by
+-- Demand 3 holds of the map (`says`: BookSays of map_agreement). `shows`, `entry`, `fetches`: what crosses back from `mapsforge_collect` with a
+-- list that is long enough, from `mapsforge_index_entry`, and from `mapsforge_fetch` with all lent lists, through that list, is what the book is
+-- fed; the fetch also on a map in which bytes are altered that it does not read. `sees`, `altered`, `literal`: by
 -- its words such a program sees the book's replies, on this map, and on one of the same length that is altered in ways declined untried
 pub record WordBook (m : List ℕ) (subFile : ℕ) (grid : Grid) (number : ℕ) (lists tags : TagLists) (layout interval : List ℕ) : Type 0 where
   pub header : MapRead
   pub fields : ListedRead
   pub says : BookSays m subFile (gridOf grid) number lists header tags (layoutIn layout) (intervalFound (intervalIn interval))
-  pub shows : (rows left : LentRows) (before after : Wire) → TileLent before → Crosses (tileWire before) (TileOf m (tags .letters) number rows left (layoutIn layout) (intervalIn interval) grid) after
-      → ShowsTile (shownTile (says .tile)) rows left after
+  pub shows : (room left : TileLists) (before after : Wire) → TileLent before → length (says .tile .points) + length (says .tile .ways) ≤ length (room .places)
+      → Crosses (tileWire before) (TileOf m (tags .letters) number room left (layoutIn layout) (intervalIn interval) grid) after
+      → ShowsTile (shownTile (says .tile)) (featurePlaces (mapsforge subFile (gridOf grid) number .format (says .stored)) m (says .tile)) room left after
   pub entry : (before after : Wire) → EntryLent before → Crosses (entryWire before) (EntryOf m number (layoutIn layout) (intervalIn interval) grid) after
       → entryIn after ≡ entry-read.Entry (heldEntry (says .place .entry))
-  pub fetches : (k : ℕ) (lent left : FetchLists) (before after : Wire) → Crosses (fetchWire before) (FeatureOf m (tags .starts) (tags .letters) number k lent left (layoutIn layout) (intervalIn interval) grid) after
+  pub fetches : (room : List ℕ) (k : ℕ) (m′ : List ℕ) → DifferOnly m m′ (Unread subFile (gridOf grid) number (says .stored) (says .place) (says .tile) m k) → (lent left : FetchLists) (before after : Wire)
+      → Crosses (fetchWire before) (FeatureOf m′ (tags .starts) (tags .letters) (listedIn subFile (gridOf grid) number (says .stored) (says .place) (says .tile) m room) (length (says .tile .points)) (length (says .tile .ways)) k lent left (layoutIn layout)) after
       → Crosses (fetchWire before) (λ r. FeatureIs (fetchGives (fetch (fedTile subFile (gridOf grid) number (says .stored) (says .place) (says .tile)) k)) lent r left) after
   pub sees : (zoom : ℕ) (cs : List Call)
       → WordSees m subFile grid number zoom lists fields tags layout interval cs (bookAt subFile (gridOf grid) number (says .stored) (says .place) (says .tile) zoom cs) (textsAt subFile (gridOf grid) number (says .stored) (says .place) (says .tile) zoom cs)

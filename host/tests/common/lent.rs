@@ -2,7 +2,7 @@
 //! with other words each time: what is written comes out the same, and what is not keeps what was lent.
 
 use super::repository;
-use mapsforge::raw::{self, FetchLists, FetchWords};
+use mapsforge::raw::{self, FetchLists, FetchWords, Listed};
 use mapsforge::word;
 use std::collections::{BTreeMap, BTreeSet};
 
@@ -93,6 +93,11 @@ pub fn twice(mut call: impl FnMut(u64) -> Answered) -> Told {
 impl Told {
     pub fn word(&self, k: usize) -> u64 {
         self.entries[&("words", k)]
+    }
+
+    /// A list that was lent, behind the call.
+    pub fn list(&self, name: &'static str) -> Vec<u64> {
+        (0..).map_while(|k| self.entries.get(&(name, k)).copied()).collect()
     }
 
     /// All eight words of the state.
@@ -306,18 +311,22 @@ impl Tiles<'_> {
         got.words("state", &state)
     }
 
-    pub fn collect(&self, tile: usize, lent: u64) -> Answered {
+    /// A list of places of the first length is lent.
+    pub fn collect(&self, tile: usize, lengths: &Lengths, lent: u64) -> Answered {
         let Tiles { opened: Opened { map, layout, letters, .. }, interval, grid } = self;
         let (mut points, mut ways) = ([lent; 256], [lent; 256]);
+        let mut places = vec![lent; lengths[0] as usize];
         let got = of_words::<15>(lent, |words| {
-            let (points, ways) = (&mut points, &mut ways);
-            raw::collect(map, layout, letters, interval, *grid, tile, words, points, ways)
+            let (points, ways, places) = (&mut points, &mut ways, &mut places);
+            raw::collect(map, layout, letters, interval, *grid, tile, words, points, ways, places)
         });
-        got.words("points", &points).words("ways", &ways)
+        got.words("points", &points).words("ways", &ways).words("places", &places)
     }
+}
 
-    pub fn fetch(&self, tile: usize, feature: u64, lengths: &Lengths, lent: u64) -> Answered {
-        let Tiles { opened: Opened { map, layout, starts, letters }, interval, grid } = self;
+impl Opened<'_> {
+    pub fn fetch(&self, of: Listed<'_>, feature: u64, lengths: &Lengths, lent: u64) -> Answered {
+        let Opened { map, layout, starts, letters } = self;
         let degree = f64::from_bits(lent);
         let mut got = FetchWords {
             words: [lent; 37],
@@ -338,9 +347,7 @@ impl Tiles<'_> {
             initial_longitudes,
             buffer: &mut buffer,
         };
-        let number = raw::fetch(
-            map, layout, starts, letters, interval, *grid, tile, feature, lists, &mut got,
-        );
+        let number = raw::fetch(map, layout, starts, letters, of, feature, lists, &mut got);
         let arrays = Answered::of(number, lent)
             .words("words", &got.words)
             .signed("signed_words", &got.signed_words)

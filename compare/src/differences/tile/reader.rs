@@ -73,6 +73,8 @@ pub struct Reader<'a> {
     /// The places of the signatures and of the texts that were read, in their order.
     pub signatures: Vec<u64>,
     pub texts: Vec<u64>,
+    /// Where the features of a collected tile start.
+    pub places: Vec<u64>,
     /// The places of the ways' stored sizes.
     pub sizes: Vec<Range<usize>>,
     /// The places of the numbers that were read, if they are wanted.
@@ -93,6 +95,7 @@ impl<'a> Reader<'a> {
             tile_start: None,
             signatures: Vec::new(),
             texts: Vec::new(),
+            places: Vec::new(),
             sizes: Vec::new(),
             trace: None,
             padded: 0,

@@ -2,7 +2,7 @@
 
 use super::super::check::Checked;
 use super::super::lent::{Fronts, Lengths};
-use super::super::library::{self, Ask, Fetch, WORD};
+use super::super::library::{self, Ask, Fetch, Places, WORD};
 use super::super::opening::Opening;
 use super::Counts;
 use crate::differences::tile::Opened;
@@ -44,7 +44,7 @@ pub struct Book<'a> {
 impl<'a> Collected<'a> {
     /// None if the tile is not in the theorem, which is counted.
     pub fn of(opening: &Opening, ask: Ask<'a>, counts: &mut Counts) -> Checked<Option<Self>> {
-        let tile = library::collect(&ask);
+        let (tile, places) = library::collect_all(&ask);
         if tile.got.number != 0 {
             counts.refused += 1;
             return Ok(None);
@@ -58,8 +58,10 @@ impl<'a> Collected<'a> {
         let empty = Opened::of(file).is_empty(&ask.at);
         let stored = Opened::of(file).streamed_tile(&ask.at);
         let stored = stored.map_err(|refusal| format!("collects, but document 01: {refusal:?}"))?;
-        let features =
-            (0..points + ways).map(|k| fetched(&ask, k, &stored)).collect::<Checked<Vec<_>>>()?;
+        let of = places.lend();
+        let features = (0..points + ways)
+            .map(|k| fetched(&ask, of, k, &stored))
+            .collect::<Checked<Vec<_>>>()?;
         let head_plain = Opened::of(file).head_plain(&ask.at);
         let head_plain = head_plain.map_err(|refusal| format!("no head: {refusal:?}"))?;
         // "Each point, way and tile then says whether all its numbers were plain, the tile's own head included"
@@ -120,14 +122,14 @@ impl<'a> Collected<'a> {
 }
 
 /// Fetches feature `k`: first with no lists, which tells the lengths.
-fn fetched(ask: &Ask, k: u64, stored: &Tile) -> Checked<Fetched> {
-    let (first, _) = fetch(ask, k, [0; 6]);
+fn fetched(ask: &Ask, of: Places, k: u64, stored: &Tile) -> Checked<Fetched> {
+    let (first, _) = fetch(ask, of, k, [0; 6]);
     let lengths: Lengths = match first.got.number {
         0 => [0; 6],
         15 => std::array::from_fn(|k| first.got.words[k] as usize),
         number => return Err(format!("feature {k} is not fetched: {number}")),
     };
-    let (fetch, fronts) = fetch(ask, k, lengths);
+    let (fetch, fronts) = fetch(ask, of, k, lengths);
     if fetch.got.number != 0 {
         return Err(format!("feature {k} is not fetched: {}", fetch.got.number));
     }
@@ -141,8 +143,8 @@ fn fetched(ask: &Ask, k: u64, stored: &Tile) -> Checked<Fetched> {
     Ok(Fetched { fetch, fronts, texts })
 }
 
-fn fetch(ask: &Ask, k: u64, lengths: Lengths) -> (Fetch, Fronts) {
+fn fetch(ask: &Ask, of: Places, k: u64, lengths: Lengths) -> (Fetch, Fronts) {
     let mut fronts = Fronts::holding(WORD, lengths);
-    let fetch = library::fetch(ask, k, fronts.lists());
+    let fetch = library::fetch(ask, of, k, fronts.lists());
     (fetch, fronts)
 }

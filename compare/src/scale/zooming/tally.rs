@@ -43,7 +43,7 @@ impl Tally {
 
     /// A tile of which a pair was compared; whether it is marked empty, the model says.
     pub fn tile(&mut self, ask: &Ask, empty: bool) {
-        let collected = library::collect(ask).got;
+        let collected = library::collect_all(ask).0.got;
         let collects = collected.number == 0;
         self.tiles += 1;
         self.debug += u64::from(ask.layout[0] != 0);

@@ -1,6 +1,6 @@
 use borrow.Author.Needs.{needs}
 use Rattle.exports.specs.Calls.{RowOf}
-use Rattle.exports.proofs.CallLaws.{table-crosses}
+use Rattle.exports.proofs.CallLaws.{crosses-by}
 use Rattle.exports.proofs.mapsforge_interval.Statement.{statement}
 use Rattle.exports.proofs.mapsforge_interval.Tie as tie
 
@@ -18,7 +18,7 @@ put-interval-requires c κs = search needs
 
 -- src/lib.rt:39:1
 returns : tie.Need-returns
-returns c = table-crosses _ (RowOf _ _) _ _ (c .before .before .before .interval-at .result) _ (c .before .before .before .before .intervals-in .ensures) (c .before .before .before .interval-at .ensures) (c .put-interval .ensures)
+returns c = crosses-by _ (RowOf _ _) _ _ (c .before .before .before .interval-at .result) _ (c .before .before .before .before .intervals-in .ensures) (c .before .before .before .interval-at .ensures) (c .put-interval .ensures)
 
 pub mapsforge-interval-spec : {M : Type 1} → statement M
 mapsforge-interval-spec =

@@ -1,6 +1,6 @@
 use borrow.Author.Needs.{needs}
 use Rattle.exports.specs.Calls.{SubFileOf}
-use Rattle.exports.proofs.CallLaws.{table-crosses}
+use Rattle.exports.proofs.CallLaws.{crosses-by}
 use Rattle.exports.proofs.mapsforge_sub_file.Statement.{statement}
 use Rattle.exports.proofs.mapsforge_sub_file.Tie as tie
 
@@ -18,7 +18,7 @@ put-sub-file-requires c κs = search needs
 
 -- src/lib.rt:55:1
 returns : tie.Need-returns
-returns c = table-crosses _ (SubFileOf _ _) _ _ (c .before .before .sub-file-for-zoom .result) _ (c .before .before .before .intervals-in .ensures) (c .before .before .sub-file-for-zoom .ensures) (c .put-sub-file .ensures)
+returns c = crosses-by _ (SubFileOf _ _) _ _ (c .before .before .sub-file-for-zoom .result) _ (c .before .before .before .intervals-in .ensures) (c .before .before .sub-file-for-zoom .ensures) (c .put-sub-file .ensures)
 
 pub mapsforge-sub-file-spec : {M : Type 1} → statement M
 mapsforge-sub-file-spec =

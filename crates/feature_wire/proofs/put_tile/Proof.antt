@@ -13,14 +13,14 @@ put-summary-requires = search needs
 enum-known-read-2 : tie.Need-enum-known-read-2
 enum-known-read-2 = search needs
 
-put-refusal-requires : tie.Need-put-refusal-requires
-put-refusal-requires = search needs
+put-lent-refusal-requires : tie.Need-put-lent-refusal-requires
+put-lent-refusal-requires = search needs
 
 returns : tie.Need-returns
 returns c = rw (c .before .before .before .read .given .1, ap (λ (v : Wire). listOf v 0) (c .put-summary .ensures)) refl
 
 returns-2 : tie.Need-returns-2
-returns-2 c = rw (c .before .before .before .read2 .given .1, c .put-refusal .ensures .0, c .put-refusal .ensures .1) refl
+returns-2 c = rw (c .before .before .before .read2 .given .1, c .put-lent-refusal .ensures .0, c .put-lent-refusal .ensures .1) refl
 
 pub put-tile-spec : {M : Type 1} → statement M
 put-tile-spec =
@@ -29,6 +29,6 @@ put-tile-spec =
     enum-known-read
     put-summary-requires
     enum-known-read-2
-    put-refusal-requires
+    put-lent-refusal-requires
     returns
     returns-2)

@@ -1,5 +1,3 @@
-use Rattle.types.specs.Types.{gridOf}
-use Rattle.index.specs.Answers.{intervalFound}
 use Rattle.fetch_way.specs.FetchWay.{lent}
 use Rattle.fetch.proofs.FetchLaws.{other-fetched, way-fetched}
 use Rattle.fetch.proofs.fetch_feature.Statement.{statement}
@@ -30,25 +28,25 @@ same-length-7 c = c .before .before .before .before .before .before .before .bef
 -- no way stands there
 returns : tie.Need-returns
 returns c =
-    let a = c .before .before .before .before .before .before .before .before .before .before .before .before .before .before .before .before .before .args in
-    let f = c .before .before .before .before .before .before .before .find-feature in
+    let a = c .before .before .before .before .before .before .before .before .before .before .before .before .before .before .before .before .before .before .args in
+    let f = c .before .before .before .before .before .before .before .listed-place in
     let w = c .before .before .before .before .before .before .way-end in
     let o = c .before .before .of-place in
     other-fetched
-    (a .layout) (a .starts .now) (a .letters .now) (intervalFound (a .found)) (gridOf (a .grid)) (a .tile) (a .feature) (a .map .now)
+    (a .layout) (a .starts .now) (a .letters .now) (a .places .now) (a .points) (a .ways) (a .feature) (a .map .now)
     (f .result) (o .result) (f .ensures) (w .result) (w .ensures)
     (a .node-counts .now) (a .latitudes .now) (a .longitudes .now) (a .initial-latitudes .now) (a .initial-longitudes .now) (a .buffer .now)
     (c .before .before .before .before .enum-told .given .0 .0) (o .last .1 .1 .1 .1 .1 .0) (c .before .before .before .before .enum-told .given .1) (o .ensures)
 
 returns-2 : tie.Need-returns-2
 returns-2 c =
-    let a = c .before .before .before .before .before .before .before .before .before .before .before .before .before .before .before .before .before .before .before .before .before .before .before .before .before .before .before .before .before .before .before .before .before .before .before .args in
-    let f = c .before .before .before .before .before .before .before .before .before .before .before .before .before .before .before .before .before .before .before .before .before .before .before .before .before .find-feature in
+    let a = c .before .before .before .before .before .before .before .before .before .before .before .before .before .before .before .before .before .before .before .before .before .before .before .before .before .before .before .before .before .before .before .before .before .before .before .before .args in
+    let f = c .before .before .before .before .before .before .before .before .before .before .before .before .before .before .before .before .before .before .before .before .before .before .before .before .before .listed-place in
     let w = c .before .before .before .before .before .before .before .before .before .before .before .before .before .before .before .before .before .before .before .before .before .before .before .before .way-end in
     let e = c .before .before .before .before .before .before .before .before .before .before .before .before .before .before .before .before .before .before .before .before .before .before .end in
     let y = c .before .before .before .before .before .before .before .before .before .before .before .before .before .fetch-way in
     way-fetched
-    (a .layout) (a .starts .now) (a .letters .now) (intervalFound (a .found)) (gridOf (a .grid)) (a .tile) (a .feature) (a .map .now)
+    (a .layout) (a .starts .now) (a .letters .now) (a .places .now) (a .points) (a .ways) (a .feature) (a .map .now)
     (f .result) (c .of-way .result) (f .ensures) (w .result) (w .ensures)
     (a .node-counts .now) (a .latitudes .now) (a .longitudes .now) (a .initial-latitudes .now) (a .initial-longitudes .now) (a .buffer .now)
     (e .given .0 .0) (y .result)

@@ -1,19 +1,19 @@
-use Prim.Native.Nat.{_+_, _-_, _≤_}
+use Prim.Native.Nat.{_+_, _-_, _%_, _^_, _≤_}
 use mathlib.Core.Path.{_≡_}
 use lib.ListN.{length, drop}
 use Rattle.text.specs.Utf8.{codePoints}
-use Rattle.text.specs.Hash.{hashFrom, hash}
-use Rattle.text.proofs.HashLaws.{hashes}
+use Rattle.text.specs.Hash.{hash}
+use Rattle.text.proofs.HashLaws.{hashLeft, hashes}
 use Rattle.text.proofs.hash_tag_parameter.Statement.{statement}
 use Rattle.text.proofs.hash_tag_parameter.Tie as tie
 
 abbrev Inv-loop : tie.InvT-loop
-Inv-loop text n h₀ i₀ at₀ h i at =
-    (at ≤ length text) × (i ≤ at) × (i + length (codePoints (drop at text)) ≡ n)
-    × (hashFrom n i h (codePoints (drop at text)) ≡ hash (codePoints text))
+Inv-loop text n power₀ h₀ at₀ power h at =
+    (at ≤ length text) × (power ≡ 31 ^ (length (codePoints (drop at text)) + 1) % 2 ^ 64)
+    × (hashLeft h (codePoints (drop at text)) ≡ hash (codePoints text))
 
 abbrev μ-loop : tie.MeasureT-loop
-μ-loop text n h₀ i₀ at₀ h i at = length text - at
+μ-loop text n power₀ h₀ at₀ power h at = length text - at
 
 pub hash-tag-parameter-spec : {M : Type 1} → statement M
 hash-tag-parameter-spec =
@@ -22,15 +22,14 @@ hash-tag-parameter-spec =
     Inv-loop
     μ-loop
     (λ c κs. tt)
+    (λ c κs. tt)
+    (λ c κs. tt)
     (λ c. search hashes)
     (λ c κs. search hashes)
     (λ c κs. tt)
     (λ c κs. tt)
-    (λ c. search hashes)
     (λ c κs. tt)
     (λ c κs. tt)
-    (λ c κs. tt)
-    (λ c. search hashes)
     (λ c κs. tt)
     (λ c. search hashes)
     (λ c. search hashes)

@@ -1,7 +1,7 @@
 use borrow.Author.Needs.{needs}
 use mathlib.Core.Path.{refl}
-use Rattle.tile.proofs.summary_refusal.Statement.{statement}
-use Rattle.tile.proofs.summary_refusal.Tie as tie
+use Rattle.tile.proofs.measured_refusal.Statement.{statement}
+use Rattle.tile.proofs.measured_refusal.Tie as tie
 
 returns : tie.Need-returns
 returns c = rw (c .before .got .given .1) refl
@@ -9,8 +9,8 @@ returns c = rw (c .before .got .given .1) refl
 returns-2 : tie.Need-returns-2
 returns-2 c = search needs
 
-pub summary-refusal-spec : {M : Type 1} → statement M
-summary-refusal-spec =
+pub measured-refusal-spec : {M : Type 1} → statement M
+measured-refusal-spec =
     tie.close
     (tie.spec
     (λ c. c .match .keys1)
