@@ -53,8 +53,9 @@
  * mapsforge_collect fills one list more, `places`, with the place in the map at which each feature of the tile starts (in a debug map, its
  * signature's): points from 0, ways behind them. mapsforge_fetch takes it with the tile's counts, and reads the one feature that it is asked
  * for, so that the last way of a tile costs what the first one does. The list is the caller's, as those of tags are; it is of that tile
- * alone. With the list and the counts that collecting gave, a fetch gives what the tile has, and no byte but the feature's own matters to it.
- * Any other list and counts are taken too: a call ends, stays inside what it is lent, and gives what can be read where the list says, or a refusal.
+ * alone. With the list and the counts that collecting gave, a fetch gives what the tile has, and no byte but those of the header and the
+ * feature matters to it. Any other list and counts are taken too: a call ends, stays inside what it is lent, and gives what can be read where
+ * the list says, or a refusal.
  *
  * The caller computes the grid. The library takes every grid that is not reversed and not too large (14): with a wrong one it reads wrong
  * tiles, and nothing tells. A sub file's grid is the tiles of its base zoom that the map's bounding box touches: columns x_min to x_max and

@@ -18,7 +18,8 @@ pub const WORKS: [Work; 2] = [Work::Decline, Work::Collect];
 pub const FETCHED: [Work; 2] = [Work::Collect, Work::Fetch];
 /// The second of them may take so many times the instructions of the first.
 pub const MOST_GROWTH: u64 = 12;
-/// Ours may take so many times as long as the Rust.
+/// Ours may take so many times as long as the Rust on those with tags. The others are for the growth alone: a feature without
+/// tags is cheap for the Rust, and ours writes as many words for it as for any other.
 pub const MOST: f64 = 2.0;
 
 const TAGS: u64 = 65_535;

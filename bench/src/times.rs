@@ -57,8 +57,9 @@ pub fn crafted() {
     head();
     for (name, works) in crafted::both() {
         let map = Map::read(name);
-        let slow = lines(&map, &works, &mut sides(&map));
-        slow.iter().for_each(|line| assert!(line.ratio() <= crafted::MOST, "{name}: too slow"));
+        let lines = lines(&map, &works, &mut sides(&map));
+        let limit = if crafted::BOTH.contains(&name) { crafted::MOST } else { f64::MAX };
+        lines.iter().for_each(|line| assert!(line.ratio() <= limit, "{name}: too slow"));
     }
     let map = Map::read(crafted::OURS);
     crafted::WORKS.iter().for_each(|&work| alone(&map, work, &mut Ours::new(&map)));
