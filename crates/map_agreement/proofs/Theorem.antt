@@ -40,7 +40,7 @@ use Rattle.fetch.proofs.FetchLaws.{gives-by}
 use Rattle.map_agreement.specs.TileView.{fetchGives}
 use Rattle.map_agreement.proofs.FetchGives.{name-is, fetch-gives}
 use Rattle.map_agreement.specs.MapsforgeMap.{mapsforge}
-use Rattle.map_agreement.specs.BookSays.{Collected, BookSays, fedTile, bookAt, Unread}
+use Rattle.map_agreement.specs.BookSays.{Answers, Collected, BookSays, fedTile, bookAt, Unread, FetchesAlone}
 use Rattle.map_agreement.proofs.MapLaws.{mapsforge-laws}
 use Rattle.map_agreement.proofs.HeaderFacts.{opened-is, header-of}
 use Rattle.agreement.specs.Calls.{Call}
@@ -85,19 +85,7 @@ module _ (m : List ℕ) (small : length m < 2 ^ 64) (s : ℕ) (grid : Grid) (num
       ∙ open-near m m′ long C (mapsforge-laws s grid number) h e k (sym (opened-is s grid number m) ∙ o)
 
   module _ (l : Located) (x : ℕ) (en : C .entry h m (C .entryAt h) ≡ ok l x) where
-    module _ (t : StoredTile (C .format h)) (past : ℕ) (c : collect (C .tileHead h l) (C .format h) m (C .tileAt h l) ≡ ok t past) (sizes : allExact (t .ways) ≡ true) where
-      whole : MapCollects C m h l t
-      whole = record {
-        map = record { headerEnd = e; header = sym (opened-is s grid number m) ∙ o; entryEnd = x; entry = en };
-        past = past;
-        collects = ap (λ r. andThen {B = StoredTile (C .format h)} r (λ n _. collect (C .tileHead h n) (C .format h) m (C .tileAt h n))) en ∙ c;
-        sizes = sizes;
-        small = small;
-      }
-
-      D : Demand3 C m h l t
-      D = demand-3 C (mapsforge-laws s grid number) m h l t whole
-
+    module _ (t : StoredTile (C .format h)) (past : ℕ) (c : collect (C .tileHead h l) (C .format h) m (C .tileAt h l) ≡ ok t past) where
       -- collecting answers that tile
       shown-is : collectTile (kindsOf lay (tags .letters)) found grid number m ≡ answer (shownTile t)
       shown-is = collected-as s grid number h lent m e o l x en ∙ ap (λ r. answered (mapRes shownTile r)) c
@@ -128,38 +116,70 @@ module _ (m : List ℕ) (small : length m < 2 ^ 64) (s : ℕ) (grid : Grid) (num
               let q = header-of m h e o in
               header-good .near m m′ 0 h e (record { long = a .long; same = λ j u v. decided _ _ (λ w. a .only j w (this u (subst (λ n. j < n) (sym (ap endOf q)) v))) }) q
 
-      says : Says
-      says = record {
-        stored = h;
-        place = l;
-        tile = t;
-        collects = whole;
-        demand-3 = D;
-        shows = shows;
-        entry = entry-is s grid number h lent m e o l x en;
-        fetches = λ list k m′ a lists left r f. subst (λ (x : Res (Fetched fetch.Feature)). fetch.FeatureIs x lists r left) (fetched-is list k m′ a) f;
-        sees = λ zoom cs. sees-book s grid number h lent m e o l t zoom cs (D .agrees zoom cs) room b d;
-        altered = λ zoom cs m′ a.
-            sees-book s grid number h lent m′ e (opens-too m′ (a .long) (λ j k. decided _ _ (λ q. a .only j q .only .opened k))) l t zoom cs (D .altered zoom cs m′ a) room b d;
-        literal = λ zoom cs m′ w a.
-            sees-book s grid number h lent m′ e (opens-too m′ (a .long) (λ j k. decided _ _ (λ q. a .only j q .opened k))) l t zoom cs (D .literal zoom cs m′ w a) room b d;
-      }
+      -- so a fetch reads the header and its feature alone, whatever the stored sizes are
+      alone : (v : Tile) (list left : List ℕ) → v ≡ shownTile t → left ≡ front (tilePlaces (kindsOf lay (tags .letters)) found grid number m) list
+          → FetchesAlone m s grid number tags lay (v .points) (v .ways) left
+      alone v list left q r =
+          let f : left ≡ front (featurePlaces (C .format h) m t) list = r ∙ ap (λ (x : List ℕ). front x list) places-are in
+          record {
+            stored = h;
+            place = l;
+            tile = t;
+            headerEnd = e;
+            opens = o;
+            past = past;
+            collects = ap (λ r. andThen {B = StoredTile (C .format h)} r (λ n _. collect (C .tileHead h n) (C .format h) m (C .tileAt h n))) en ∙ c;
+            same = λ k m′ a. rw (q, f) (fetched-is list k m′ a ∙ sym (fetched-is list k m (record { long = refl; only = λ j n. absurd (n refl) })));
+          }
 
-    -- the tile as stored
-    from-tile : (v : Tile) → v .exact ≡ true → answer v ≡ collectTile (kindsOf lay (tags .letters)) found grid number m → Says
-    from-tile v f q = go (collect (C .tileHead h l) (C .format h) m (C .tileAt h l)) refl (q ∙ collected-as s grid number h lent m e o l x en)
-      where
-        go : (r : Res (StoredTile (C .format h))) → collect (C .tileHead h l) (C .format h) m (C .tileAt h l) ≡ r → answer v ≡ answered (mapRes shownTile r) → Says
-        go (ok t past) c d = says t past c (ap (λ (a : Tile). a .exact) (sym (ok-val d)) ∙ f)
-        go (no k y) c d = no-ok (sym d)
+      module _ (sizes : allExact (t .ways) ≡ true) where
+        whole : MapCollects C m h l t
+        whole = record {
+          map = record { headerEnd = e; header = sym (opened-is s grid number m) ∙ o; entryEnd = x; entry = en };
+          past = past;
+          collects = ap (λ r. andThen {B = StoredTile (C .format h)} r (λ n _. collect (C .tileHead h n) (C .format h) m (C .tileAt h n))) en ∙ c;
+          sizes = sizes;
+          small = small;
+        }
 
-  from-map : (v : Tile) → v .exact ≡ true → answer v ≡ collectTile (kindsOf lay (tags .letters)) found grid number m → Says
+        D : Demand3 C m h l t
+        D = demand-3 C (mapsforge-laws s grid number) m h l t whole
+
+        says : Says
+        says = record {
+          stored = h;
+          place = l;
+          tile = t;
+          collects = whole;
+          demand-3 = D;
+          shows = shows;
+          entry = entry-is s grid number h lent m e o l x en;
+          fetches = λ list k m′ a lists left r f. subst (λ (x : Res (Fetched fetch.Feature)). fetch.FeatureIs x lists r left) (fetched-is list k m′ a) f;
+          sees = λ zoom cs. sees-book s grid number h lent m e o l t zoom cs (D .agrees zoom cs) room b d;
+          altered = λ zoom cs m′ a.
+              sees-book s grid number h lent m′ e (opens-too m′ (a .long) (λ j k. decided _ _ (λ q. a .only j q .only .opened k))) l t zoom cs (D .altered zoom cs m′ a) room b d;
+          literal = λ zoom cs m′ w a.
+              sees-book s grid number h lent m′ e (opens-too m′ (a .long) (λ j k. decided _ _ (λ q. a .only j q .opened k))) l t zoom cs (D .literal zoom cs m′ w a) room b d;
+        }
+
+  -- what is to be shown of the tile as stored
+  abbrev Shown : Type 0 → Tile → Type 0
+  Shown P v = (l : Located) (x : ℕ) (en : C .entry h m (C .entryAt h) ≡ ok l x) (t : StoredTile (C .format h)) (past : ℕ) → collect (C .tileHead h l) (C .format h) m (C .tileAt h l) ≡ ok t past → v ≡ shownTile t → P
+
+  from-map : (P : Type 0) (v : Tile) → Shown P v → answer v ≡ collectTile (kindsOf lay (tags .letters)) found grid number m → P
   unfolding collectTile
-  from-map v f q = go (C .entry h m (C .entryAt h)) refl (q ∙ ap (λ r. andThen {B = Tile} r (λ l _. answered (mapRes shownTile (collect (C .tileHead h l) (formatOf (kindsOf lay (tags .letters))) m (C .tileAt h l))))) (located-as s grid number h lent m e o))
+  from-map P v f q = go (C .entry h m (C .entryAt h)) refl (q ∙ ap (λ r. andThen {B = Tile} r (λ l _. answered (mapRes shownTile (collect (C .tileHead h l) (formatOf (kindsOf lay (tags .letters))) m (C .tileAt h l))))) (located-as s grid number h lent m e o))
     where
-      go : (r : Res Located) → C .entry h m (C .entryAt h) ≡ r → answer v ≡ andThen {B = Tile} (answered r) (λ l _. answered (mapRes shownTile (collect (C .tileHead h l) (formatOf (kindsOf lay (tags .letters))) m (C .tileAt h l)))) → Says
-      go (ok l x) en d = from-tile l x en v f q
+      tiled : (l : Located) (x : ℕ) (en : C .entry h m (C .entryAt h) ≡ ok l x) (r : Res (StoredTile (C .format h))) → collect (C .tileHead h l) (C .format h) m (C .tileAt h l) ≡ r → answer v ≡ answered (mapRes shownTile r) → P
+      tiled l x en (ok t past) c d = f l x en t past c (ok-val d)
+      tiled l x en (no k y) c d = no-ok (sym d)
+
+      go : (r : Res Located) → C .entry h m (C .entryAt h) ≡ r → answer v ≡ andThen {B = Tile} (answered r) (λ l _. answered (mapRes shownTile (collect (C .tileHead h l) (formatOf (kindsOf lay (tags .letters))) m (C .tileAt h l)))) → P
+      go (ok l x) en d = tiled l x en (collect (C .tileHead h l) (C .format h) m (C .tileAt h l)) refl (q ∙ collected-as s grid number h lent m e o l x en)
       go (no k y) en d = no-ok (sym d)
+
+  from-exact : (v : Tile) → v .exact ≡ true → answer v ≡ collectTile (kindsOf lay (tags .letters)) found grid number m → Says
+  from-exact v f q = from-map Says v (λ l x en t past c d. says l x en t past c (ap (λ (a : Tile). a .exact) (sym d) ∙ f)) q
 
 -- Demand 3, from the contracts
 pub book-says : (m : List ℕ) (subFile : ℕ) (grid : Grid) (number : ℕ) (lent : TagLists) (h : MapRead) (tags : TagLists) (l : TileLayout) (i : IntervalRead) (t : TileRead)
@@ -177,10 +197,37 @@ book-says m s grid number lent h tags l i t c =
     subst (λ x. BookSays m s grid number lent h x l (intervalFound i)) (sym g)
     (subst (λ x. BookSays m s grid number lent h filled x (intervalFound i)) (sym a)
     (subst (λ x. BookSays m s grid number lent h filled lay x) (sym b)
-    (from-map m (c .small) s grid number (k .header) (c .headerEnd) (k .read) lent (k .fits) h (record { header = k .shown; ends = c .opens; tags = refl }) (t .tile) (c .exact)
+    (from-exact m (c .small) s grid number (k .header) (c .headerEnd) (k .read) lent (k .fits) h (record { header = k .shown; ends = c .opens; tags = refl }) (t .tile) (c .exact)
     (q ∙ ap (λ (x : TagLists). collectTile (kindsOf l (x .letters)) (intervalFound i) grid number m) g
     ∙ ap (λ x. collectTile (kindsOf x (filled .letters)) (intervalFound i) grid number m) a
     ∙ ap (λ x. collectTile (kindsOf lay (filled .letters)) x grid number m) b))))
+
+-- Request 8, from the contracts, of every tile that collects
+pub fetches-alone : (m : List ℕ) → length m < 2 ^ 64 → (subFile : ℕ) (grid : Grid) (number : ℕ) (lent : TagLists) (h : MapRead) (tags : TagLists) (l : TileLayout) (i : IntervalRead) (e : ℕ) (t : TileRead) (room left : List ℕ)
+    → Answers m subFile lent h tags l (intervalFound i) → h .end ≡ end.At e
+    → TileIs (collectTile (kindsOf l (tags .letters)) (intervalFound i) grid number m) (tilePlaces (kindsOf l (tags .letters)) (intervalFound i) grid number m) room t left → t .answer ≡ tile-answer.Collected
+    → FetchesAlone m subFile grid number tags l (t .tile .points) (t .tile .ways) left
+fetches-alone m small s grid number lent h tags lays i e t room left n opens is collects =
+    let k = stored m lent h tags e (n .header) opens in
+    let filled = listsWritten (tagLists (k .header)) lent in
+    let lay = layoutOf (mapHeader (k .header)) in
+    let found = nth (intervalsOf (mapHeader (k .header))) s in
+    let g : tags ≡ filled = k .lists in
+    let a : lays ≡ lay = n .layout ∙ ap layoutOf (k .shown) in
+    let b : intervalFound i ≡ found = n .interval ∙ ap (λ x. nth (intervalsOf x) s) (k .shown) in
+    let c = is-collected _ _ room t left is collects in
+    subst (λ x. FetchesAlone m s grid number x lays (t .tile .points) (t .tile .ways) left) (sym g)
+    (subst (λ x. FetchesAlone m s grid number filled x (t .tile .points) (t .tile .ways) left) (sym a)
+    (from-map m small s grid number (k .header) e (k .read) lent (k .fits) h (record { header = k .shown; ends = opens; tags = refl }) (FetchesAlone m s grid number filled lay (t .tile .points) (t .tile .ways) left) (t .tile)
+    (λ l x en y past f d. alone m small s grid number (k .header) e (k .read) lent (k .fits) h (record { header = k .shown; ends = opens; tags = refl }) l x en y past f (t .tile) room left d
+    (c .list
+    ∙ ap (λ (x : TagLists). front (tilePlaces (kindsOf lays (x .letters)) (intervalFound i) grid number m) room) g
+    ∙ ap (λ x. front (tilePlaces (kindsOf x (filled .letters)) (intervalFound i) grid number m) room) a
+    ∙ ap (λ x. front (tilePlaces (kindsOf lay (filled .letters)) x grid number m) room) b))
+    (sym (c .tile)
+    ∙ ap (λ (x : TagLists). collectTile (kindsOf lays (x .letters)) (intervalFound i) grid number m) g
+    ∙ ap (λ x. collectTile (kindsOf x (filled .letters)) (intervalFound i) grid number m) a
+    ∙ ap (λ x. collectTile (kindsOf lay (filled .letters)) x grid number m) b)))
 
 -- each text that the replies give has the same bytes in both maps
 pub texts-alike : (m : List ℕ) (subFile : ℕ) (grid : Grid) (number : ℕ) (lent : TagLists) (h : MapRead) (tags : TagLists) (l : TileLayout) (i : Maybe Interval) (b : BookSays m subFile grid number lent h tags l i) (zoom : ℕ) (cs : List Call) (m′ : List ℕ)

@@ -5,7 +5,7 @@ use mathlib.Core.Path.{_≡_}
 use mathlib.Core.Bool.{true}
 use mathlib.Core.List.{List, [], _∷_}
 use lib.ListN.{length}
-use Rattle.parsing.specs.Parse.{Part, Maybe, nth}
+use Rattle.parsing.specs.Parse.{ok, Part, Maybe, nth}
 use Rattle.format.specs.Header.{Interval, Header, header, opened}
 use Rattle.format.specs.Index.{Grid, Located, tileIndexEntry}
 use Rattle.format.specs.Lent.{front, Reply}
@@ -24,6 +24,7 @@ use Rattle.agreement.specs.Calls.{Call}
 use Rattle.agreement.specs.Book.{bookReplies}
 use Rattle.agreement.specs.Collected.{CollectedTile, StoredTile, fetch}
 use Rattle.agreement.specs.Declined.{LiesIn, passedBytes, DifferOnly}
+use Rattle.agreement.specs.MapLayout as layout
 use Rattle.agreement.specs.MapLayout.{rowsAt}
 use Rattle.agreement.specs.View.{collectedTile}
 use Rattle.agreement.specs.Demand3.{Demand3, MapCollects, mapReplies, WaysBehind, OnlyDeclined, MapAlterable}
@@ -127,3 +128,16 @@ pub record BookSays (m : List ℕ) (subFile : ℕ) (grid : Grid) (number : ℕ) 
       → WaysBehind (mapsforge subFile grid number .format stored) m tile (rowsAt (mapsforge subFile grid number) stored zoom)
       → DifferOnly m m′ (OnlyDeclined (mapsforge subFile grid number) m stored cs (mapReplies (mapsforge subFile grid number) stored place tile zoom cs))
       → SeesBook subFile grid number stored place tile m′ lent h tags l i zoom cs
+
+-- Request 8 (document 02), of every tile that collects, whatever its stored sizes are: "altered bytes outside it, the header and index signatures
+-- change nothing". `tile` is the tile as stored; `places`, `points` and `ways` are what collecting gave.
+pub record FetchesAlone (m : List ℕ) (subFile : ℕ) (grid : Grid) (number : ℕ) (tags : TagLists) (l : TileLayout) (points ways : ℕ) (places : List ℕ) : Type 0 where
+  pub stored : Header
+  pub place : Located
+  pub tile : StoredTile (mapsforge subFile grid number .format stored)
+  pub headerEnd : ℕ
+  pub opens : opened m ≡ ok stored headerEnd
+  pub past : ℕ
+  pub collects : layout.collectTile (mapsforge subFile grid number) stored m ≡ ok tile past
+  pub same : (k : ℕ) (m′ : List ℕ) → DifferOnly m m′ (Unread subFile grid number stored place tile m k)
+      → fetchListed l (tags .starts) (tags .letters) places points ways k m′ ≡ fetchListed l (tags .starts) (tags .letters) places points ways k m

@@ -1,6 +1,6 @@
 -- Demand 3 by words (specs/WordBook.antt): each exported call is a call of the inner function on what the words say, and its state's
 -- words say the stream that the inner call left; so a chain of exported calls is a chain of inner calls.
-use Prim.Native.Nat.{ℕ, _+_, _%_, _≤_, _<_}
+use Prim.Native.Nat.{ℕ, _+_, _%_, _^_, _≤_, _<_}
 use mathlib.Core.Path.{_≡_, refl, sym, ap, _∙_, subst}
 use mathlib.Core.Bool.{Bool, true, false}
 use mathlib.Core.List.{List, [], _∷_}
@@ -79,8 +79,8 @@ use Rattle.exports.specs.Calls.{OpenOf, StreamOf, NextOf, AcceptOf, DeclineOf, 
 use Rattle.map_agreement.specs.Called.{Called}
 use Rattle.map_agreement.specs.Called as called
 use Rattle.map_agreement.specs.MapsforgeMap.{mapsforge}
-use Rattle.map_agreement.specs.BookSays.{BookSays, Opens, opens, Sees}
-use Rattle.map_agreement.proofs.Theorem.{book-says}
+use Rattle.map_agreement.specs.BookSays.{BookSays, Opens, opens, Sees, FetchesAlone}
+use Rattle.map_agreement.proofs.Theorem.{book-says, fetches-alone}
 use Rattle.word_agreement.specs.WordCalls.{shownAnswer, WordCalled, no-call, call-next, call-accept, call-decline, WordStreams}
 use Rattle.word_agreement.specs.WordBook.{IntervalLent, TileLent, ShowsTile, WordAnswers, WordCollected, WordSees, WordBook}
 use Rattle.word_agreement.proofs.ZoomBytes.{Zooms, zooms-at, header-zooms, header-few}
@@ -498,3 +498,32 @@ word-book m s grid number lists header tags interval c =
             → ShowsTile (shownTile (says .tile)) (featurePlaces (mapsforge s (gridOf grid) number .format (says .stored)) m (says .tile)) room left after
         go (summary.Value y) v a b d = shows-tile m (tags .letters) number (layoutIn layout) (intervalIn interval) grid room left before after l x y v (shownTile (says .tile)) _ b d
         go (summary.Refused r) v a b d = absurd (let z : _≡_ {A = ℕ} 1 0 = ap was (sym (ap answerOf v) ∙ a) in omega arith)
+
+-- Request 8, from the contracts of the exported functions, of every tile that collects: a fetch through the list that `mapsforge_collect` left, with
+-- the counts in its words, reads the header and the one feature alone
+pub word-alone : (m : List ℕ) → length m < 2 ^ 64 → ((j : ℕ) → getD m j 0 < 256) → (subFile : ℕ) (grid : Grid) (number : ℕ) (lists : TagLists) (header : Wire) (tags : TagLists) (interval : Wire)
+    → WordAnswers m subFile lists header tags interval → header .number ≡ 0 → (room left : TileLists) (before after : Wire) → TileLent before
+    → Crosses (tileWire before) (TileOf m (tags .letters) number room left (layoutIn (listOf header 1)) (intervalIn (listOf interval 1)) grid) after → after .number ≡ 0
+    → FetchesAlone m subFile (gridOf grid) number tags (layoutIn (listOf header 1)) (summaryIn after .points) (summaryIn after .ways) (left .places)
+word-alone m small bytes s grid number lists header tags interval n opened room left before after l x collects =
+    let k = whole-of m s lists header tags interval n in
+    let h = k .read in
+    let layout = listOf header 1 in
+    let i = intervalIn (listOf interval 1) in
+    let ends = ended m s lists header tags interval n opened in
+    let few = few-of m lists h tags (ends .0) bytes (k .is) (ends .1) in
+    let a = layout-of m s lists header tags interval n (ends .0) (ends .1) in
+    let b = interval-read-as m s lists header tags interval n (ends .0) (ends .1) few in
+    let v = tile-value before (x .answer) (sym (ap (λ (w : Wire). w .number) (x .crossed)) ∙ collects) in
+    let y = said m (tags .letters) number (layoutIn layout) i grid room left before after l x (v .0) (v .1) in
+    let read = tile-read m (tags .letters) number (layoutIn layout) i grid room left before after l x in
+    let t = tileRead m (tags .letters) number (layoutIn layout) i grid room left before after l x in
+    let f = fetches-alone m small s (gridOf grid) number lists h tags (layoutIn layout) i (ends .0) t (room .places) (left .places)
+    (record {
+      header = k .is;
+      layout = ap layoutIn a ∙ layout-taken (h .header) (ends .0);
+      interval = ap intervalFound b ∙ read-taken (nth (intervalsOf (h .header)) s) (zooms-of m lists h tags (ends .0) s bytes (k .is) (ends .1));
+    })
+    (ends .1) (tile-is m (tags .letters) number (layoutIn layout) i grid room left before after l x) (ap answerOf (v .1)) in
+    subst (λ (z : TileSummary). FetchesAlone m s (gridOf grid) number tags (layoutIn layout) (z .points) (z .ways) (left .places))
+    (sym (read-as after (v .0) collects (read ∙ v .1) ∙ y)) f
