@@ -125,7 +125,7 @@ module _ (F : Format) (L : Laws F) (m m' : List ℕ) (long : length m ≡ length
         high = b;
         lows = f;
         highs = f;
-        sound = s-untried (L.Head-post.holds m v w.head b h).1 d x;
+        sound = s-untried (L.head_post.holds m v w.head b h).1 d x;
         declined = λ j q. nowhere q;
         reads = λ g. rw (L.head-good.near m m' v w.head b (record { long = long; same = λ j p q. g j p q nowhere }) h);
       }

@@ -64,7 +64,7 @@ module _ (F : Format) (L : Laws F) where
   body_of : (m : List ℕ) (i : ℕ) (w : Way F) (x : ℕ) → (r : Read F m i w x) → x < 2 ^ 64 → T (exact w) → Body F m r.behind w × (x ≡ data_end F w.head)
   body_of m i w x r f t =
       let s = eqb→eq (F.size w.head) (w.end - F.start w.head) t in
-      let a = L.Head-post.holds m i w.head r.behind r.head in
+      let a = L.head_post.holds m i w.head r.behind r.head in
       let b = L.body-good.forth m r.behind w.body w.end r.body in
       let e : w.end ≡ data_end F w.head = omega (arith, a.0) in
       let c : cut (data_end F w.head) ≡ data_end F w.head = cut_fits (data_end F w.head) (omega (arith, r.end)) in
@@ -84,7 +84,7 @@ module _ (F : Format) (L : Laws F) where
 pub ways-first : {F : Format} {m : List ℕ} {i : ℕ} {ws : List (Way F)} (k : ℕ) → Ways F m i ws → Ways F m i (take k ws)
 ways-first zero x = nil
 ways-first (suc k) nil = nil
-ways-first (suc k) (cons h b x) = cons h b (ways-first k x)
+ways-first {F = F} (suc k) (cons {w = w} h b x) = cons h b (ways-first {i = cut (data_end F w.head)} k x)
 
 -- the counts under other names
 same_by : (F : Format) (m : List ℕ) (z : F.End) {ps : List F.Point} {ws : List (Way F)} {i v e n k : ℕ} → Chain F.point m i ps e → Ways F m v ws

@@ -2,6 +2,8 @@
 // and calls next, accept and decline. Its contract is proved by the theorem `book-says`, from the contracts of the functions that it calls.
 // So if one of these contracts is weakened, or what the theorem supposes of them is no longer what they ensure, this crate is refused.
 // Nothing calls it.
+#![tactic(auto)]
+
 ghost use Rattle.types.specs.Types.{grid_of};
 ghost use Rattle.index.specs.Answers.{interval_found};
 ghost use Rattle.opening.specs.Opening.{lists};
@@ -18,7 +20,7 @@ use types::Grid;
 use visit::{AcceptAnswer, DeclineAnswer, NextAnswer, OpenRead, Stream};
 
 // How the map opened, and what tiles need of its header.
-#[derive(Drop)]
+#[derive(Clone, Copy)]
 pub struct OpenedMap {
     pub end: OpenEnd,
     pub layout: TileLayout,
@@ -26,7 +28,7 @@ pub struct OpenedMap {
 }
 
 // Whether the tile collects, and whether every way's stored size is its decoded length.
-#[derive(Drop)]
+#[derive(Clone, Copy)]
 pub enum Collecting {
     Exact,
     Inexact,
@@ -34,14 +36,14 @@ pub enum Collecting {
 }
 
 // What the three calls answered. The point and the head that stand beside the first answer are not handed on.
-#[derive(Drop)]
+#[derive(Clone, Copy)]
 pub struct Replies {
     pub next: NextAnswer,
     pub accepted: AcceptAnswer,
     pub declined: DeclineAnswer,
 }
 
-#[derive(Drop)]
+#[derive(Clone, Copy)]
 pub enum Outcome {
     // the map does not open, or the tile does not collect; 15 if a list is too short for it
     Refused(LentRefusal),

@@ -1,4 +1,6 @@
 // What the language has no operation for: products and powers modulo 2^64, and sums cut at 2^64 - 1.
+#![tactic(auto)]
+
 ghost use Rattle.std.specs.Prelude.{◌≡◌, ◌+◌, ◌*◌, ◌%◌, ◌^◌};
 ghost use Rattle.arithmetic.specs.Cut.{cut};
 

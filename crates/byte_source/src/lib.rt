@@ -1,5 +1,7 @@
 // io.rs: big-endian reads at a place of the lent map. Seeking always succeeds: a place is a number, and a read past the end is
 // refusal 1.
+#![tactic(auto)]
+
 ghost use Rattle.std.specs.Prelude.{◌≡◌, ◌+◌, ◌*◌, ◌/◌, ◌%◌, ◌≤◌, ◌<◌, ◌^◌, length, take, drop};
 ghost use Rattle.parsing.specs.Parse.{byte, part};
 ghost use Rattle.byte_source.specs.BigEndian.{Holds, big_endian, twos_complement, int32};
@@ -8,44 +10,44 @@ ghost use Rattle.byte_source.specs.Answers.{byte_res, byte_refusal, short_res, s
 use error::Refusal;
 
 // A part of the map: where it starts and how many bytes it has.
-#[derive(Drop)]
+#[derive(Clone, Copy)]
 pub struct Span {
     pub start: usize,
     pub size: usize,
 }
 
 // Each answer is a value with the place behind it, or a refusal.
-#[derive(Drop)]
+#[derive(Clone, Copy)]
 pub enum ByteRead {
     Value(u8, usize),
     Refused(Refusal),
 }
 
-#[derive(Drop)]
+#[derive(Clone, Copy)]
 pub enum ShortRead {
     Value(u16, usize),
     Refused(Refusal),
 }
 
-#[derive(Drop)]
+#[derive(Clone, Copy)]
 pub enum WordRead {
     Value(u32, usize),
     Refused(Refusal),
 }
 
-#[derive(Drop)]
+#[derive(Clone, Copy)]
 pub enum IntRead {
     Value(i32, usize),
     Refused(Refusal),
 }
 
-#[derive(Drop)]
+#[derive(Clone, Copy)]
 pub enum NumberRead {
     Value(u64, usize),
     Refused(Refusal),
 }
 
-#[derive(Drop)]
+#[derive(Clone, Copy)]
 pub enum SpanRead {
     Value(Span, usize),
     Refused(Refusal),

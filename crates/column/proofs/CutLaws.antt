@@ -50,6 +50,7 @@ lt-le x y t = or_left (lt x y) (eq x y) t
   where
     or_left : (b c : Bool) → T b → T (b || c)
     or_left true c t = tt
+    or_left false c t = elim t [ ]
 
 -- what no test caught: a number that `truncating_f64_to_i64` takes, and 32 bits hold its whole part
 record Inside (x : Float) : Type 0 where

@@ -1,4 +1,6 @@
 // tile.rs: the column of a longitude, and the longitude of a column.
+#![tactic(auto)]
+
 ghost use Rattle.std.specs.Prelude.{◌≡◌, ◌^◌, ◌≤◌};
 ghost use Rattle.std.specs.Float.Ieee as Ieee;
 ghost use Rattle.column.specs.Column.{as_float, longitude, column, longitude_res, column_res};
@@ -9,13 +11,13 @@ use utils::Degrees;
 // A larger zoom is refused: 1 << zoom would not fit 64 bits.
 const MAX_ZOOM: u8 = 63;
 
-#[derive(Drop)]
+#[derive(Clone, Copy)]
 pub enum LongitudeRead {
     Value(Degrees),
     Refused(Refusal),
 }
 
-#[derive(Drop)]
+#[derive(Clone, Copy)]
 pub enum ColumnRead {
     Value(i32),
     Refused(Refusal),

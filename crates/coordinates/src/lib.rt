@@ -1,9 +1,11 @@
 // Coordinates passed over without decoding them: the fast half of a first pass over a way's data.
+#![tactic(auto)]
+
 ghost use Rattle.std.specs.Prelude.{◌≡◌, ◌+◌, ◌*◌, ◌≤◌, length};
 ghost use Rattle.coordinates.specs.Skip.{short, skip_of, skip_one, plain_end, is_off, any_off, open_in, start_of, PassedTo};
 
 // Whether all of some short coordinates were plain and where they end, or that they are not all short, or that the map may end in them.
-#[derive(Drop)]
+#[derive(Clone, Copy)]
 pub enum Skip {
     At(bool, usize),
     Unknown,
@@ -103,7 +105,7 @@ fn start_of(map: &[u8], back: usize) -> usize
 }
 
 // Where the numbers start that are not passed yet, and how many they are.
-#[derive(Drop)]
+#[derive(Clone, Copy)]
 struct Rest {
     next: usize,
     left: u64,

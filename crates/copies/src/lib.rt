@@ -1,4 +1,6 @@
 // Copies of a map for the runs against the Rust, and damage done to them.
+#![tactic(auto)]
+
 ghost use Rattle.std.specs.Prelude.{◌≡◌};
 ghost use Rattle.std.proofs.lemmas.List.Edits.{sets};
 ghost use Rattle.copies.specs.Damage.{turned, damaged};

@@ -1,9 +1,11 @@
 // error.rs: why a call has no result.
+#![tactic(auto)]
+
 ghost use Rattle.std.specs.Prelude.{◌≡◌};
 ghost use Rattle.error.specs.Refusals.{number_of, lent_number, short_buffer, in_index, in_tile_head};
 
 // The lengths that a call needs: of the lists in the order in which it takes them, and of the buffer. 0 where it takes none.
-#[derive(Drop)]
+#[derive(Clone, Copy)]
 pub struct Lengths {
     pub list1: u64,
     pub list2: u64,
@@ -15,7 +17,7 @@ pub struct Lengths {
 
 // The table "Answers other than a result" of document 01, in its order, but for 15. The first ten are the Rust's `MapforgeError`. No value is
 // wider than a word: every answer of a read holds one.
-#[derive(Drop)]
+#[derive(Clone, Copy)]
 pub enum Refusal {
     // 1: the map ends too early
     Source,
@@ -58,7 +60,7 @@ pub enum Refusal {
 }
 
 // Why a call that is lent lists or a buffer has no result.
-#[derive(Drop)]
+#[derive(Clone, Copy)]
 pub enum LentRefusal {
     Refused(Refusal),
     // 15: a lent list or buffer is shorter than the result, with the lengths needed

@@ -2,6 +2,8 @@
 // address and its length, an array by its address alone. Each call answers 0, or the number of a refusal, whose values go to the first
 // words. An answer writes its own words, and the others keep their values. What a call needs of the header is handed in: the layout that
 // opening gave, and its sub file's interval.
+#![tactic(auto)]
+
 ghost use Rattle.std.specs.Prelude.{◌≡◌, [], ◌∷◌, length};
 ghost use Rattle.parsing.specs.Parse.{map_res};
 ghost use Rattle.format.specs.WayData.{way_data};

@@ -1,4 +1,6 @@
 // tag.rs: the texts of a collected feature as a fetch tells of them, with the tags that are made of them.
+#![tactic(auto)]
+
 ghost use Rattle.std.specs.Prelude.{◌≡◌, min};
 ghost use Rattle.types.specs.Types.{maybe_part};
 ghost use Rattle.fetched.specs.Fetched.{tag_string, keyed, no_text, no_texts};

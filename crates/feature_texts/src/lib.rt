@@ -1,5 +1,7 @@
 // tag.rs and tile.rs: the texts of a collected feature in a lent buffer: its tags' strings in the order of its ids, then its name, house
 // number and reference. A text that is absent takes no room.
+#![tactic(auto)]
+
 ghost use Rattle.std.specs.Prelude.{◌≡◌, ◌+◌, ◌≤◌, length};
 ghost use Rattle.std.proofs.lemmas.List.Edits.{sets};
 ghost use Rattle.arithmetic.specs.Cut.{cut};
@@ -13,7 +15,7 @@ use text::Written;
 use types::{OptionalSpan, TagRange};
 
 // What a feature's texts are made of.
-#[derive(Drop)]
+#[derive(Clone, Copy)]
 pub struct TextParts {
     pub tags: TagRange,
     pub name: OptionalSpan,

@@ -1,5 +1,7 @@
 // What a collected tile and a fetched feature answer, as words for programs in other languages. An answer writes its own words; the others
 // keep their values.
+#![tactic(auto)]
+
 ghost use Rattle.std.specs.Prelude.{◌≡◌, [], ◌∷◌};
 ghost use Rattle.std.proofs.lemmas.List.Edits.{sets};
 ghost use Rattle.wire.specs.Wire.{wire, lending};
@@ -40,7 +42,7 @@ pub fn put_tile(read: SummaryRead, words: &mut [u64; 15]) -> u64
     }
 }
 
-#[derive(Drop)]
+#[derive(Clone, Copy)]
 struct TextWords {
     present: u64,
     len: u64,

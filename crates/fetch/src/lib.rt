@@ -1,4 +1,6 @@
 // tile.rs: a feature of a collected tile, by its number: points from 0, ways behind them. It is read from where collecting listed it.
+#![tactic(auto)]
+
 ghost use Rattle.std.specs.Prelude.{◌≡◌};
 ghost use Rattle.fetch_way.specs.FetchWay.{lent};
 ghost use Rattle.fetch.specs.Fetch.{answer_at, of_poi, of_way, no_fetch, place_res, listed_place, fetch_listed, way_end, OtherAt, FeatureIs};
@@ -11,7 +13,7 @@ use tile_layout::TileLayout;
 use types::End;
 
 // Where a point starts, or a way; its signature's place in debug maps.
-#[derive(Drop)]
+#[derive(Clone, Copy)]
 enum FeaturePlace {
     Point(usize),
     Way(usize),

@@ -1,4 +1,6 @@
 // poi.rs and tag.rs: a point as a fetch gives it, its texts in a lent buffer.
+#![tactic(auto)]
+
 ghost use Rattle.std.specs.Prelude.{◌≡◌};
 ghost use Rattle.fetch_poi.specs.FetchPoi.{poi_parts, poi_with, empty_poi, poi_stored, PoiFetchIs, PoiWritten};
 
@@ -10,7 +12,7 @@ use tagged::TagIds;
 use types::{End, OptionalSpan, Position, TagRange};
 
 // Where the fetch is refused, the point is empty.
-#[derive(Drop)]
+#[derive(Clone, Copy)]
 pub struct PoiFetch {
     pub poi: FetchedPoi,
     pub end: FetchEnd,

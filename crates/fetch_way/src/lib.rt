@@ -1,4 +1,6 @@
 // way.rs and tag.rs: a way as a fetch gives it, its nodes and its blocks' initial positions in lent lists, its texts in a lent buffer.
+#![tactic(auto)]
+
 ghost use Rattle.std.specs.Prelude.{◌≡◌, ◌≤◌, length};
 ghost use Rattle.measured_way.specs.MeasuredWay.{way_stored};
 ghost use Rattle.fetch_way.specs.FetchWay.{lent, WayFetchIs, answer_of, texts_written};
@@ -9,7 +11,7 @@ use measured_way::{MeasuredWay, TextPlan};
 use types::TagRange;
 
 // Where the fetch is refused, the way is empty.
-#[derive(Drop)]
+#[derive(Clone, Copy)]
 pub struct WayFetch {
     pub way: FetchedWay,
     pub end: FetchEnd,

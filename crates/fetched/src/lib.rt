@@ -1,4 +1,6 @@
 // What is handed out of a fetched feature: records, and their definitions in specs/. No code.
+#![tactic(auto)]
+
 use error::LentRefusal;
 use poi::OptionalElevation;
 use tag::Tag;
@@ -6,13 +8,13 @@ use tagged::TagIds;
 use types::{OptionalPosition, OptionalSpan, Position};
 
 // A text in the lent buffer: its length there, and the tag that is made of it.
-#[derive(Drop)]
+#[derive(Clone, Copy)]
 pub struct TagText {
     pub len: usize,
     pub tag: Tag,
 }
 
-#[derive(Drop)]
+#[derive(Clone, Copy)]
 pub enum OptionalText {
     Absent,
     At(TagText),
@@ -20,7 +22,7 @@ pub enum OptionalText {
 
 // The texts of a feature in the order of the buffer: one for each tag id, from the front, empty ones behind them; then the others. A
 // text that is absent takes no room.
-#[derive(Drop)]
+#[derive(Clone, Copy)]
 pub struct FeatureTexts {
     pub tags: [TagText; 15],
     pub name: OptionalText,
@@ -29,7 +31,7 @@ pub struct FeatureTexts {
 }
 
 // A fetched point. Its signature is a raw part of the map. `plain`: whether every number of it was.
-#[derive(Drop)]
+#[derive(Clone, Copy)]
 pub struct FetchedPoi {
     pub signature: OptionalSpan,
     pub position: Position,
@@ -42,7 +44,7 @@ pub struct FetchedPoi {
 
 // A fetched way. `blocks` and `nodes` count what stands in the lent lists. `plain`: whether every number of it was; `head_plain`: of its
 // head, as a stream's next says.
-#[derive(Drop)]
+#[derive(Clone, Copy)]
 pub struct FetchedWay {
     pub signature: OptionalSpan,
     pub tag_ids: TagIds,
@@ -58,13 +60,13 @@ pub struct FetchedWay {
 }
 
 // Where a feature that is fetched ends, or why there is none.
-#[derive(Drop)]
+#[derive(Clone, Copy)]
 pub enum FetchEnd {
     At(usize),
     Refused(LentRefusal),
 }
 
-#[derive(Drop)]
+#[derive(Clone, Copy)]
 pub enum FetchAnswer {
     Point,
     Way,
@@ -72,7 +74,7 @@ pub enum FetchAnswer {
 }
 
 // The point and the way stand beside the answer; each is empty where it is not the answer.
-#[derive(Drop)]
+#[derive(Clone, Copy)]
 pub struct Fetch {
     pub answer: FetchAnswer,
     pub poi: FetchedPoi,

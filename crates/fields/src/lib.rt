@@ -1,4 +1,6 @@
 // poi.rs, way.rs and header.rs: the fields that points, ways and the header have alike, but for tags.
+#![tactic(auto)]
+
 ghost use Rattle.std.specs.Prelude.{◌≡◌};
 ghost use Rattle.parsing.specs.Parse.{map_res, optional};
 ghost use Rattle.utils.specs.Vbe.{text, noted_text};
@@ -11,33 +13,33 @@ use error::Refusal;
 use types::{OptionalSpan, Position};
 use utils::{MicroRead, TextRead};
 
-#[derive(Drop)]
+#[derive(Clone, Copy)]
 pub enum OptionalSpanRead {
     Value(OptionalSpan, usize),
     Refused(Refusal),
 }
 
 // A text that a flag announces, and whether the encoding of its length was plain; without the text there is no number that is not.
-#[derive(Drop)]
+#[derive(Clone, Copy)]
 pub struct NotedSpan {
     pub span: OptionalSpan,
     pub plain: bool,
 }
 
-#[derive(Drop)]
+#[derive(Clone, Copy)]
 pub enum NotedSpanRead {
     Value(NotedSpan, usize),
     Refused(Refusal),
 }
 
 // A position, and whether the encodings of both coordinates were plain.
-#[derive(Drop)]
+#[derive(Clone, Copy)]
 pub struct NotedPosition {
     pub position: Position,
     pub plain: bool,
 }
 
-#[derive(Drop)]
+#[derive(Clone, Copy)]
 pub enum PositionRead {
     Value(NotedPosition, usize),
     Refused(Refusal),

@@ -1,4 +1,6 @@
 // Next with no quick reader, for the comparison driver alone, which holds the library's next to it. It is no part of the library that ships.
+#![tactic(auto)]
+
 ghost use Rattle.std.specs.Prelude.{[], ◌∷◌};
 ghost use Rattle.agreement.specs.Stream.{on_next};
 ghost use Rattle.tile_layout.specs.TileLayout.{kinds_of, format_of};

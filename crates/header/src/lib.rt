@@ -1,4 +1,6 @@
 // header.rs: the file header. It is read without its intervals, which stand last; `with_intervals` adds them.
+#![tactic(auto)]
+
 ghost use Rattle.std.specs.Prelude.{◌≡◌};
 ghost use Rattle.parsing.specs.Parse.{and_then};
 ghost use Rattle.format.specs.Header.{tables, header};
@@ -21,14 +23,14 @@ use types::{
 use utils::Microdegrees;
 
 // The header without its intervals, with the place behind it.
-#[derive(Drop)]
+#[derive(Clone, Copy)]
 pub enum FieldsRead {
     Value(HeaderFields, usize),
     Refused(Refusal),
 }
 
 // The header, with the place behind it; beside a refusal an empty header.
-#[derive(Drop)]
+#[derive(Clone, Copy)]
 pub struct HeaderRead {
     pub header: MapHeader,
     pub end: End,

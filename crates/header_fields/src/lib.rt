@@ -1,4 +1,6 @@
 // header.rs: the fields that every header has in front of the optional ones.
+#![tactic(auto)]
+
 ghost use Rattle.std.specs.Prelude.{◌≡◌, ◌&&◌};
 ghost use Rattle.std.specs.Int.Signed.{le_z};
 ghost use Rattle.format.specs.Header.{same, versioned, preamble, place, box, between, on_earth, valid_box};
@@ -9,31 +11,31 @@ use error::Refusal;
 use utils::Microdegrees;
 
 // A position as stored.
-#[derive(Drop)]
+#[derive(Clone, Copy)]
 pub struct StoredPosition {
     pub latitude: Microdegrees,
     pub longitude: Microdegrees,
 }
 
-#[derive(Drop)]
+#[derive(Clone, Copy)]
 pub enum StoredPositionRead {
     Value(StoredPosition, usize),
     Refused(Refusal),
 }
 
-#[derive(Drop)]
+#[derive(Clone, Copy)]
 pub struct StoredBox {
     pub min: StoredPosition,
     pub max: StoredPosition,
 }
 
-#[derive(Drop)]
+#[derive(Clone, Copy)]
 pub enum StoredBoxRead {
     Value(StoredBox, usize),
     Refused(Refusal),
 }
 
-#[derive(Drop)]
+#[derive(Clone, Copy)]
 pub struct Preamble {
     pub file_size: u64,
     pub creation_date: u64,
@@ -41,7 +43,7 @@ pub struct Preamble {
     pub file_version: u32,
 }
 
-#[derive(Drop)]
+#[derive(Clone, Copy)]
 pub enum PreambleRead {
     Value(Preamble, usize),
     Refused(Refusal),

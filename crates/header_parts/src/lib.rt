@@ -1,4 +1,6 @@
 // header.rs: what every header has up to its flags, and the fields that the flags announce.
+#![tactic(auto)]
+
 ghost use Rattle.std.specs.Prelude.{◌≡◌};
 ghost use Rattle.parsing.specs.Parse.{byte, optional};
 ghost use Rattle.format.specs.Header.{place, front, options};
@@ -12,7 +14,7 @@ use header_fields::{
 };
 use types::{OptionalByte, OptionalSpan};
 
-#[derive(Drop)]
+#[derive(Clone, Copy)]
 pub struct Front {
     pub preamble: Preamble,
     pub bounding_box: StoredBox,
@@ -21,31 +23,31 @@ pub struct Front {
     pub flags: u8,
 }
 
-#[derive(Drop)]
+#[derive(Clone, Copy)]
 pub enum FrontRead {
     Value(Front, usize),
     Refused(Refusal),
 }
 
-#[derive(Drop)]
+#[derive(Clone, Copy)]
 pub enum OptionalStored {
     Absent,
     At(StoredPosition),
 }
 
-#[derive(Drop)]
+#[derive(Clone, Copy)]
 pub enum OptionalStoredRead {
     Value(OptionalStored, usize),
     Refused(Refusal),
 }
 
-#[derive(Drop)]
+#[derive(Clone, Copy)]
 pub enum OptionalByteRead {
     Value(OptionalByte, usize),
     Refused(Refusal),
 }
 
-#[derive(Drop)]
+#[derive(Clone, Copy)]
 pub struct Options {
     pub start_position: OptionalStored,
     pub language_preference: OptionalSpan,
@@ -54,7 +56,7 @@ pub struct Options {
     pub start_zoom_level: OptionalByte,
 }
 
-#[derive(Drop)]
+#[derive(Clone, Copy)]
 pub enum OptionsRead {
     Value(Options, usize),
     Refused(Refusal),

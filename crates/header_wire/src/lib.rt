@@ -1,4 +1,6 @@
 // The header as words, and what tiles and sub files need of it, which other calls take back.
+#![tactic(auto)]
+
 ghost use Rattle.std.specs.Prelude.{◌≡◌, [], ◌∷◌, cond};
 ghost use Rattle.std.proofs.lemmas.List.Edits.{sets};
 ghost use Rattle.format.specs.Header.{bit};
@@ -9,7 +11,7 @@ use opening::ListedRead;
 use tile_layout::TileLayout;
 use types::{HeaderFields, IntervalTable, OptionalByte, TagRange};
 
-#[derive(Drop)]
+#[derive(Clone, Copy)]
 struct ByteWords {
     present: u64,
     value: u64,

@@ -1,4 +1,6 @@
 // A header's fields and the answers of its index, as words.
+#![tactic(auto)]
+
 ghost use Rattle.std.specs.Prelude.{◌≡◌};
 ghost use Rattle.header_words.specs.Fields.{text_pushed, optional_text_pushed, position_pushed, box_pushed, optional_position_pushed, optional_byte_pushed, tag_mixed, interval_mixed};
 ghost use Rattle.header_words.specs.Index.{sub_file_words, count_words, index_words, entry_words};

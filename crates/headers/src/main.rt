@@ -1,5 +1,7 @@
 // Replays the Rust's answers for headers without any Rust. Standard input is a list of records: a letter for what is asked, the length
 // of the input in 4 bytes, the input. Each answer is a line of words; `compare/run maps-sample` writes both sides.
+#![tactic(auto)]
+
 mod damage;
 mod opened;
 

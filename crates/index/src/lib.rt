@@ -1,4 +1,6 @@
 // tile.rs and visit.rs: sub files, the tiles of their grids, and the tile index.
+#![tactic(auto)]
+
 ghost use Rattle.std.specs.Prelude.{◌≡◌, cond, ◌+◌, ◌*◌, ◌≤◌, ◌<◌, ◌^◌, nat_abs, ◌-ℤ◌};
 ghost use Rattle.std.specs.Int.Signed.{le_z};
 ghost use Rattle.arithmetic.specs.Cut.{cut};
@@ -14,33 +16,33 @@ use error::Refusal;
 use types::{Grid, MapHeader, ZoomInterval};
 
 // The number of a sub file, counted from 0.
-#[derive(Drop)]
+#[derive(Clone, Copy)]
 pub enum SubFile {
     Absent,
     At(usize),
 }
 
-#[derive(Drop)]
+#[derive(Clone, Copy)]
 pub enum IntervalRead {
     Absent,
     At(ZoomInterval),
 }
 
 // The number of a grid's tiles.
-#[derive(Drop)]
+#[derive(Clone, Copy)]
 pub enum GridRead {
     Tiles(u64),
     Refused(Refusal),
 }
 
-#[derive(Drop)]
+#[derive(Clone, Copy)]
 pub enum CountRead {
     Absent,
     Count(u32),
     Refused(Refusal),
 }
 
-#[derive(Drop)]
+#[derive(Clone, Copy)]
 pub enum IndexRead {
     Absent,
     At(usize),
@@ -48,14 +50,14 @@ pub enum IndexRead {
 }
 
 // An entry of the tile index: where the tile stands, from its sub file's start and from the map's (2^64 - 1 for any larger place).
-#[derive(Drop)]
+#[derive(Clone, Copy)]
 pub struct TileIndexEntry {
     pub offset: u64,
     pub offset_abs: u64,
     pub is_water: bool,
 }
 
-#[derive(Drop)]
+#[derive(Clone, Copy)]
 pub enum EntryRead {
     Entry(TileIndexEntry),
     Refused(Refusal),

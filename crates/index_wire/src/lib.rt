@@ -1,5 +1,7 @@
 // What is asked of sub files, tiles, tags, texts, columns and a way's data, as words for programs in other languages. An answer writes its
 // own words; the others keep their values.
+#![tactic(auto)]
+
 ghost use Rattle.std.specs.Prelude.{◌≡◌, [], ◌∷◌};
 ghost use Rattle.wire.specs.Wire.{wire, lending};
 ghost use Rattle.index_wire.specs.Index.{put_found, put_absent, count_wire, index_wire, sub_file_wire, interval_wire, interval_in, entry_wire, kind_word, tag_wire, text_wire, column_wire, longitude_wire, put_sizes, way_data_wire, data_written_wire};

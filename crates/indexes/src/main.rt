@@ -1,6 +1,8 @@
 // Replays the Rust's answers for the index, the tags and the columns without any Rust. Standard input is a list of records: a letter for
 // what is asked, the length of the input in 4 bytes, the input. Each answer is a line of words; `compare/run index-sample` writes both
 // sides.
+#![tactic(auto)]
+
 mod answers;
 mod columns;
 

@@ -1,4 +1,6 @@
 // Shows the header of the map that its argument names.
+#![tactic(auto)]
+
 mod show;
 
 use types::End;

@@ -1,4 +1,6 @@
 // way.rs: the initial positions of a way's blocks, from the node counts and the coordinates that were read.
+#![tactic(auto)]
+
 ghost use Rattle.std.specs.Prelude.{◌≡◌, ◌+◌, ◌≤◌, min, drop};
 ghost use Rattle.initial_positions.specs.Initial.{first_of, write_initials};
 

@@ -1,5 +1,7 @@
 // A block at its limit, which is too long for the other programs' input: 2^20 nodes pass, one more is 10. `bench/run` holds the same
 // blocks to the Rust, all their nodes included; here the lists are too short on purpose.
+#![tactic(auto)]
+
 use report::Words;
 use way_data::WayDataWritten;
 use way_measure::WayDataRead;

@@ -1,4 +1,6 @@
 // way.rs and tag.rs: a way as a fetch tells of it, and whether lists of given lengths have room for it. Nothing is written yet.
+#![tactic(auto)]
+
 ghost use Rattle.std.specs.Prelude.{◌≡◌, not};
 ghost use Rattle.measured_way.specs.MeasuredWay.{empty_way, no_text_plan, way_parts, way_with, roomy, too_short, no_way, MeasuredIs, BodyMeasured, WayTold};
 
@@ -12,14 +14,14 @@ use way_head::WayHead;
 use way_lists::ListPlan;
 
 // What a way's texts are made of.
-#[derive(Drop)]
+#[derive(Clone, Copy)]
 pub struct TextPlan {
     pub tag_ids: TagIds,
     pub parts: TextParts,
 }
 
 // A way, with what is to be written of it. Where it is refused, the way is empty and nothing is to be written.
-#[derive(Drop)]
+#[derive(Clone, Copy)]
 pub struct MeasuredWay {
     pub way: FetchedWay,
     pub texts: TextPlan,

@@ -1,4 +1,6 @@
 // tile.rs, `from_source`: opening a map; and opening it with lists of its tag strings.
+#![tactic(auto)]
+
 ghost use Rattle.std.specs.Prelude.{◌≡◌};
 ghost use Rattle.byte_source.specs.Answers.{part_in};
 ghost use Rattle.format.specs.Header.{signature, opened};
@@ -16,21 +18,21 @@ use types::{End, HeaderFields, IntervalTable, MapHeader, TagTable};
 use zoom_intervals::IntervalRead;
 
 // The header without its intervals, with the place behind it, of a map whose tags are listed; or why there is none.
-#[derive(Drop)]
+#[derive(Clone, Copy)]
 pub enum ListedRead {
     Value(HeaderFields, usize),
     Refused(LentRefusal),
 }
 
 // Where the header of a map ends whose tags are listed.
-#[derive(Drop)]
+#[derive(Clone, Copy)]
 pub enum OpenEnd {
     At(usize),
     Refused(LentRefusal),
 }
 
 // The header, with the place behind it; beside a refusal an empty header.
-#[derive(Drop)]
+#[derive(Clone, Copy)]
 pub struct MapRead {
     pub header: MapHeader,
     pub end: OpenEnd,

@@ -1,4 +1,6 @@
 // poi.rs: a point of a tile.
+#![tactic(auto)]
+
 ghost use Rattle.std.specs.Prelude.{◌≡◌};
 ghost use Rattle.parsing.specs.Parse.{map_res, optional, Part, Maybe};
 ghost use Rattle.utils.specs.Vbe.{Noted, noted_signed};
@@ -17,14 +19,14 @@ use types::{End, OptionalSpan, Position, TagRange};
 use utils::SignedRead;
 
 // In metres.
-#[derive(Drop)]
+#[derive(Clone, Copy)]
 pub enum OptionalElevation {
     Absent,
     At(i32),
 }
 
 // A point. Its texts and its signature are raw parts of the map. `plain`: whether the encodings of all its numbers were plain.
-#[derive(Drop)]
+#[derive(Clone, Copy)]
 pub struct Poi {
     pub signature: OptionalSpan,
     pub position: Position,
@@ -36,26 +38,26 @@ pub struct Poi {
     pub plain: bool,
 }
 
-#[derive(Drop)]
+#[derive(Clone, Copy)]
 pub struct PoiRead {
     pub poi: Poi,
     pub end: End,
 }
 
-#[derive(Drop)]
+#[derive(Clone, Copy)]
 struct NotedElevation {
     elevation: OptionalElevation,
     plain: bool,
 }
 
-#[derive(Drop)]
+#[derive(Clone, Copy)]
 enum ElevationRead {
     Value(NotedElevation, usize),
     Refused(Refusal),
 }
 
 // What a point's flags announce.
-#[derive(Drop)]
+#[derive(Clone, Copy)]
 struct PoiFields {
     name: OptionalSpan,
     house_number: OptionalSpan,
@@ -63,7 +65,7 @@ struct PoiFields {
     plain: bool,
 }
 
-#[derive(Drop)]
+#[derive(Clone, Copy)]
 enum PoiFieldsRead {
     Value(PoiFields, usize),
     Refused(Refusal),

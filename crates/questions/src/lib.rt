@@ -1,4 +1,6 @@
 // The numbers of a question that the runs against the Rust ask, and the simplest answers.
+#![tactic(auto)]
+
 ghost use Rattle.std.specs.Prelude.{◌≡◌, cond, [], ◌∷◌};
 ghost use Rattle.questions.specs.Numbers.{byte_at, number_at, int_at};
 ghost use Rattle.error.specs.Refusals.{number_of};

@@ -1,5 +1,7 @@
 // A way up to its tag values, and a point's numbers and tags, read straight to the caller's array: where numbers have one or two bytes
 // (coordinates up to four) and are plain, and nothing is refused. Anything else is not known here, and is left to the general readers.
+#![tactic(auto)]
+
 ghost use Rattle.std.specs.Prelude.{◌≡◌, true, false, ◌+◌, ◌-◌, ◌/◌, ◌%◌, ◌≤◌, ◌<◌, ◌^◌, length, take};
 ghost use Rattle.parsing.specs.Parse.{many};
 ghost use Rattle.utils.specs.Vbe.{noted, noted_unsigned, signed_of, noted_signed, noted_coordinate};
@@ -12,7 +14,7 @@ ghost use Rattle.quick_head.specs.Quick.{IfKnown, Reads, whole, is_plain, are_pl
 
 use utils::Microdegrees;
 
-#[derive(Drop)]
+#[derive(Clone, Copy)]
 pub struct QuickNumber {
     pub value: u64,
     pub next: usize,
@@ -68,7 +70,7 @@ pub fn quick_number(map: &[u8], at: usize) -> QuickNumber
     }
 }
 
-#[derive(Drop)]
+#[derive(Clone, Copy)]
 pub struct QuickPlace {
     pub next: usize,
     pub known: bool,
@@ -206,7 +208,7 @@ fn quick_values(
     QuickPlace { next, known: true }
 }
 
-#[derive(Drop)]
+#[derive(Clone, Copy)]
 pub struct QuickTags {
     pub count: usize,
     pub next: usize,
@@ -303,7 +305,7 @@ pub fn quick_point_tags(
 }
 
 // What stands in front of a way's tags.
-#[derive(Drop)]
+#[derive(Clone, Copy)]
 pub struct QuickFront {
     pub size: u64,
     pub start: usize,
@@ -344,7 +346,7 @@ fn quick_front(map: &[u8], at: usize) -> QuickFront
 }
 
 // A way up to its tag values: its bitmap, layer and number of tags, where declining it goes and where its body starts.
-#[derive(Drop)]
+#[derive(Clone, Copy)]
 pub struct QuickHead {
     pub past: usize,
     pub body: usize,
@@ -423,7 +425,7 @@ fn signed_of(v: u64, sign: u64) -> i64
     0 - m
 }
 
-#[derive(Drop)]
+#[derive(Clone, Copy)]
 pub struct QuickCoordinate {
     pub value: i64,
     pub next: usize,
@@ -504,7 +506,7 @@ fn quick_coordinate(map: &[u8], at: usize) -> QuickCoordinate
     no_coordinate()
 }
 
-#[derive(Drop)]
+#[derive(Clone, Copy)]
 pub struct QuickNode {
     pub latitude: Microdegrees,
     pub longitude: Microdegrees,

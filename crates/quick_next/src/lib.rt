@@ -1,5 +1,7 @@
 // The stream's next by the quick readers, where they know the answer: a point or a way's head of a map that is no debug map. Where it is not known, crate
 // visit says what comes next.
+#![tactic(auto)]
+
 ghost use Rattle.std.specs.Prelude.{◌≡◌, false};
 ghost use Rattle.agreement.specs.Stream.{on_next};
 ghost use Rattle.tile_layout.specs.TileLayout.{kinds_of, format_of};
@@ -15,7 +17,7 @@ use types::{OptionalSpan, Position};
 use visit::{Remaining, Stream, Turn, WaitingWay};
 
 // A way's head but for its tag ids, and the stream in which the way then waits. Every number was plain.
-#[derive(Drop)]
+#[derive(Clone, Copy)]
 pub struct WayStep {
     pub stream: Stream,
     pub count: usize,
@@ -25,7 +27,7 @@ pub struct WayStep {
 }
 
 // A point but for its tag ids, and the stream behind it. Every number was plain.
-#[derive(Drop)]
+#[derive(Clone, Copy)]
 pub struct PointStep {
     pub stream: Stream,
     pub position: Position,

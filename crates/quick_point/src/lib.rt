@@ -1,4 +1,6 @@
 // A point, read straight to the caller's array where its numbers are short and plain and nothing is refused. Anything else is not known here.
+#![tactic(auto)]
+
 ghost use Rattle.std.specs.Prelude.{◌≡◌, true, false, ◌≤◌, length};
 ghost use Rattle.parsing.specs.Parse.{optional};
 ghost use Rattle.utils.specs.Vbe.{noted, noted_signed, noted_text};
@@ -9,7 +11,7 @@ ghost use Rattle.quick_point.specs.QuickPoint.{text_of, text_in, elevation_of, e
 
 use quick_head::{QuickNode, QuickTags};
 
-#[derive(Drop)]
+#[derive(Clone, Copy)]
 pub struct QuickText {
     pub start: usize,
     pub size: usize,
@@ -69,7 +71,7 @@ fn quick_text(map: &[u8], at: usize, flag: bool) -> QuickText
     }
 }
 
-#[derive(Drop)]
+#[derive(Clone, Copy)]
 pub struct QuickElevation {
     pub value: i64,
     pub next: usize,
@@ -113,7 +115,7 @@ fn quick_elevation(map: &[u8], at: usize, flag: bool) -> QuickElevation
     }
 }
 
-#[derive(Drop)]
+#[derive(Clone, Copy)]
 pub struct QuickFields {
     pub name: QuickText,
     pub house: QuickText,
@@ -163,7 +165,7 @@ fn quick_fields(map: &[u8], at: usize) -> QuickFields
     }
 }
 
-#[derive(Drop)]
+#[derive(Clone, Copy)]
 pub struct QuickPoint {
     pub node: QuickNode,
     pub tags: QuickTags,

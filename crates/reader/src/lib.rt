@@ -1,5 +1,7 @@
 // The reader over the lent map, with its position, in the place of io.rs's ByteSource. A read is the function of the same name
 // on the slice: it moves the reader behind the value, and where it is refused, the position is as before.
+#![tactic(auto)]
+
 ghost use Rattle.std.specs.Prelude.{◌≡◌};
 ghost use Rattle.parsing.specs.Parse.{byte};
 ghost use Rattle.byte_source.specs.BigEndian.{big_endian, int32};
@@ -11,7 +13,7 @@ ghost use Rattle.reader.specs.Places.{read_at, moved_to, byte_next, short_next, 
 use byte_source::{ByteRead, IntRead, NumberRead, ShortRead, SpanRead, WordRead};
 use utils::{MicroRead, SignedRead, VbeRead};
 
-#[derive(Drop)]
+#[derive(Clone, Copy)]
 pub struct Reader<'a> {
     pub src: &'a [u8],
     pub at: usize,
@@ -210,7 +212,7 @@ pub fn read_vbe_u<'s, 'a>(r: &'s mut Reader<'a>) -> SpanRead
 }
 
 // The number at a place, and where the reader then stands. No caller needs a walk: its contract says nothing of a reader.
-#[derive(Drop)]
+#[derive(Clone, Copy)]
 pub struct NumberAt {
     pub got: VbeRead,
     pub next: usize,

@@ -1,4 +1,6 @@
 // What the programs that are run against the Rust print: an answer as a list of words, and digests of many answers.
+#![tactic(auto)]
+
 ghost use Rattle.std.specs.Prelude.{◌≡◌, ◌+◌, ◌%◌, min, length, unsigned_abs};
 ghost use Rattle.report.specs.Words.{no_words, pushed, mixed, mixed_upto, mixed_all, digest_of, sign_of, bits_of, float_of};
 ghost use Rattle.report.specs.Texts.{room, zeros, mixed_replaced};
@@ -11,7 +13,7 @@ use libc::STDOUT_FILENO;
 use text::Written;
 
 // An answer: 0 and its values, or a refusal's number and its values. No answer that is printed has more than 40 words.
-#[derive(Drop)]
+#[derive(Clone, Copy)]
 pub struct Words {
     pub words: [u64; 40],
     pub count: usize,
@@ -125,7 +127,7 @@ pub fn mix_text(digest: u64, text: &[u8]) -> u64
 }
 
 // What a record asks, where its question stands, and the place behind it.
-#[derive(Drop)]
+#[derive(Clone, Copy)]
 pub enum RecordRead {
     Asked(u8, Span, usize),
     Refused(Refusal),

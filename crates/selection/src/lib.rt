@@ -1,4 +1,6 @@
 // Which ways a window and rules select: requests 10 and 9. What a stream does that goes by them is in specs/; exports has the call.
+#![tactic(auto)]
+
 ghost use Rattle.std.specs.Prelude.{◌≡◌, min, length};
 ghost use Rattle.selection.specs.Selects.{in_window, by_rules, selects};
 
@@ -6,7 +8,7 @@ use tagged::TagIds;
 
 // Which ways are selected: where `by_window`, those that share a cell with `mask`; where `by_rules`, those that the checked table shows at
 // `zoom`.
-#[derive(Drop)]
+#[derive(Clone, Copy)]
 pub struct Selection {
     pub by_window: bool,
     pub mask: u16,

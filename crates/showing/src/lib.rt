@@ -1,10 +1,12 @@
 // Request 9: our own rules of which ways show at which zoom; their check, and what a checked table decides.
+#![tactic(auto)]
+
 ghost use Rattle.std.specs.Prelude.{◌≡◌, ℕ, ◌+◌, ◌*◌, ◌/◌, ◌<◌, ◌≤◌, min, length, get_or};
 ghost use Rattle.showing.specs.Showing.{rule_at, well_formed, formed, first_from, overlaps, gaps, checked_res, checked, Filled, After, zoom_of, class_in, shown};
 ghost use Rattle.showing.specs.Steps.{Small, one_more, always, changed_in, Changed, Counted, twice_in, none_in, joined};
 
 // A rule: the zooms from lowest to highest of the way tag `id` have the class. Class 0 means hidden.
-#[derive(Drop)]
+#[derive(Clone, Copy)]
 pub struct Rule {
     pub id: usize,
     pub lowest: usize,
@@ -13,7 +15,7 @@ pub struct Rule {
 }
 
 // What comes of a check. These refusals are no cases of `Refusal`: only a check gives them, and no read hands them up.
-#[derive(Drop)]
+#[derive(Clone, Copy)]
 pub enum Checked {
     // the lent table is filled
     Passed,
@@ -28,7 +30,7 @@ pub enum Checked {
 }
 
 // The first cells that are named twice, and not at all; where there is none, the end of the cells looked at.
-#[derive(Drop)]
+#[derive(Clone, Copy)]
 struct Faults {
     overlap: usize,
     gap: usize,

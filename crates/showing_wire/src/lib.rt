@@ -1,5 +1,7 @@
 // What comes of a check of showing rules, and whether a way is shown, as words for programs in other languages. An answer writes its own
 // words; the others keep their values.
+#![tactic(auto)]
+
 ghost use Rattle.std.specs.Prelude.{◌≡◌, [], ◌∷◌};
 ghost use Rattle.wire.specs.Wire.{wire, lending};
 ghost use Rattle.showing_wire.specs.Rules.{checked_wire, shown_wire, put_place};

@@ -1,4 +1,6 @@
 // What a stream answers, as words for programs in other languages. An answer writes its own words; the others keep their values.
+#![tactic(auto)]
+
 ghost use Rattle.std.specs.Prelude.{◌≡◌, List, [], ◌∷◌, ℕ, Float};
 ghost use Rattle.std.proofs.lemmas.List.Edits.{sets};
 ghost use Rattle.wire.specs.Wire.{wire, lending};

@@ -1,4 +1,6 @@
 // tag.rs: the tags of a feature, and the kinds of inline values.
+#![tactic(auto)]
+
 ghost use Rattle.std.specs.Prelude.{◌≡◌, length};
 ghost use Rattle.utils.specs.Answers.{text_res};
 ghost use Rattle.text.specs.Utf8.{code_points, replaced};
@@ -9,7 +11,7 @@ ghost use Rattle.tag.specs.Value.{value, sized};
 use utils::{TextRead, VbeRead};
 
 // The lengths in bytes of a tag's key and value, and their hashes, all of the replaced text.
-#[derive(Drop)]
+#[derive(Clone, Copy)]
 pub struct Tag {
     pub key_len: usize,
     pub value_len: usize,
@@ -58,7 +60,7 @@ pub fn parse_tag(text: &[u8]) -> Tag
 }
 
 // The key of a tag that is made of a feature's text.
-#[derive(Drop)]
+#[derive(Clone, Copy)]
 pub enum TextKey {
     // `name`
     Name,
@@ -132,7 +134,7 @@ fn letter_after(text: &[u8]) -> u8
 }
 
 // What inline value a tag has: it stands behind all ids of the feature.
-#[derive(Drop)]
+#[derive(Clone, Copy)]
 pub enum Kind {
     // b: 1 byte
     Byte,

@@ -1,5 +1,7 @@
 // header.rs and tag.rs: the tag names of points and of ways. A table says where they stand; a name is found by a walk over the texts, or
 // by the lists that opening filled.
+#![tactic(auto)]
+
 ghost use Rattle.std.specs.Prelude.{◌≡◌, ◌+◌, ltb};
 ghost use Rattle.parsing.specs.Parse.{map_res, many, passed};
 ghost use Rattle.byte_source.specs.Answers.{span_res};
@@ -16,7 +18,7 @@ use error::Refusal;
 use tag::Kind;
 use types::{End, TagRange, TagTable};
 
-#[derive(Drop)]
+#[derive(Clone, Copy)]
 pub enum TagTableRead {
     Value(TagTable, usize),
     Refused(Refusal),

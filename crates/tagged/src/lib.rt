@@ -1,4 +1,6 @@
 // poi.rs, way.rs and tag.rs: layer and tags, which points and ways have alike.
+#![tactic(auto)]
+
 ghost use Rattle.std.specs.Prelude.{◌≡◌, ◌≤◌, replicate};
 ghost use Rattle.parsing.specs.Parse.{many, map_res};
 ghost use Rattle.utils.specs.Answers.{vbe_res};
@@ -12,14 +14,14 @@ use types::{End, TagRange};
 use utils::{TextRead, VbeRead};
 
 // Up to 15 tag ids from the front, zeros behind them.
-#[derive(Drop)]
+#[derive(Clone, Copy)]
 pub struct TagIds {
     pub ids: [u64; 15],
     pub count: usize,
 }
 
 // Layer and tag ids, with the place behind the tag values. `plain`: whether the encodings of all ids and of all lengths were plain.
-#[derive(Drop)]
+#[derive(Clone, Copy)]
 pub struct TaggedRead {
     pub tag_ids: TagIds,
     pub end: End,
@@ -28,7 +30,7 @@ pub struct TaggedRead {
 }
 
 // Where several reads ended, and whether the encodings of all their numbers were plain.
-#[derive(Drop)]
+#[derive(Clone, Copy)]
 enum PlainEnd {
     At(bool, usize),
     Refused(Refusal),

@@ -1,5 +1,5 @@
 -- Laws of the hash.
-use Rattle.std.proofs.Common.{◌≡◌, ℕ, suc, ◌+◌, ◌-◌, ◌*◌, ◌%◌, ◌^◌, ◌<◌, ◌≤◌, List, [], ◌∷◌, length, drop, sym, refl, ap, ◌∙◌, mul_assoc, pow-suc, mul-one, add-one, arith}
+use Rattle.std.proofs.Common.{◌≡◌, ℕ, suc, ◌+◌, ◌-◌, ◌*◌, ◌%◌, ◌^◌, ◌<◌, ◌≤◌, List, [], ◌∷◌, length, drop, sym, refl, subst, ap, ◌∙◌, mul_assoc, pow-suc, mul-one, add-one, arith}
 use native.Mathlib.Nat.{sub-zero}
 use Rattle.text.specs.declared.Sequence.{Sequence}
 use Rattle.text.specs.Utf8.{sequence_at, size_of, code_of, code_points, replaced}
@@ -24,7 +24,8 @@ unfolding hash_from
 left-more h c cs =
     let n = length cs in
     let e : suc n ≡ n + 1 = omega arith in
-    rw (sub-zero (suc n), e) (shift n 0 ((h + c) * 31 ^ (n + 1 + 1) % 2 ^ 64) cs)
+    let x = (h + c) * 31 ^ (n + 1 + 1) % 2 ^ 64 in
+    rw (sub-zero (suc n), e) (subst (λ (k : ℕ). hash_from k 1 x cs ≡ hash_from n 0 x cs) (sym e) (shift n 0 x cs))
 
 -- 17256631552825064415 is 31's inverse
 falls : (k m : ℕ) → 31 * 17256631552825064415 % m ≡ 1 → 31 ^ (k + 1) % m * 17256631552825064415 % m ≡ 31 ^ k % m

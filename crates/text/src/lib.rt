@@ -1,4 +1,6 @@
 // Texts of the map: UTF-8, the text with U+FFFD put in, and the hash of utils.rs.
+#![tactic(auto)]
+
 ghost use Rattle.std.specs.Prelude.{◌≡◌, ◌+◌, ◌^◌, ◌<◌, ◌≤◌, length, take, drop, nat_le};
 ghost use Rattle.std.proofs.lemmas.List.Edits.{sets};
 ghost use Rattle.arithmetic.specs.Cut.{cut};
@@ -9,7 +11,7 @@ ghost use Rattle.text.specs.Writing.{place_behind, outcome, writing};
 use error::LentRefusal;
 
 // A code unit sequence: a character with its code point and its number of bytes, or an ill-formed one with its number of bytes.
-#[derive(Drop)]
+#[derive(Clone, Copy)]
 pub enum Sequence {
     Char(u32, usize),
     Ill(usize),
@@ -245,7 +247,7 @@ fn put_replaced(text: &[u8], buffer: &mut [u8], start: usize) -> usize
 }
 
 // The place behind a text that was written, or why none was.
-#[derive(Drop)]
+#[derive(Clone, Copy)]
 pub enum Written {
     Upto(usize),
     Refused(LentRefusal),

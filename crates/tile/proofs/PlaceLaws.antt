@@ -192,7 +192,7 @@ module _ (debug : Bool) (points ways : List Kind) (m : List ℕ) (small : length
     where
       known : (g : Head) (b : ℕ) (d : format.Body) (e : ℕ) → F.head m i ≡ ok g b → F.body m b ≡ ok d e → ◌≡◌ {A = Res (Way F)} (ok (record { head = g; body = d; end = e }) e) (ok w x) → Exactly i x
       known g b d e p q r =
-          let a = L.Head-post.holds m i g b p in
+          let a = L.head_post.holds m i g b p in
           let f = L.body-good.forth m b d e q in
           let o = (way-strict F L).more m i w x h in
           let v = (way-good F L).bound m i w x h in

@@ -1,4 +1,6 @@
 // tile.rs: collecting a tile, which decodes every feature of every row, and lists where each one starts.
+#![tactic(auto)]
+
 ghost use Rattle.std.specs.Prelude.{◌≡◌, ◌+◌, ◌≤◌, length};
 ghost use Rattle.parsing.specs.Parse.{map_res, many};
 ghost use Rattle.utils.specs.Vbe.{values_of};
@@ -26,7 +28,7 @@ use zoom_table::{RowRead, Sums, ZoomRow, ZoomTableRead};
 
 // A collected tile. `zoom_table` has `rows` rows from the front, zeros behind them. `exact`: every way's stored size is its decoded
 // length. `plain`: every number of the tile was.
-#[derive(Drop)]
+#[derive(Clone, Copy)]
 pub struct Tile {
     pub signature: OptionalSpan,
     pub zoom_table: [ZoomRow; 256],
@@ -38,21 +40,21 @@ pub struct Tile {
     pub plain: bool,
 }
 
-#[derive(Drop)]
+#[derive(Clone, Copy)]
 pub enum TileAnswer {
     Collected,
     Refused(LentRefusal),
 }
 
 // Where collecting is refused, the tile is empty.
-#[derive(Drop)]
+#[derive(Clone, Copy)]
 pub struct TileRead {
     pub tile: Tile,
     pub answer: TileAnswer,
 }
 
 // What is said of a collected tile besides its rows.
-#[derive(Drop)]
+#[derive(Clone, Copy)]
 pub struct TileSummary {
     pub signature: OptionalSpan,
     pub first_way_offset: u64,
@@ -63,14 +65,14 @@ pub struct TileSummary {
     pub plain: bool,
 }
 
-#[derive(Drop)]
+#[derive(Clone, Copy)]
 pub enum SummaryRead {
     Value(TileSummary),
     Refused(LentRefusal),
 }
 
 // The same before a list is looked at, with the place behind the tile's head, where its points start.
-#[derive(Drop)]
+#[derive(Clone, Copy)]
 enum MeasuredRead {
     Value(TileSummary, usize),
     Refused(Refusal),

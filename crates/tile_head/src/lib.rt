@@ -1,4 +1,6 @@
 // tile.rs and visit.rs: a tile's head, which is its signature, the sums of its zoom table, and its first-way offset.
+#![tactic(auto)]
+
 ghost use Rattle.std.specs.Prelude.{◌≡◌};
 ghost use Rattle.parsing.specs.Parse.{map_res};
 ghost use Rattle.utils.specs.Vbe.{noted_unsigned};
@@ -16,7 +18,7 @@ use utils::VbeRead;
 use zoom_table::{Sums, SumsRead};
 
 // The first way is `offset` bytes behind the head. `plain`: whether every number of the head was plain, also those of rows above the zoom.
-#[derive(Drop)]
+#[derive(Clone, Copy)]
 pub struct TileHead {
     pub signature: OptionalSpan,
     pub sums: Sums,
@@ -24,7 +26,7 @@ pub struct TileHead {
     pub plain: bool,
 }
 
-#[derive(Drop)]
+#[derive(Clone, Copy)]
 pub enum TileHeadRead {
     Value(TileHead, usize),
     Refused(Refusal),

@@ -1,11 +1,13 @@
 // types.rs: what a tile's features need of the header. It is passed at each call, since the header is 6 KB. Which tags there are is said by
 // entries of the listed tag strings: the point tags' come first, then the way tags'.
+#![tactic(auto)]
+
 ghost use Rattle.std.specs.Prelude.{◌≡◌};
 ghost use Rattle.tile_layout.specs.TileLayout.{layout_with, layout_of};
 
 use types::{MapHeader, TagRange, TagTable};
 
-#[derive(Drop)]
+#[derive(Clone, Copy)]
 pub struct TileLayout {
     pub poi_tags: TagRange,
     pub way_tags: TagRange,

@@ -1,4 +1,6 @@
 // tile.rs and visit.rs: where a tile stands, and its sub file's zoom levels, before any byte of the tile is read.
+#![tactic(auto)]
+
 ghost use Rattle.std.specs.Prelude.{◌≡◌, cond, ◌<◌, ◌^◌};
 ghost use Rattle.parsing.specs.Parse.{map_res};
 ghost use Rattle.format.specs.Index.{locate_in, locate};
@@ -14,7 +16,7 @@ use types::{Grid, ZoomInterval};
 
 // `at` is the tile's first byte; 2^64 - 1 stands for any place behind it, and is behind every map's end too. A tile that its index
 // marks empty has no bytes, and 0 stands there.
-#[derive(Drop)]
+#[derive(Clone, Copy)]
 pub struct FoundTile {
     pub at: u64,
     pub min_zoom: u8,
@@ -23,7 +25,7 @@ pub struct FoundTile {
     pub empty: bool,
 }
 
-#[derive(Drop)]
+#[derive(Clone, Copy)]
 pub enum PlaceRead {
     At(FoundTile),
     Refused(Refusal),

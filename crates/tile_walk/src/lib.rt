@@ -1,4 +1,6 @@
 // tile.rs: all points and all ways of a tile, each decoded whole, as collecting does.
+#![tactic(auto)]
+
 ghost use Rattle.std.specs.Prelude.{◌≡◌};
 ghost use Rattle.tile_layout.specs.TileLayout.{kinds_of};
 ghost use Rattle.tile_walk.specs.TileWalk.{points_res, points_refusal, plain_of, ways_res, ways_refusal, said_way, said_ways};
@@ -9,21 +11,21 @@ use types::End;
 use way::WayBodyRead;
 
 // Whether every number of the points was plain, and the place behind them.
-#[derive(Drop)]
+#[derive(Clone, Copy)]
 pub enum PointsRead {
     Value(bool, usize),
     Refused(Refusal),
 }
 
 // Whether every stored size is the decoded length, and whether every number was plain.
-#[derive(Drop)]
+#[derive(Clone, Copy)]
 pub struct WaysSaid {
     pub exact: bool,
     pub plain: bool,
 }
 
 // What is said of ways, and the place behind them.
-#[derive(Drop)]
+#[derive(Clone, Copy)]
 pub enum WaysRead {
     Value(WaysSaid, usize),
     Refused(Refusal),

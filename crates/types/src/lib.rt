@@ -1,4 +1,6 @@
 // types.rs: the records that are handed out, and what stands for a value that may be absent.
+#![tactic(auto)]
+
 ghost use Rattle.std.specs.Prelude.{◌≡◌, ◌&&◌};
 ghost use Rattle.types.specs.Types.{end_refusal, position_of};
 
@@ -7,38 +9,38 @@ use error::Refusal;
 use utils::Microdegrees;
 
 // In degrees.
-#[derive(Drop)]
+#[derive(Clone, Copy)]
 pub struct Position {
     pub latitude: f64,
     pub longitude: f64,
 }
 
-#[derive(Drop)]
+#[derive(Clone, Copy)]
 pub enum OptionalPosition {
     Absent,
     At(Position),
 }
 
-#[derive(Drop)]
+#[derive(Clone, Copy)]
 pub enum OptionalSpan {
     Absent,
     At(Span),
 }
 
-#[derive(Drop)]
+#[derive(Clone, Copy)]
 pub enum OptionalByte {
     Absent,
     At(u8),
 }
 
-#[derive(Drop)]
+#[derive(Clone, Copy)]
 pub struct BoundingBox {
     pub min: Position,
     pub max: Position,
 }
 
 // The zoom levels from min to max have one sub file.
-#[derive(Drop)]
+#[derive(Clone, Copy)]
 pub struct ZoomInterval {
     pub sub_file_start: u64,
     pub sub_file_size: u64,
@@ -48,28 +50,28 @@ pub struct ZoomInterval {
 }
 
 // Where the tag names of points or of ways stand in the map's header, and how many there are.
-#[derive(Drop)]
+#[derive(Clone, Copy)]
 pub struct TagTable {
     pub start: usize,
     pub count: usize,
 }
 
 // Which entries of the listed tag strings are the tags of points, or of ways: `count` entries from `first` on.
-#[derive(Drop)]
+#[derive(Clone, Copy)]
 pub struct TagRange {
     pub first: usize,
     pub count: usize,
 }
 
 // Where the zoom intervals stand in the map's header, and how many there are.
-#[derive(Drop)]
+#[derive(Clone, Copy)]
 pub struct IntervalTable {
     pub start: usize,
     pub count: u8,
 }
 
 // The file header but for the array of its intervals, which is 6 KB.
-#[derive(Drop)]
+#[derive(Clone, Copy)]
 pub struct HeaderFields {
     pub magic: Span,
     pub file_size: u64,
@@ -91,7 +93,7 @@ pub struct HeaderFields {
 }
 
 // The file header. Texts are parts of the map; the intervals are filled from the front.
-#[derive(Drop)]
+#[derive(Clone, Copy)]
 pub struct MapHeader {
     pub magic: Span,
     pub header_size: u32,
@@ -114,7 +116,7 @@ pub struct MapHeader {
 }
 
 // The tiles of a sub file, as the host computes them; both ends are included.
-#[derive(Drop)]
+#[derive(Clone, Copy)]
 pub struct Grid {
     pub x_min: i32,
     pub y_min: i32,
@@ -123,7 +125,7 @@ pub struct Grid {
 }
 
 // Where a read ended, where its value stands beside the answer.
-#[derive(Drop)]
+#[derive(Clone, Copy)]
 pub enum End {
     At(usize),
     Refused(Refusal),

@@ -1,4 +1,6 @@
 // utils.rs: numbers of variable length, microdegrees, and texts as parts of the map.
+#![tactic(auto)]
+
 ghost use Rattle.std.specs.Prelude.{◌≡◌, ◌+◌, ◌-◌, ◌^◌, ◌<◌, ◌≤◌};
 ghost use Rattle.std.specs.Float.Ieee as Ieee;
 ghost use Rattle.parsing.specs.Parse.{map_res, part};
@@ -12,67 +14,67 @@ use byte_source::{NumberRead, Span, SpanRead};
 use error::Refusal;
 
 // A number, and whether its encoding was plain.
-#[derive(Drop)]
+#[derive(Clone, Copy)]
 pub struct Number {
     pub value: u64,
     pub plain: bool,
 }
 
-#[derive(Drop)]
+#[derive(Clone, Copy)]
 pub enum VbeRead {
     Value(Number, usize),
     Refused(Refusal),
 }
 
 // A number with a sign, and whether its encoding was plain.
-#[derive(Drop)]
+#[derive(Clone, Copy)]
 pub struct Signed {
     pub value: i64,
     pub plain: bool,
 }
 
-#[derive(Drop)]
+#[derive(Clone, Copy)]
 pub enum SignedRead {
     Value(Signed, usize),
     Refused(Refusal),
 }
 
 // Microdegrees, as stored.
-#[derive(Drop)]
+#[derive(Clone, Copy)]
 pub struct Microdegrees(pub i64);
 
 // Degrees, as delivered.
-#[derive(Drop)]
+#[derive(Clone, Copy)]
 pub struct Degrees(pub f64);
 
 // A coordinate as stored, and whether its encoding was plain.
-#[derive(Drop)]
+#[derive(Clone, Copy)]
 pub struct Coordinate {
     pub value: Microdegrees,
     pub plain: bool,
 }
 
-#[derive(Drop)]
+#[derive(Clone, Copy)]
 pub enum MicroRead {
     Value(Coordinate, usize),
     Refused(Refusal),
 }
 
 // A text as a part of the map, and whether the encoding of its length was plain.
-#[derive(Drop)]
+#[derive(Clone, Copy)]
 pub struct Text {
     pub span: Span,
     pub plain: bool,
 }
 
-#[derive(Drop)]
+#[derive(Clone, Copy)]
 pub enum TextRead {
     Value(Text, usize),
     Refused(Refusal),
 }
 
 // The data of a number's bytes, its sign, the last byte's weight, and the place behind it.
-#[derive(Drop)]
+#[derive(Clone, Copy)]
 enum GroupsRead {
     Value(u64, u64, u64, usize),
     Refused(Refusal),

@@ -1,5 +1,7 @@
 // visit.rs: a tile's stream, as a chain of calls. Each call takes the stream that the last one left and gives it back; a refused call
 // gives it back as it was.
+#![tactic(auto)]
+
 ghost use Rattle.std.specs.Prelude.{◌≡◌, ◌≤◌, ◌<◌};
 ghost use Rattle.types.specs.Types.{grid_of};
 ghost use Rattle.index.specs.Answers.{interval_found};
@@ -24,7 +26,7 @@ use way::{WayBody, WayBodyWritten};
 use way_head::WayHead;
 
 // What the stream's end says. `plain`: whether every number of the tile's head and of what was read of its features was plain.
-#[derive(Drop)]
+#[derive(Clone, Copy)]
 pub struct TileEnd {
     pub sub_file: usize,
     pub is_water: bool,
@@ -32,7 +34,7 @@ pub struct TileEnd {
 }
 
 // The points and ways that remain, and the places of the next point and the next way.
-#[derive(Drop)]
+#[derive(Clone, Copy)]
 pub struct Remaining {
     pub points: u64,
     pub ways: u64,
@@ -41,7 +43,7 @@ pub struct Remaining {
 }
 
 // The ways that remain behind the one that waits, where declining it goes, where its body starts, and whether its head was plain.
-#[derive(Drop)]
+#[derive(Clone, Copy)]
 pub struct WaitingWay {
     pub ways: u64,
     pub past: usize,
@@ -49,25 +51,25 @@ pub struct WaitingWay {
     pub head_plain: bool,
 }
 
-#[derive(Drop)]
+#[derive(Clone, Copy)]
 pub enum Turn {
     Idle(Remaining),
     Waits(WaitingWay),
 }
 
-#[derive(Drop)]
+#[derive(Clone, Copy)]
 pub struct Stream {
     pub turn: Turn,
     pub end: TileEnd,
 }
 
-#[derive(Drop)]
+#[derive(Clone, Copy)]
 pub enum OpenRead {
     Stream(Stream),
     Refused(Refusal),
 }
 
-#[derive(Drop)]
+#[derive(Clone, Copy)]
 pub struct StreamedHead {
     pub tag_ids: TagIds,
     pub bitmap: u16,
@@ -76,7 +78,7 @@ pub struct StreamedHead {
 }
 
 // `blocks` node counts and `nodes` latitudes and longitudes went to the lists. `plain` speaks of the whole way, its head included.
-#[derive(Drop)]
+#[derive(Clone, Copy)]
 pub struct StreamedBody {
     pub name: OptionalSpan,
     pub house_number: OptionalSpan,
@@ -87,7 +89,7 @@ pub struct StreamedBody {
     pub plain: bool,
 }
 
-#[derive(Drop)]
+#[derive(Clone, Copy)]
 pub enum NextAnswer {
     Point,
     Way,
@@ -96,7 +98,7 @@ pub enum NextAnswer {
 }
 
 // `poi` is the point and `head` the way's head, where that is the answer; else they are empty.
-#[derive(Drop)]
+#[derive(Clone, Copy)]
 pub struct NextStep {
     pub answer: NextAnswer,
     pub poi: Poi,
@@ -104,25 +106,25 @@ pub struct NextStep {
     pub stream: Stream,
 }
 
-#[derive(Drop)]
+#[derive(Clone, Copy)]
 pub enum AcceptAnswer {
     Body(StreamedBody),
     Refused(LentRefusal),
 }
 
-#[derive(Drop)]
+#[derive(Clone, Copy)]
 pub struct Accepted {
     pub answer: AcceptAnswer,
     pub stream: Stream,
 }
 
-#[derive(Drop)]
+#[derive(Clone, Copy)]
 pub enum DeclineAnswer {
     Declined,
     Refused(Refusal),
 }
 
-#[derive(Drop)]
+#[derive(Clone, Copy)]
 pub struct Declined {
     pub answer: DeclineAnswer,
     pub stream: Stream,

@@ -1,5 +1,7 @@
 // What a tile's stream will want, under a list of decisions (request 1 of document 02): how many points and accepted ways it delivers, and how
 // long the lists and the longest text have to be. Nothing is lent, and no node is written.
+#![tactic(auto)]
+
 ghost use Rattle.std.specs.Prelude.{◌≡◌, [], ◌∷◌, max, ◌+◌, ◌<◌, ◌^◌};
 ghost use Rattle.parsing.specs.Parse.{map_res, many};
 ghost use Rattle.format.specs.Tile.{body};
@@ -23,7 +25,7 @@ use way::{WayBody, WayBodyRead};
 
 // `points` and `ways` count what is delivered, declined ways not among it. `blocks` and `nodes` are the most that one accepted way has: the
 // lengths of the list of node counts, and of those of latitudes and longitudes. `text` is the longest name, house number or reference, as stored.
-#[derive(Drop)]
+#[derive(Clone, Copy)]
 pub struct WantedFigures {
     pub points: u64,
     pub ways: u64,
@@ -32,21 +34,21 @@ pub struct WantedFigures {
     pub text: u64,
 }
 
-#[derive(Drop)]
+#[derive(Clone, Copy)]
 pub enum WantedRead {
     Value(WantedFigures),
     Refused(Refusal),
 }
 
 // The longest text of points, and the place behind them.
-#[derive(Drop)]
+#[derive(Clone, Copy)]
 enum TextRead {
     Value(u64, usize),
     Refused(Refusal),
 }
 
 // The same figures of ways alone.
-#[derive(Drop)]
+#[derive(Clone, Copy)]
 struct WayFigures {
     ways: u64,
     blocks: u64,
@@ -54,7 +56,7 @@ struct WayFigures {
     text: u64,
 }
 
-#[derive(Drop)]
+#[derive(Clone, Copy)]
 enum WaysRead {
     Value(WayFigures, usize),
     Refused(Refusal),

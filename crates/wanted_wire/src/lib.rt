@@ -1,4 +1,6 @@
 // What a tile's stream will want, as words for programs in other languages. An answer writes its own words; the others keep their values.
+#![tactic(auto)]
+
 ghost use Rattle.std.specs.Prelude.{◌≡◌, [], ◌∷◌};
 ghost use Rattle.wire.specs.Wire.{wire, lending};
 ghost use Rattle.wanted_wire.specs.Figures.{wanted_wire};

@@ -1,4 +1,6 @@
 // way.rs: a way behind its tag values, as one read.
+#![tactic(auto)]
+
 ghost use Rattle.std.specs.Prelude.{◌≡◌};
 ghost use Rattle.parsing.specs.Parse.{map_res};
 ghost use Rattle.format.specs.Lent.{deliver};
@@ -15,7 +17,7 @@ use way_measure::{Sizes, WayDataRead};
 
 // Texts are raw parts of the map. `blocks` and `nodes` count its coordinate blocks and all their nodes; they stand first, where a refusal would, so
 // that what reads a body is small enough to be inlined. `plain`: whether every number was.
-#[derive(Drop)]
+#[derive(Clone, Copy)]
 pub struct WayBody {
     pub blocks: u64,
     pub nodes: u64,
@@ -27,14 +29,14 @@ pub struct WayBody {
     pub plain: bool,
 }
 
-#[derive(Drop)]
+#[derive(Clone, Copy)]
 pub enum WayBodyRead {
     Value(WayBody, usize),
     Refused(Refusal),
 }
 
 // The body of a way whose nodes were written, with the place behind it, or why they were not.
-#[derive(Drop)]
+#[derive(Clone, Copy)]
 pub enum WayBodyWritten {
     Value(WayBody, usize),
     Refused(LentRefusal),

@@ -1,5 +1,7 @@
 // way.rs: the nodes of a way in degrees, written to the fronts of lent lists. What is written was measured before, so that a refusal
 // leaves the lists as they were.
+#![tactic(auto)]
+
 ghost use Rattle.std.specs.Prelude.{◌≡◌, ◌<◌, ◌≤◌, ◌^◌, nat_abs};
 ghost use Rattle.parsing.specs.Parse.{map_res, many, Fine};
 ghost use Rattle.utils.specs.Vbe.{signed_of, coordinate};
@@ -15,7 +17,7 @@ use utils::{Degrees, MicroRead, Microdegrees};
 use way_measure::{Node, Sizes, WayDataRead};
 
 // The sizes of a way's data that was written, with the place behind it, or why none was.
-#[derive(Drop)]
+#[derive(Clone, Copy)]
 pub enum WayDataWritten {
     Value(Sizes, usize),
     Refused(LentRefusal),
@@ -31,7 +33,7 @@ pub fn way_data_refusal(got: WayDataWritten) -> LentRefusal
 }
 
 // The last node of a block in degrees, and the delta that led to it.
-#[derive(Drop)]
+#[derive(Clone, Copy)]
 struct Cursor {
     latitude: f64,
     longitude: f64,
@@ -40,21 +42,21 @@ struct Cursor {
 }
 
 // A coordinate as stored, and the place behind it.
-#[derive(Drop)]
+#[derive(Clone, Copy)]
 struct StoredCoordinate {
     value: Microdegrees,
     next: usize,
 }
 
 // A node as stored, and the place behind it.
-#[derive(Drop)]
+#[derive(Clone, Copy)]
 struct StoredNode {
     node: Node,
     next: usize,
 }
 
 // Where the second pass is, in the map and in the lists of blocks and of nodes.
-#[derive(Drop)]
+#[derive(Clone, Copy)]
 struct Progress {
     next: usize,
     blocks: usize,

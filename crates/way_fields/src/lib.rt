@@ -1,4 +1,6 @@
 // way.rs: the fields of a way between its tag values and its coordinates.
+#![tactic(auto)]
+
 ghost use Rattle.std.specs.Prelude.{◌≡◌};
 ghost use Rattle.parsing.specs.Parse.{map_res, optional};
 ghost use Rattle.format.specs.WayData.{node};
@@ -13,7 +15,7 @@ use types::{OptionalPosition, OptionalSpan};
 use utils::{Number, VbeRead};
 
 // A way's texts are raw parts of the map. `data_blocks` data blocks follow. `plain`: whether every number was, that of the data blocks too.
-#[derive(Drop)]
+#[derive(Clone, Copy)]
 pub struct WayFields {
     pub name: OptionalSpan,
     pub house_number: OptionalSpan,
@@ -24,21 +26,21 @@ pub struct WayFields {
     pub plain: bool,
 }
 
-#[derive(Drop)]
+#[derive(Clone, Copy)]
 pub enum WayFieldsRead {
     Value(WayFields, usize),
     Refused(Refusal),
 }
 
 // The position, and whether its numbers were plain.
-#[derive(Drop)]
+#[derive(Clone, Copy)]
 enum LabelRead {
     Value(OptionalPosition, bool, usize),
     Refused(Refusal),
 }
 
 // The flags, and the fields that they announce. `plain`: whether every number was.
-#[derive(Drop)]
+#[derive(Clone, Copy)]
 struct Announced {
     name: OptionalSpan,
     house_number: OptionalSpan,
@@ -48,7 +50,7 @@ struct Announced {
     plain: bool,
 }
 
-#[derive(Drop)]
+#[derive(Clone, Copy)]
 enum AnnouncedRead {
     Value(Announced, usize),
     Refused(Refusal),

@@ -1,4 +1,6 @@
 // way.rs: a way up to its tag values, which is all that is known of a way that is declined.
+#![tactic(auto)]
+
 ghost use Rattle.std.specs.Prelude.{◌≡◌};
 ghost use Rattle.parsing.specs.Parse.{Part, Maybe};
 ghost use Rattle.utils.specs.Vbe.{noted};
@@ -15,7 +17,7 @@ use types::{End, OptionalSpan, TagRange};
 use utils::{Number, VbeRead};
 
 // The size is counted from `start`, the byte behind the size field. `plain`: whether the encodings of all numbers were plain.
-#[derive(Drop)]
+#[derive(Clone, Copy)]
 pub struct WayHead {
     pub signature: OptionalSpan,
     pub size: u64,
@@ -27,7 +29,7 @@ pub struct WayHead {
 }
 
 // A head, and where the way's body starts.
-#[derive(Drop)]
+#[derive(Clone, Copy)]
 pub struct WayHeadRead {
     pub head: WayHead,
     pub end: End,

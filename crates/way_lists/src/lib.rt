@@ -1,9 +1,11 @@
 // way.rs: a way's nodes and its blocks' initial positions, written to lent lists.
+#![tactic(auto)]
+
 ghost use Rattle.std.specs.Prelude.{◌≡◌, min};
 ghost use Rattle.way_lists.specs.WayLists.{ListsWritten};
 
 // Where a way's body starts and how many blocks it has. Of a way that is not present nothing is written.
-#[derive(Drop)]
+#[derive(Clone, Copy)]
 pub struct ListPlan {
     pub start: usize,
     pub blocks: usize,

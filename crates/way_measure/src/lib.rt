@@ -1,5 +1,7 @@
 // way.rs: how many blocks and nodes the data of a way has, and where it ends. This is the first of two passes: a refusal leaves the
 // lent lists as they were, so nothing is written before all is known to be readable.
+#![tactic(auto)]
+
 ghost use Rattle.std.specs.Prelude.{◌≡◌};
 ghost use Rattle.parsing.specs.Parse.{map_res, many};
 ghost use Rattle.utils.specs.Answers.{vbe_res};
@@ -11,21 +13,21 @@ use error::Refusal;
 use utils::{MicroRead, Microdegrees, Number, VbeRead};
 
 // A node as stored: its position, or a delta.
-#[derive(Drop)]
+#[derive(Clone, Copy)]
 pub struct Node {
     pub latitude: Microdegrees,
     pub longitude: Microdegrees,
 }
 
 // A node, whether its numbers were plain, and the place behind it, or a refusal.
-#[derive(Drop)]
+#[derive(Clone, Copy)]
 pub enum NodeRead {
     Value(Node, bool, usize),
     Refused(Refusal),
 }
 
 // How many coordinate blocks, how many nodes all of them have, and whether every number was plain.
-#[derive(Drop)]
+#[derive(Clone, Copy)]
 pub struct Sizes {
     pub blocks: u64,
     pub nodes: u64,
@@ -33,7 +35,7 @@ pub struct Sizes {
 }
 
 // The sizes of a way's data with the place behind it, or a refusal.
-#[derive(Drop)]
+#[derive(Clone, Copy)]
 pub enum WayDataRead {
     Value(Sizes, usize),
     Refused(Refusal),

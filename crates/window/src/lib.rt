@@ -1,6 +1,8 @@
 // A window over several tiles (request 10): the base tiles that a rectangle of sub tiles touches, row by row, each with its touched cells.
 // A rectangle may be 2^64 wide, so nothing walks over it: its columns and rows are cut to the grid's, and tile k is column k % columns of row
 // k / columns.
+#![tactic(auto)]
+
 ghost use Rattle.std.specs.Prelude.{◌≡◌, ◌%◌, ◌^◌, ◌≤◌, ◌<◌, pos, nat_abs, ◌+ℤ◌, ◌-ℤ◌};
 ghost use Rattle.byte_source.specs.BigEndian.{twos_complement};
 ghost use Rattle.format.specs.Index.{width, row_major};
@@ -15,7 +17,7 @@ use index::GridRead;
 use types::Grid;
 
 // Sub tiles, two zoom levels below the base, so that a tile has 4 by 4 of them. Both ends are included, and rows grow downwards.
-#[derive(Drop)]
+#[derive(Clone, Copy)]
 pub struct Window {
     pub left: i64,
     pub top: i64,
@@ -24,7 +26,7 @@ pub struct Window {
 }
 
 // A tile that the window touches, its number in the sub file, and its touched cells, row by row, bit 15 the top left.
-#[derive(Drop)]
+#[derive(Clone, Copy)]
 pub struct WindowTile {
     pub x: i32,
     pub y: i32,
@@ -32,13 +34,13 @@ pub struct WindowTile {
     pub mask: u16,
 }
 
-#[derive(Drop)]
+#[derive(Clone, Copy)]
 pub enum WindowCountRead {
     Tiles(u64),
     Refused(Refusal),
 }
 
-#[derive(Drop)]
+#[derive(Clone, Copy)]
 pub enum WindowTileRead {
     Absent,
     At(WindowTile),

@@ -1,4 +1,6 @@
 // The tiles of a window as words for programs in other languages. An answer writes its own words; the others keep their values.
+#![tactic(auto)]
+
 ghost use Rattle.std.specs.Prelude.{◌≡◌, [], ◌∷◌};
 ghost use Rattle.wire.specs.Wire.{wire, lending};
 ghost use Rattle.window_wire.specs.Windows.{window_count_wire, window_tile_wire};

@@ -1,5 +1,7 @@
 // Answers as words, for programs in other languages: refusals, and what may be absent. 1 stands in front of what is there; what is absent is
 // all 0.
+#![tactic(auto)]
+
 ghost use Rattle.std.specs.Prelude.{◌≡◌, cond, ◌<◌, ◌^◌, set};
 ghost use Rattle.std.specs.Int.Signed.{mag};
 ghost use Rattle.std.proofs.lemmas.List.Edits.{sets};
@@ -12,14 +14,14 @@ use error::{Lengths, LentRefusal, Refusal};
 use poi::OptionalElevation;
 use types::{OptionalPosition, OptionalSpan};
 
-#[derive(Drop)]
+#[derive(Clone, Copy)]
 pub struct SpanWords {
     pub present: u64,
     pub start: u64,
     pub size: u64,
 }
 
-#[derive(Drop)]
+#[derive(Clone, Copy)]
 pub struct PlaceWords {
     pub present: u64,
     pub latitude: f64,
@@ -27,14 +29,14 @@ pub struct PlaceWords {
 }
 
 // 1 in front of an elevation in metres; 0 and 0 where it is absent.
-#[derive(Drop)]
+#[derive(Clone, Copy)]
 pub struct MetreWords {
     pub present: u64,
     pub metres: i64,
 }
 
 // A refusal's value, if it has one.
-#[derive(Drop)]
+#[derive(Clone, Copy)]
 enum OptionalValue {
     Absent,
     At(u64),

@@ -1,5 +1,7 @@
 // header.rs: the zoom intervals, each with its sub file. They are rows of 19 bytes, the last thing in the header, and are read one by one
 // where they stand, or all into an array.
+#![tactic(auto)]
+
 ghost use Rattle.std.specs.Prelude.{◌≡◌, [], ◌+◌, ◌≤◌, length};
 ghost use Rattle.parsing.specs.Parse.{ok, map_res, many};
 ghost use Rattle.byte_source.specs.Answers.{byte_res};
@@ -15,26 +17,26 @@ use error::Refusal;
 use types::{End, IntervalTable, ZoomInterval};
 
 // Up to 255 intervals, filled from the front.
-#[derive(Drop)]
+#[derive(Clone, Copy)]
 pub struct ZoomIntervals {
     pub intervals: [ZoomInterval; 255],
     pub count: u8,
 }
 
-#[derive(Drop)]
+#[derive(Clone, Copy)]
 pub enum IntervalRead {
     Value(ZoomInterval, usize),
     Refused(Refusal),
 }
 
-#[derive(Drop)]
+#[derive(Clone, Copy)]
 pub struct IntervalsRead {
     pub zooms: ZoomIntervals,
     pub end: End,
 }
 
 // Interval k of a table.
-#[derive(Drop)]
+#[derive(Clone, Copy)]
 pub enum IntervalAnswer {
     Absent,
     At(ZoomInterval),
@@ -42,7 +44,7 @@ pub enum IntervalAnswer {
 }
 
 // The number of a sub file, counted from 0.
-#[derive(Drop)]
+#[derive(Clone, Copy)]
 pub enum SubFileAnswer {
     Absent,
     At(usize),

@@ -1,4 +1,6 @@
 // blocks.rs: the zoom table of a tile.
+#![tactic(auto)]
+
 ghost use Rattle.std.specs.Prelude.{◌≡◌, ◌-◌, ◌≤◌, suc};
 ghost use Rattle.parsing.specs.Parse.{map_res, many};
 ghost use Rattle.utils.specs.Vbe.{values_of};
@@ -12,14 +14,14 @@ use types::End;
 use utils::VbeRead;
 
 // The points and ways of a zoom level.
-#[derive(Drop)]
+#[derive(Clone, Copy)]
 pub struct ZoomRow {
     pub points: u64,
     pub ways: u64,
 }
 
 // The same, and whether its numbers were plain.
-#[derive(Drop)]
+#[derive(Clone, Copy)]
 pub struct NotedRow {
     pub points: u64,
     pub ways: u64,
@@ -27,7 +29,7 @@ pub struct NotedRow {
 }
 
 // Rows from the front, zeros behind them.
-#[derive(Drop)]
+#[derive(Clone, Copy)]
 pub struct ZoomTableRead {
     pub rows: [ZoomRow; 256],
     pub count: usize,
@@ -35,7 +37,7 @@ pub struct ZoomTableRead {
 }
 
 // Points and ways of the rows up to a zoom, and of all rows. 2^64 - 1 stands for any larger sum.
-#[derive(Drop)]
+#[derive(Clone, Copy)]
 pub struct Sums {
     pub points: u64,
     pub ways: u64,
@@ -44,19 +46,19 @@ pub struct Sums {
 }
 
 // The sums, and whether the numbers of all rows were plain, also of those above the zoom.
-#[derive(Drop)]
+#[derive(Clone, Copy)]
 pub struct NotedSums {
     pub sums: Sums,
     pub plain: bool,
 }
 
-#[derive(Drop)]
+#[derive(Clone, Copy)]
 pub enum SumsRead {
     Value(NotedSums, usize),
     Refused(Refusal),
 }
 
-#[derive(Drop)]
+#[derive(Clone, Copy)]
 pub enum RowRead {
     Value(NotedRow, usize),
     Refused(Refusal),

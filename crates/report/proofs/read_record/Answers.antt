@@ -1,0 +1,14 @@
+use Rattle.byte_source.proofs.ReadLaws.{reads}
+use Rattle.report.proofs.read_record.Goals as goal
+
+pub returns-in_default : goal.returns-in_default
+returns-in_default c = search reads
+
+pub returns-in_default-got : goal.returns-in_default-got
+returns-in_default-got c = search reads
+
+pub returns-in_default-got-2 : goal.returns-in_default-got-2
+returns-in_default-got-2 c = search reads
+
+pub returns : goal.returns
+returns c = search reads

@@ -1,0 +1,15 @@
+use Rattle.format.specs.TagTable.{tag_text}
+use Rattle.tag_table.proofs.TableLaws.{walks}
+use Rattle.tag_table.proofs.tag_text.Goals as goal
+
+pub returns-then-table-k : goal.returns-then-table-k
+unfolding tag_text
+returns-then-table-k c = search walks
+
+pub returns-in_default : goal.returns-in_default
+unfolding tag_text
+returns-in_default c = search walks
+
+pub returns : goal.returns
+unfolding tag_text
+returns c = search walks

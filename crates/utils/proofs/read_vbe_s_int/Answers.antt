@@ -1,0 +1,10 @@
+use Rattle.std.proofs.Common.{arith}
+use Rattle.utils.proofs.VbeLaws.{ones, signed-one}
+use Rattle.utils.proofs.read_vbe_s_int.Goals as goal
+
+pub returns-then-map-at : goal.returns-then-map-at
+returns-then-map-at c = search ones
+
+pub returns-then-b-lt128 : goal.returns-then-b-lt128
+returns-then-b-lt128 c =
+    signed-one c.args.map.now c.args.at c.wide-b.result _ _ (omega arith) c.wide-b.ensures c.if-b-lt128.true c.signed_of.type_inv c.signed_of.ensures c.plain_signed.ensures
