@@ -5,7 +5,8 @@ use Prim.Native.Nat.{ℕ, zero, suc, ◌+◌, ◌^◌, ◌<◌}
 use native.Mathlib.Omega.{arith}
 use lib.ListN.{length}
 use Rattle.parsing.specs.Parse.{Res, ok, no, Parser, and_then, many}
-use Rattle.parsing.specs.Good.{bind-good, return-good, many-good, strict-left}
+use Rattle.parsing.specs.Good.{bind-good, return-good, strict-left}
+use Rattle.parsing.proofs.GoodLaws.{many-good}
 use Rattle.arithmetic.specs.Cut.{cut}
 use Rattle.arithmetic.proofs.CutLaws.{cut_fits}
 use Rattle.format.specs.Rows.{points_of, ways_of}

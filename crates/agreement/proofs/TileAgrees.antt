@@ -9,7 +9,8 @@ use lib.Dec.{T, eqb→eq}
 use lib.ListN.{length, take}
 use lib.Seq.{length-take-le}
 use Rattle.parsing.specs.Parse.{ok, Parser, and_then, bind, return, many, here}
-use Rattle.parsing.specs.Good.{Good, Strict, goods, stricts, split, ok-val, ok_at}
+use Rattle.parsing.specs.Good.{Good, Strict, split, ok-val, ok_at}
+use Rattle.parsing.proofs.GoodLaws.{goods, stricts}
 use Rattle.arithmetic.specs.Cut.{cut}
 use Rattle.arithmetic.proofs.CutLaws.{cut_fits}
 use Rattle.agreement.specs.Calls.{Call, run}

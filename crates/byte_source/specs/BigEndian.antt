@@ -1,7 +1,8 @@
 -- Document 01, io.rs: big-endian numbers; 32 bits in two's complement.
 use Rattle.std.specs.Prelude.{ℕ, zero, suc, ◌+◌, ◌*◌, ◌-◌, ◌^◌, ◌<◌, ◌≡◌, cond, List, [], ◌∷◌, ltb, ℤ, pos, neg_ℤ, take, drop}
 use Rattle.parsing.specs.Parse.{Parser, ◌>>=◌, return, chunk}
-use Rattle.parsing.specs.Good.{Good, goods}
+use Rattle.parsing.specs.Good.{Good}
+use Rattle.parsing.proofs.GoodLaws.{goods}
 
 -- the number of these bytes behind acc, most significant byte first
 unfoldable pub big_endian_of : ℕ → List ℕ → ℕ

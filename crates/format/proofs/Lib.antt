@@ -1,3 +1,5 @@
+pub mod HeadLaws
+pub mod NodeLaws
 pub mod TagLaws
 pub mod ListLaws
 pub mod IntervalLaws

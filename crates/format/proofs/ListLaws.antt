@@ -11,7 +11,8 @@ use lib.ListN.{length, get_or, drop, length-append, length-map, get_or-append}
 use lib.Seq.{get_or-append-add}
 use borrow.Author.Tests.{lt-ltb, le-ltb, ltb-true, ltb-false}
 use Rattle.parsing.specs.Parse.{ok, Part, and_then, passed, many, nth}
-use Rattle.parsing.specs.Good.{Split, split, ok-val, ok_at, total, many-weight, strict-weight}
+use Rattle.parsing.specs.Good.{Split, split, ok-val, ok_at, total, strict-weight}
+use Rattle.parsing.proofs.GoodLaws.{many-weight}
 use Rattle.parsing.proofs.Lists.{nth_past}
 use Rattle.utils.specs.Vbe.{text, text-strict}
 use Rattle.tag.specs.Tag.{letter_of, kind_of}

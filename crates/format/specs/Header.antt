@@ -3,7 +3,8 @@
 use Rattle.std.specs.Prelude.{ℕ, zero, suc, ◌+◌, ◌*◌, ◌/◌, ◌%◌, ◌^◌, Bool, true, false, cond, ◌&&◌, List, [], ◌∷◌, leb, eqb, ℤ, pos, negsuc}
 use Rattle.std.specs.Int.Signed.{le_z}
 use Rattle.parsing.specs.Parse.{Res, ok, no, Parser, and_then, bind, ◌>>=◌, return, fail, pick, many, here, seek, byte, chunk, Part, Maybe, none, some, optional}
-use Rattle.parsing.specs.Good.{Good, goods}
+use Rattle.parsing.specs.Good.{Good}
+use Rattle.parsing.proofs.GoodLaws.{goods}
 use Rattle.byte_source.specs.BigEndian.{big_endian, int32, bytes}
 use Rattle.utils.specs.Vbe.{text, numbers}
 use Rattle.format.specs.WayData.{Node}

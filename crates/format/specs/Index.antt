@@ -3,7 +3,8 @@
 use Rattle.std.specs.Prelude.{ℕ, zero, suc, ◌+◌, ◌*◌, ◌-◌, ◌%◌, ◌^◌, Bool, true, false, cond, ◌&&◌, List, [], ◌∷◌, leb, ltb, eqb, ℤ, nat_abs, ◌-ℤ◌}
 use Rattle.std.specs.Int.Signed.{le_z}
 use Rattle.parsing.specs.Parse.{Res, ok, no, Parser, and_then, map_res, ◌>>=◌, return, fail, pick, Maybe, none, some}
-use Rattle.parsing.specs.Good.{Good, goods}
+use Rattle.parsing.specs.Good.{Good}
+use Rattle.parsing.proofs.GoodLaws.{goods}
 use Rattle.byte_source.specs.BigEndian.{big_endian, bytes}
 use Rattle.format.specs.Header.{Interval, between}
 use Rattle.format.specs.CutOff.{of_index}

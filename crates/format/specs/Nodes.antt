@@ -58,14 +58,3 @@ initial_latitudes blocks = map (λ b. initial_node (map latitude_of b)) blocks
 
 abbrev pub initial_longitudes : List (List Node) → List Float
 initial_longitudes blocks = map (λ b. initial_node (map longitude_of b)) blocks
-
--- the laws: each node has its coordinate
-length-later_nodes : (double : Bool) (last delta : Float) (l : List ℤ) → length (later_nodes double last delta l) ≡ length l
-length-later_nodes double last delta [] = refl
-length-later_nodes double last delta (z ∷ l) =
-    let next = next_delta double delta (degrees z) in
-    ap suc (length-later_nodes double (Ieee.add binary64 last next) next l)
-
-pub length-block_nodes : (double : Bool) (l : List ℤ) → length (block_nodes double l) ≡ length l
-length-block_nodes double [] = refl
-length-block_nodes double (z ∷ l) = ap suc (length-later_nodes double _ _ l)

@@ -2,7 +2,8 @@
 -- collected tile" ("Zoom is clamped into the interval; rows up to it count").
 use Rattle.std.specs.Prelude.{ℕ, suc, ◌-◌, max, min, Bool, true, List, [], leb, replicate}
 use Rattle.parsing.specs.Parse.{Parser, return, fail, pick, many, none}
-use Rattle.parsing.specs.Good.{Good, goods, total}
+use Rattle.parsing.specs.Good.{Good, total}
+use Rattle.parsing.proofs.GoodLaws.{goods}
 use Rattle.utils.specs.Vbe.{Noted}
 use Rattle.format.specs.Tile.{Row, row, zoom_table, zoom_table-good, TileHead, tile_head, tile_head-good}
 use Rattle.format.specs.Index.{Located}

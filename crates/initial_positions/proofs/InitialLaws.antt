@@ -14,7 +14,8 @@ use borrow.Author.Rules.{rules}
 use borrow.Author.Tests.{le-leb, lt-leb, leb-true, leb-false}
 use Rattle.format.specs.Lent.{sets-front}
 use Rattle.format.specs.WayData.{Node, concat}
-use Rattle.format.specs.Nodes.{zero64, block_nodes, initial_node, node_counts, length-block_nodes}
+use Rattle.format.specs.Nodes.{zero64, block_nodes, initial_node, node_counts}
+use Rattle.format.proofs.NodeLaws.{length-block_nodes}
 use Rattle.initial_positions.specs.Initial.{first_of, initials, write_initials}
 
 -- one value

@@ -4,7 +4,8 @@ use mathlib.Core.Path.{◌≡◌, refl}
 use mathlib.Core.Bool.{Bool}
 use mathlib.Core.List.{List, []}
 use Rattle.parsing.specs.Parse.{no, Maybe, none, some}
-use Rattle.parsing.specs.Good.{Good, goods}
+use Rattle.parsing.specs.Good.{Good}
+use Rattle.parsing.proofs.GoodLaws.{goods}
 use Rattle.format.specs.Header.{Interval, header-good, signature-good, signature, debug}
 use Rattle.format.specs.Header as header
 use Rattle.format.specs.Index.{in_sub_file, answered, Grid, entry_at, Located, located, locate_in, located-good}

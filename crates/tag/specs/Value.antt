@@ -2,7 +2,8 @@
 -- many bytes; any other letter, or none, has nothing.
 use Rattle.std.specs.Prelude.{ℕ, true}
 use Rattle.parsing.specs.Parse.{Parser, ◌>>=◌, return, Part, part}
-use Rattle.parsing.specs.Good.{Good, goods}
+use Rattle.parsing.specs.Good.{Good}
+use Rattle.parsing.proofs.GoodLaws.{goods}
 use Rattle.utils.specs.Vbe.{Noted, noted, noted_unsigned, numbers}
 use Rattle.tag.specs.declared.Kind.{Kind}
 use Rattle.tag.specs.declared.Kind.TheVariants.{Byte, Short, Int, Float, Text, Nothing}

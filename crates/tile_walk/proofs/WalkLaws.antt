@@ -14,7 +14,8 @@ use Rattle.error.specs.Refusals.{refused, number_of, values_of}
 use Rattle.error.specs.declared.Refusal.{Refusal}
 use Rattle.byte_source.proofs.ReadLaws.{taken}
 use Rattle.tag.specs.declared.Kind.{Kind}
-use Rattle.format.specs.Tile.{Point, Head, Body, point, head, head_post, body, body-good}
+use Rattle.format.specs.Tile.{Point, Head, Body, point, head, body, body-good}
+use Rattle.format.proofs.HeadLaws.{head_post}
 use Rattle.types.proofs.NotedLaws.{and-true, and_assoc}
 use Rattle.types.specs.Types.{end_res, end_refusal}
 use Rattle.types.specs.declared.End.TheVariants as end

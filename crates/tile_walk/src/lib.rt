@@ -77,7 +77,7 @@ pub fn measure_points(
 }
 
 // One way: its decoded length is counted from its data start, as its stored size is.
-fn measure_way(map: &[u8], at: usize, layout: TileLayout, letters: &[u8]) -> WaysRead
+pub fn measure_way(map: &[u8], at: usize, layout: TileLayout, letters: &[u8]) -> WaysRead
     ensures { ways_res result ≡ said_way (kinds_of layout letters.now) map.now at }
 {
     let tags = layout.way_tags;

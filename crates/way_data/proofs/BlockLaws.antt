@@ -22,7 +22,8 @@ use Rattle.byte_source.specs.declared.NumberRead.{NumberRead}
 use Rattle.byte_source.specs.declared.NumberRead.TheVariants as number
 use Rattle.utils.specs.Vbe.{unsigned}
 use Rattle.format.specs.WayData.{Node, concat, node_count}
-use Rattle.format.specs.Nodes.{block_nodes, latitude_of, longitude_of, node_counts, latitudes, longitudes, length-block_nodes}
+use Rattle.format.specs.Nodes.{block_nodes, latitude_of, longitude_of, node_counts, latitudes, longitudes}
+use Rattle.format.proofs.NodeLaws.{length-block_nodes}
 use Rattle.way_measure.proofs.MeasureLaws.{count-append}
 use Rattle.way_data.specs.Writes.{node_alone, block_alone, data_block_alone, in_block, one_block, NodesFit, NodesWritten, BlocksFit, BlocksWritten}
 use Rattle.way_data.specs.declared.Progress.{Progress}

@@ -11,7 +11,8 @@ use mir.Syntax.{w64}
 use mir.Val.{Fits}
 use borrow.Author.Rules.{rules}
 use Rattle.parsing.specs.Parse.{Res, ok, no, Parser, and_then, map_res, bind, return, many}
-use Rattle.parsing.specs.Good.{Weight, total, many-weight, strict-weight, bind-weight, pick-weight, fail-weight, more-weight, split, ok-val, ok_at, no_ok}
+use Rattle.parsing.specs.Good.{Weight, total, strict-weight, bind-weight, pick-weight, fail-weight, more-weight, split, ok-val, ok_at, no_ok}
+use Rattle.parsing.proofs.GoodLaws.{many-weight}
 use Rattle.parsing.proofs.Loops.{fold_more, counted, many-count}
 use Rattle.error.specs.Refusals.{refused}
 use Rattle.error.specs.declared.Refusal.{Refusal}

@@ -1,0 +1,9 @@
+use Prim.Native.Nat.{◌-◌}
+use Rattle.quick_head.proofs.QuickLaws.{quicks}
+use Rattle.quick_head.proofs.quick_values.Goals as goal
+
+pub loop-i-preserved : goal.loop-i-preserved
+loop-i-preserved c = search quicks
+
+pub returns : goal.returns
+returns c = search quicks
