@@ -13,6 +13,7 @@ use Rattle.parsing.proofs.Ends.{PastEnd, Still, AtEnd, stopped, stays, part_end,
 use Rattle.utils.specs.Vbe.{Noted, values_of, all_plain, groups, noted_unsigned, noted_signed, noted_coordinate}
 use Rattle.format.specs.WayData.{node}
 use Rattle.format.specs.Tile as tile
+use Rattle.format.proofs.HeadLaws as heads
 use Rattle.format.specs.Rows.{points_of, ways_of, marked_head}
 use Rattle.format.proofs.EmptyLaws.{no-points, no-ways}
 use Rattle.parsing.specs.Good.{ok-val}
@@ -27,7 +28,7 @@ tile-laws debug poi_kinds way_kinds = record {
   point-strict = tile.point-strict debug poi_kinds;
   head-good = tile.head-good debug way_kinds;
   head-strict = tile.head-strict debug way_kinds;
-  head_post = tile.head_post debug way_kinds;
+  head_post = heads.head_post debug way_kinds;
   body-good = tile.body-good;
 }
 

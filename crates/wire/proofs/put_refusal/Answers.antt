@@ -1,3 +1,4 @@
+use mathlib.Core.List.{[]}
 use Rattle.wire.proofs.CaseLaws.{refusal-plain, refusal-valued}
 use Rattle.wire.proofs.put_refusal.Goals as goal
 
