@@ -2,7 +2,7 @@
  * C++. mapsforge_grid.h finds the tiles of a map; examples/list_tile.c is a small program with both.
  *
  * Every function takes anything, ends, stays inside what it is lent, and gives 0, or the number of a refusal (below); mapsforge_shares_cell
- * alone, which refuses nothing, gives true or false. Each is proved: see crates/exports/src/lib.rt. Nothing is allocated, no state is kept
+ * alone, which refuses nothing, gives true or false. Each is proved: see crates/exports_c/src/lib.rt. Nothing is allocated, no state is kept
  * between calls, and calls may run in several threads at once.
  *
  * A slice goes as its address and its number of entries; an array of a given length goes by its address alone. An empty slice's address

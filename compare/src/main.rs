@@ -70,7 +70,7 @@ compare/run [--rust FOLDER] COMMAND ARGS...
   help                this text
 
 scale, quick, book, zooming, altered, window, rules and wanted link target/staticlib/libmapsforge.a, which host/library builds first, and
-libgeneral_next.a beside it, which `rt staticlib general_next` builds; or those of the folder MAPSFORGE_LIB names.
+libgeneral_next.a beside it, which `host/library general_next` builds; or those of the folder MAPSFORGE_LIB names.
 
 FOLDER holds the Rust: error.rs, io.rs and so on. By default it is compare/mapsforge-rs.
 ";

@@ -1,4 +1,4 @@
-//! include/mapsforge.h against the library's own source (crates/exports/src/lib.rt) and against src/sys.rs: the same
+//! include/mapsforge.h against the library's own source (crates/exports_c/src/lib.rt) and against src/sys.rs: the same
 //! functions, with the same parameters of the same types in the same order. Its names of words against src/word.rs, which
 //! the wrapper reads words by. And the header in use, from C.
 
@@ -36,7 +36,7 @@ impl Sources {
     fn read() -> Sources {
         Sources {
             header: text("include/mapsforge.h"),
-            rattle: text("crates/exports/src/lib.rt"),
+            rattle: text("crates/exports_c/src/lib.rt"),
             rust: text("host/src/sys.rs"),
         }
     }
@@ -219,6 +219,26 @@ fn of_rattle(text: &str) -> Functions {
         }
         vec![(name.into(), format!("*{access} {inside}")), (format!("{name}_len"), "usize".into())]
     })
+}
+
+/// The parameters and clauses of the functions behind a mark, by name.
+fn promises(text: &str, mark: &str) -> BTreeMap<String, String> {
+    let pieces = text.split(mark).skip(1).map(|piece| {
+        let (head, _) = piece.split_once("\n{\n").expect("the function has a body");
+        let head = packed(head).replace("( ", "(").replace(", )", ")");
+        let (name, rest) = head.split_once('(').expect("the function has parameters");
+        (name.to_string(), rest.to_string())
+    });
+    pieces.collect()
+}
+
+/// What is linked promises what the theorems on programs in other languages take from the library `exports`.
+#[test]
+fn what_is_linked_promises_what_the_library_does() {
+    let linked = promises(&text("crates/exports_c/src/lib.rt"), "\npub extern \"C\" fn ");
+    assert_eq!(linked.len(), 26);
+    assert!(linked.values().all(|promise| promise.contains(" ensures { ")));
+    assert_eq!(linked, promises(&text("crates/exports/src/lib.rt"), "\npub fn "));
 }
 
 #[test]

@@ -39,15 +39,18 @@ impl Tree {
         let own = format!("{name}-{}", std::process::id());
         let top = Path::new(env!("CARGO_TARGET_TMPDIR")).join(own);
         let _ = fs::remove_dir_all(&top);
-        for folder in ["bin", "host/src", "crates/exports/src", "crates/visit/proofs"] {
+        for folder in
+            ["bin", "host/src", "crates/exports/src", "crates/exports_c/src", "crates/visit/proofs"]
+        {
             fs::create_dir_all(top.join(folder)).unwrap();
         }
         for file in ["mapsforge", "host/library", "host/inputs"] {
             program(&top.join(file), &fs::read_to_string(repository(file)).unwrap());
         }
         for (file, text) in [
-            ("crates.txt", "visit:\nexports: visit\n"),
+            ("crates.txt", "visit:\nexports: visit\nexports_c staticlib: exports\n"),
             ("crates/exports/src/lib.rt", "fn one"),
+            ("crates/exports_c/src/lib.rt", "extern fn one"),
             ("crates/visit/proofs/One.antt", "a proof"),
             ("host/src/lib.rs", "pub fn one() {}"),
             ("host/Cargo.toml", "[package]"),
@@ -58,8 +61,9 @@ impl Tree {
         }
         // What is built is the content of what it is built from.
         program(&top.join("bin/rt"),
-            "#!/bin/sh\necho \"rt $*\" >>calls\ncase $1 in staticlib)\n\
-             mkdir -p target/staticlib && cat crates/exports/src/lib.rt >target/staticlib/libexports.a;;\n\
+            "#!/bin/sh\necho \"${PWD##*/}: rt $*\" >>\"${0%/*}/../calls\"\ncase \"${PWD##*/} $*\" in \"exports_c lib\")\n\
+             mkdir -p out && cat ../exports/src/lib.rt src/lib.rt >out/libexports_c.a;;\n\
+             *\\ doc) echo \"${0%/*}/kit/START-HERE.md\";;\n\
              esac\n",
         );
         program(&top.join("bin/cargo"),
@@ -94,8 +98,10 @@ impl Tree {
         let _ = fs::remove_file(self.top.join("calls"));
         let mut called = Vec::new();
         for line in calls.lines() {
-            if line == "rt staticlib exports" {
+            if line == "exports_c: rt lib" {
                 called.push("library");
+            } else if line.starts_with("rattle build") {
+                called.push("over what rt ci left");
             } else if line.starts_with("cargo") {
                 called.push("command");
             }
@@ -154,6 +160,39 @@ fn the_script_decides_by_content() {
     fs::write(tree.top.join("target/staticlib/libmapsforge.a"), "other").unwrap();
     assert_eq!(tree.calls(), ["library"]);
     assert_eq!(tree.calls(), [""; 0]);
+}
+
+/// The gate builds the library over the crates that `rt ci` left proved, and by `rt lib` where they cannot be used.
+#[test]
+fn the_gate_builds_over_what_it_proved() {
+    let tree = Tree::new("script-gate");
+    fs::create_dir_all(tree.top.join("bin/kit/bin")).unwrap();
+    program(&tree.top.join("bin/kit/bin/rattle"),
+        "#!/bin/sh\necho \"rattle $*\" >>\"${0%/*}/../../../calls\"\nout=${PWD%/*}/exports/out/rlib\n\
+         case \" $* \" in *\" --extern exports=$out/exports.rlib -L dependency=$out \"*) cat \"$out/exports.rlib\" >out/libexports_c.a;;\n\
+         *) false;; esac\n",
+    );
+    let library = tree.top.join("target/staticlib/libmapsforge.a");
+    let build = || {
+        let path = format!("{}:/usr/bin:/bin", tree.top.join("bin").display());
+        let mut command = Command::new(tree.top.join("host/library"));
+        let output =
+            command.arg("--of-ci").env_clear().env("PATH", path).output().expect("it runs");
+        assert!(output.status.success(), "{}", String::from_utf8_lossy(&output.stderr));
+        (tree.called(), fs::read_to_string(&library).unwrap())
+    };
+    let (called, built) = build();
+    assert_eq!(
+        (called, built.as_str()),
+        (vec!["over what rt ci left", "library"], "fn oneextern fn one")
+    );
+
+    fs::create_dir_all(tree.top.join("crates/exports/out/rlib")).unwrap();
+    fs::write(tree.top.join("crates/exports/out/rlib/exports.rlib"), "proved").unwrap();
+    let (called, built) = build();
+    assert_eq!((called, built.as_str()), (vec!["over what rt ci left"], "proved"));
+    // It is noted as the library of these sources.
+    assert_eq!(tree.calls(), ["command"]);
 }
 
 #[test]

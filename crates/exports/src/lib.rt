@@ -1,7 +1,7 @@
-// The reader for programs in other languages; include/mapsforge.h declares these functions and says what each word is. A slice goes by its
-// address and its length, an array by its address alone. Each call answers 0, or the number of a refusal, whose values go to the first
-// words. An answer writes its own words, and the others keep their values. What a call needs of the header is handed in: the layout that
-// opening gave, and its sub file's interval.
+// The reader for programs in other languages, which link these functions by exports_c, under their own names; include/mapsforge.h declares them
+// and says what each word is. Each call answers 0, or the number of a refusal, whose values go to the first words. An answer writes its own
+// words, and the others keep their values. What a call needs of the header is handed in: the layout that opening gave, and its sub file's
+// interval.
 #![tactic(auto)]
 
 ghost use Rattle.std.specs.Prelude.{◌≡◌, [], ◌∷◌, length};
@@ -35,8 +35,7 @@ use window::Window;
 
 // The header but for its intervals, in 34 words and six degrees, and what tiles and sub files need of it, in seven words. The start and the
 // letter of each point tag and then of each way tag go to the fronts of two lists, which other calls take.
-#[unsafe(no_mangle)]
-pub extern "C" fn mapsforge_open(
+pub fn mapsforge_open(
     map: &[u8],
     starts: &mut [u64],
     letters: &mut [u8],
@@ -51,8 +50,7 @@ pub extern "C" fn mapsforge_open(
 }
 
 // The zoom interval of a sub file, in the six words that other calls take, read where the layout says that the intervals stand.
-#[unsafe(no_mangle)]
-pub extern "C" fn mapsforge_interval(
+pub fn mapsforge_interval(
     map: &[u8],
     layout: &[u64; 7],
     sub_file: usize,
@@ -67,13 +65,7 @@ pub extern "C" fn mapsforge_interval(
 }
 
 // The first sub file whose interval has the zoom.
-#[unsafe(no_mangle)]
-pub extern "C" fn mapsforge_sub_file(
-    map: &[u8],
-    layout: &[u64; 7],
-    zoom: u8,
-    words: &mut [u64; 8],
-) -> u64
+pub fn mapsforge_sub_file(map: &[u8], layout: &[u64; 7], zoom: u8, words: &mut [u64; 8]) -> u64
     ensures { Crosses (sub_file_wire (lending (words.old ∷ []) [] [])) (SubFileOf map.now zoom (intervals_in layout.now)) (wire result (words.new ∷ []) [] []) }
 {
     let table = header_wire::intervals_in(*layout);
@@ -82,8 +74,7 @@ pub extern "C" fn mapsforge_sub_file(
 }
 
 // Where the text of tag k stands, of `count` tags from entry `first` of the lists on, and the kind of its inline value.
-#[unsafe(no_mangle)]
-pub extern "C" fn mapsforge_tag(
+pub fn mapsforge_tag(
     map: &[u8],
     starts: &[u64],
     letters: &[u8],
@@ -101,8 +92,7 @@ pub extern "C" fn mapsforge_tag(
 }
 
 // A text with each ill-formed part replaced by U+FFFD, to the front of the buffer.
-#[unsafe(no_mangle)]
-pub extern "C" fn mapsforge_text(text: &[u8], buffer: &mut [u8], words: &mut [u64; 7]) -> u64
+pub fn mapsforge_text(text: &[u8], buffer: &mut [u8], words: &mut [u64; 7]) -> u64
     ensures { Crosses (text_wire (lending (words.old ∷ []) [] [])) (λ a. outcome a buffer.new ≡ writing text.now buffer.old 0) (wire result (words.new ∷ []) [] []) }
 {
     let got = text::write_replaced(text, buffer, 0);
@@ -110,8 +100,7 @@ pub extern "C" fn mapsforge_text(text: &[u8], buffer: &mut [u8], words: &mut [u6
 }
 
 // How many tiles a sub file has.
-#[unsafe(no_mangle)]
-pub extern "C" fn mapsforge_tile_count(
+pub fn mapsforge_tile_count(
     interval: &[u64; 6],
     x_min: i32,
     y_min: i32,
@@ -132,8 +121,7 @@ pub extern "C" fn mapsforge_tile_count(
 }
 
 // The number of the tile x, y.
-#[unsafe(no_mangle)]
-pub extern "C" fn mapsforge_tile_index(
+pub fn mapsforge_tile_index(
     interval: &[u64; 6],
     x_min: i32,
     y_min: i32,
@@ -156,8 +144,7 @@ pub extern "C" fn mapsforge_tile_index(
 }
 
 // A tile's entry in the index.
-#[unsafe(no_mangle)]
-pub extern "C" fn mapsforge_index_entry(
+pub fn mapsforge_index_entry(
     map: &[u8],
     layout: &[u64; 7],
     interval: &[u64; 6],
@@ -183,8 +170,7 @@ pub extern "C" fn mapsforge_index_entry(
 }
 
 // The column that a longitude lies in.
-#[unsafe(no_mangle)]
-pub extern "C" fn mapsforge_column(
+pub fn mapsforge_column(
     longitude: f64,
     zoom: u8,
     words: &mut [u64; 6],
@@ -197,8 +183,7 @@ pub extern "C" fn mapsforge_column(
 }
 
 // The longitude at which a column starts.
-#[unsafe(no_mangle)]
-pub extern "C" fn mapsforge_longitude(
+pub fn mapsforge_longitude(
     column: u32,
     zoom: u8,
     words: &mut [u64; 6],
@@ -211,8 +196,7 @@ pub extern "C" fn mapsforge_longitude(
 }
 
 // How many tiles of the grid a rectangle of sub tiles touches.
-#[unsafe(no_mangle)]
-pub extern "C" fn mapsforge_window_count(
+pub fn mapsforge_window_count(
     x_min: i32,
     y_min: i32,
     x_max: i32,
@@ -242,8 +226,7 @@ pub extern "C" fn mapsforge_window_count(
 }
 
 // Tile k of those, row by row from the top, left to right: its number, its touched cells, its column and row.
-#[unsafe(no_mangle)]
-pub extern "C" fn mapsforge_window_tile(
+pub fn mapsforge_window_tile(
     x_min: i32,
     y_min: i32,
     x_max: i32,
@@ -275,16 +258,14 @@ pub extern "C" fn mapsforge_window_tile(
 }
 
 // Whether a way's bitmap and a tile's mask share a cell: if not, the way is declined. This call refuses nothing, and answers outright.
-#[unsafe(no_mangle)]
-pub extern "C" fn mapsforge_shares_cell(bitmap: u16, mask: u16) -> bool
+pub fn mapsforge_shares_cell(bitmap: u16, mask: u16) -> bool
     ensures { result ≡ shares_cell bitmap mask }
 {
     window::shares_cell(bitmap, mask)
 }
 
 // A stream of a tile: its state, in eight words.
-#[unsafe(no_mangle)]
-pub extern "C" fn mapsforge_stream_open(
+pub fn mapsforge_stream_open(
     map: &[u8],
     layout: &[u64; 7],
     interval: &[u64; 6],
@@ -346,8 +327,7 @@ fn try_quick(
 }
 
 // The next point, the next way's head, or the end.
-#[unsafe(no_mangle)]
-pub extern "C" fn mapsforge_stream_next(
+pub fn mapsforge_stream_next(
     map: &[u8],
     layout: &[u64; 7],
     letters: &[u8],
@@ -402,8 +382,7 @@ fn put_back(number: u64, before: [u64; 8], state: &mut [u64; 8]) -> u64
 // Next with every way declined that the window and the rules do not select: `select` says which of them count, with the window's mask and the
 // zoom, and `classes` is a table that a check of rules filled. It goes by the calls themselves, so that the functions that next calls have no
 // other caller and are inlined there; a way that goes past leaves no words.
-#[unsafe(no_mangle)]
-pub extern "C" fn mapsforge_stream_next_selected(
+pub fn mapsforge_stream_next_selected(
     map: &[u8],
     layout: &[u64; 7],
     letters: &[u8],
@@ -448,8 +427,7 @@ pub extern "C" fn mapsforge_stream_next_selected(
 }
 
 // The waiting way's body; its node counts, latitudes and longitudes go to the fronts of the lists.
-#[unsafe(no_mangle)]
-pub extern "C" fn mapsforge_stream_accept(
+pub fn mapsforge_stream_accept(
     map: &[u8],
     state: &mut [u64; 8],
     node_counts: &mut [u64],
@@ -466,8 +444,7 @@ pub extern "C" fn mapsforge_stream_accept(
 }
 
 // Past the waiting way, by its stored size.
-#[unsafe(no_mangle)]
-pub extern "C" fn mapsforge_stream_decline(state: &mut [u64; 8], words: &mut [u64; 6]) -> u64
+pub fn mapsforge_stream_decline(state: &mut [u64; 8], words: &mut [u64; 6]) -> u64
     ensures { Crosses (decline_wire (lending (words.old ∷ state.old ∷ []) [] [])) (DeclineOf (stream_in state.old)) (wire result (words.new ∷ state.new ∷ []) [] []) }
 {
     let step = visit::decline(stream_wire::stream_in(*state));
@@ -476,8 +453,7 @@ pub extern "C" fn mapsforge_stream_decline(state: &mut [u64; 8], words: &mut [u6
 
 // Past the waiting way and then the next point, way or end, in one call, for a program that declines most ways. 16 while no way waits; a
 // refused call leaves the way waiting.
-#[unsafe(no_mangle)]
-pub extern "C" fn mapsforge_stream_skip(
+pub fn mapsforge_stream_skip(
     map: &[u8],
     layout: &[u64; 7],
     letters: &[u8],
@@ -510,8 +486,7 @@ pub extern "C" fn mapsforge_stream_skip(
 }
 
 // A collected tile; its zoom table's rows go to the fronts of two lists, and where each feature starts to that of a third, `places`.
-#[unsafe(no_mangle)]
-pub extern "C" fn mapsforge_collect(
+pub fn mapsforge_collect(
     map: &[u8],
     layout: &[u64; 7],
     letters: &[u8],
@@ -541,8 +516,7 @@ pub extern "C" fn mapsforge_collect(
 }
 
 // Feature k of a collected tile: points from 0, ways behind them. It is read from where collecting listed it, and nothing else is.
-#[unsafe(no_mangle)]
-pub extern "C" fn mapsforge_fetch(
+pub fn mapsforge_fetch(
     map: &[u8],
     layout: &[u64; 7],
     starts: &[u64],
@@ -586,8 +560,7 @@ pub extern "C" fn mapsforge_fetch(
 }
 
 // A way's data from a place on: the numbers of blocks and nodes, and the place behind them.
-#[unsafe(no_mangle)]
-pub extern "C" fn mapsforge_measure_way_data(
+pub fn mapsforge_measure_way_data(
     map: &[u8],
     at: usize,
     data_blocks: u64,
@@ -600,8 +573,7 @@ pub extern "C" fn mapsforge_measure_way_data(
 }
 
 // The same, and the nodes to the fronts of three lists.
-#[unsafe(no_mangle)]
-pub extern "C" fn mapsforge_read_way_data(
+pub fn mapsforge_read_way_data(
     map: &[u8],
     at: usize,
     data_blocks: u64,
@@ -626,8 +598,7 @@ pub extern "C" fn mapsforge_read_way_data(
 }
 
 // Checks showing rules, each of four bytes, for a map with so many way tags, and fills the table with the class of each tag and zoom.
-#[unsafe(no_mangle)]
-pub extern "C" fn mapsforge_check_rules(
+pub fn mapsforge_check_rules(
     rules: &[u8],
     way_tags: u16,
     classes: &mut [u8],
@@ -640,13 +611,7 @@ pub extern "C" fn mapsforge_check_rules(
 }
 
 // Whether a way with these tag ids is accepted at a zoom, by a table that a check of rules filled.
-#[unsafe(no_mangle)]
-pub extern "C" fn mapsforge_shows(
-    classes: &[u8],
-    zoom: u8,
-    ids: &[u64],
-    words: &mut [u64; 7],
-) -> u64
+pub fn mapsforge_shows(classes: &[u8], zoom: u8, ids: &[u64], words: &mut [u64; 7]) -> u64
     ensures { Crosses (shown_wire (lending (words.old ∷ []) [] [])) (λ b. b ≡ shown classes.now zoom ids.now) (wire result (words.new ∷ []) [] []) }
 {
     let got = showing::shows(classes, zoom, ids);
@@ -654,8 +619,7 @@ pub extern "C" fn mapsforge_shows(
 }
 
 // What a tile's stream at a zoom will want, by a list of decisions: byte j decides way j, 0 declines it, and behind the end ways are declined.
-#[unsafe(no_mangle)]
-pub extern "C" fn mapsforge_wanted(
+pub fn mapsforge_wanted(
     map: &[u8],
     layout: &[u64; 7],
     letters: &[u8],

@@ -1,9 +1,9 @@
 -- From the decisions of a rule to the stream that it drives.
-use mathlib.Core.Path.{◌≡◌, sym, ap, ◌∙◌}
+use mathlib.Core.Path.{◌≡◌, refl, sym, ap, subst, ◌∙◌}
 use mathlib.Core.Bool.{Bool}
-use mathlib.Core.List.{List}
-use Prim.Native.Nat.{ℕ}
-use Rattle.parsing.specs.Parse.{ok, Maybe}
+use mathlib.Core.List.{List, ◌∷◌}
+use Prim.Native.Nat.{ℕ, suc}
+use Rattle.parsing.specs.Parse.{ok, Maybe, some}
 use Rattle.format.specs.Header.{Interval}
 use Rattle.format.specs.Index.{Grid}
 use Rattle.format.specs.Lent.{LentLists}
@@ -17,7 +17,7 @@ use Rattle.visit.specs.Visit.{TileState, open_tile, open_res}
 use Rattle.visit.specs.declared.OpenRead.{OpenRead}
 use Rattle.selection.specs.Selects.{selected}
 use Rattle.selection.proofs.DrivenLaws.{selected-is-stream}
-use Rattle.wanted.specs.Taken.{Taken}
+use Rattle.wanted.specs.Taken.{Taken, accepts}
 use Rattle.wanted.specs.Wanted.{wanted_state, wanted_tile, wanted_res}
 use Rattle.wanted.specs.WantedSays.{decided, StreamedAs, no-ways, by-head, with-body}
 use Rattle.wanted.specs.DrivenLists.{DecidesAs, on_none, on-more, DeliveredIsDriven, DrivenWants, WantedDriven}
@@ -27,13 +27,40 @@ use Rattle.wanted.proofs.StreamLaws.{delivered-is-stream}
 use Rattle.wanted.proofs.SaysLaws.{known, opened-value, after-opening}
 
 module _ (F : Format) (m : List ℕ) (rule : F.Head → Bool) (ds : List ℕ) where
+  -- what was taken of a way that was accepted, and of those behind it
+  record Bodied (ts : List (Taken F)) (h : F.Head) (ls : List LentLists) (ws : List (Way F)) : Type 0 where
+    pub body : F.Body
+    pub rest : List (Taken F)
+    pub is : ts ≡ record { head = h; body = some body } ∷ rest
+    pub same : StreamedAs F rest ls ws
+
+  bodied : {ts : List (Taken F)} {ls' : List LentLists} {ws' : List (Way F)} (h : F.Head) (l l' : LentLists) (b : F.Body) (ls : List LentLists) (ws : List (Way F))
+      → StreamedAs F ts ls' ws' → ls' ≡ l ∷ ls → ws' ≡ zooming.whole h l b l' ∷ ws → Bodied ts h ls ws
+  bodied h l l' b ls ws no-ways p q = cc
+  bodied h l l' b ls ws (by-head t) p q = cc
+  bodied h l l' b ls ws (with-body {h = g} {b = x} {ts = us} {ls = ks} {ws = vs} t) p q =
+      let e : g ≡ h = cc in
+      let f : ks ≡ ls = cc in
+      let d : vs ≡ ws = cc in
+      record { body = x; rest = us; is = rw e; same = rw (← f, ← d) t }
+
+  record More (k : ℕ) (w : Taken F) (ws : List (Taken F)) : Type 0 where
+    pub agrees : accepts ds k ≡ rule w.head
+    pub behind : DecidesAs F rule ds (suc k) ws
+
+  more : {k : ℕ} {w : Taken F} {ws : List (Taken F)} → DecidesAs F rule ds k (w ∷ ws) → More k w ws
+  more (on-more q a) = record { agrees = q; behind = a }
+
   -- where they agree on the ways, a stream by the decisions is the stream by the rule
   by-rule : {k : ℕ} {s : StreamState F} {ls : List LentLists} {ps : List F.Point} {ws : List (Way F)} {z : F.End} {ts : List (Taken F)}
       → EndsWell F m (decided F ds) k s ls ps ws z → StreamedAs F ts ls ws → DecidesAs F rule ds k ts → EndsWell F m (λ _ h. rule h) k s ls ps ws z
   by-rule (zooming.at-end e) no-ways on_none = zooming.at-end e
   by-rule (zooming.on-point e d) t a = zooming.on-point e (by-rule d t a)
   by-rule (zooming.on-declined e r c d) (by-head t) (on-more q a) = zooming.on-declined e (sym q ∙ r) c (by-rule d t a)
-  by-rule (zooming.on-accepted e r c d) (with-body t) (on-more q a) = zooming.on-accepted e (sym q ∙ r) c (by-rule d t a)
+  by-rule {k = k} (zooming.on-accepted {h = h} {b = b} {l = l} {l' = l'} {ls = ls} {ws = ws} e r c d) t a =
+      let x = bodied h l l' b ls ws t refl refl in
+      let y = more (subst (λ (us : List (Taken F)). DecidesAs F rule ds k us) x.is a) in
+      zooming.on-accepted e (sym y.agrees ∙ r) c (by-rule d x.same y.behind)
 
   pub delivered-is-driven : (s : StreamState F) → DeliveredIsDriven F m rule ds s
   delivered-is-driven s = record {

@@ -158,7 +158,7 @@ module _ (F : Format) (m : List ℕ) (rule : F.Head → Bool) where
     pointing d zero w i v z q a = record { points = []; end = i; read = refl; ways = taking d w i v z q a }
     pointing (zooming.on-point {s' = s'} {p = p} e d) (suc n) w i v z q a =
         let t = point-read n w i v z p s' (F.point m i) refl (ap (λ (x : S). stream F m x next) (sym q) ∙ e) in
-        let u = pointing d n w t.end v (F.note_point p z) t.left a in
+        let u = pointing {s = s'} d n w t.end v (F.note_point p z) t.left a in
         record { points = p ∷ u.points; end = u.end; read = one-point n i t.end u.end p u.points t.read u.read; ways = u.ways }
     pointing (zooming.at-end {s' = s'} {z = y} e) (suc n) w i v z q a = not-by-point n w i v z (ended y) s' (F.point m i) (ap (λ (x : S). stream F m x next) (sym q) ∙ e) (λ k. omega arith) (λ k. omega arith)
     pointing (zooming.on-declined {s' = s'} {h = g} e r c d) (suc n) w i v z q a = not-by-point n w i v z (got_head g) s' (F.point m i) (ap (λ (x : S). stream F m x next) (sym q) ∙ e) (λ k. omega arith) (λ k. omega arith)
