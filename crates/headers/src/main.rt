@@ -7,6 +7,8 @@ mod opened;
 
 use byte_source::Span;
 use report::{RecordRead, Words};
+use std::io;
+use std::io::{BufWriter, Read, Write};
 
 // M a map is opened; C and D all of its cuts and damages, c and d one of them.
 fn answer(letter: u8, map: &[u8], question: &[u8]) -> Words {
@@ -21,33 +23,41 @@ fn answer(letter: u8, map: &[u8], question: &[u8]) -> Words {
 }
 
 // The question is answered; the base map of the next one, which an M changes.
-fn next_base(input: &[u8], base: Span, letter: u8, span: Span) -> Span {
+fn next_base<W: Write>(
+    to: &mut W,
+    input: &[u8],
+    base: Span,
+    letter: u8,
+    span: Span,
+) -> io::Result<Span> {
     let question = byte_source::span_bytes(input, span);
     let map = byte_source::span_bytes(input, base);
-    report::print_line(letter, answer(letter, map, question));
+    report::print_line(to, letter, answer(letter, map, question))?;
     if letter == b'M' {
-        return span;
+        return Ok(span);
     }
-    base
+    Ok(base)
 }
 
 // No input has as many records as the loop may take.
-fn answer_all(input: &[u8]) {
+fn answer_all<W: Write>(to: &mut W, input: &[u8]) -> io::Result<()> {
     let mut base = Span { start: 0, size: 0 };
     let mut at = 0;
-    let mut turns: u64 = 100000;
-    while 0 < turns {
+    for _ in 0..100000u32 {
         let RecordRead::Asked(letter, span, next) = report::read_record(input, at) else {
-            return;
+            return Ok(());
         };
-        base = next_base(input, base, letter, span);
+        base = next_base(to, input, base, letter, span)?;
         at = next;
-        turns -= 1;
     }
+    Ok(())
 }
 
-fn main() {
-    let mut input = report::large();
-    let n = io::read_full(0, &mut input);
-    answer_all(&input[..n]);
+// More input than a map has room for is left unread.
+fn main(rt: HostRuntime) -> io::Result<()> {
+    let mut input = Vec::new(rt.alloc());
+    rt.reader().take(1100000).read_to_end(&mut input)?;
+    let mut out = BufWriter::new(rt.alloc(), io::writer(&rt))?;
+    answer_all(&mut out, &input)?;
+    out.flush()
 }

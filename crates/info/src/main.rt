@@ -3,45 +3,50 @@
 
 mod show;
 
+use std::alloc::Global;
+use std::fs::File;
+use std::io::{BufWriter, Read, Write};
+use std::{env, io};
 use types::End;
 
-// Room for a small map. In a function of its own, so that no proof looks into it.
-fn large() -> [u8; 1100000] {
-    [0; 1100000]
-}
-
-fn show_map(map: &[u8]) {
+fn show_map<W: Write>(to: &mut W, map: &[u8]) -> io::Result<()> {
     let opened = opening::from_source(map);
     let end = opened.end;
     let header = opened.header;
     match end {
-        End::At(at) => show::header(map, header, at),
-        End::Refused(r) => show::refusal(r),
+        End::At(at) => show::header(to, map, header, at),
+        End::Refused(r) => show::refusal(to, r),
     }
 }
 
-fn read_map(fd: i32) {
-    let mut map = large();
-    let n = io::read_full(fd, &mut map);
-    if 1100000 <= n {
-        show::say(b"the map is larger than this program reads (1,099,999 bytes)\n");
-        return;
-    }
-    show_map(&map[..n]);
+// No more than the program shows, and one byte.
+fn read_map<R: Read + Drop>(alloc: Global, from: R) -> io::Result<Vec<u8>> {
+    let mut map = Vec::new(alloc);
+    from.take(1100000).read_to_end(&mut map)?;
+    Ok(map)
 }
 
-fn main() {
-    let mut path = io::buffer();
-    let length = os::arg(1, &mut path);
-    if os::errno() != 0 {
-        show::say(b"usage: info MAP\n");
-        return;
+fn show_file<W: Write, R: Read + Drop>(to: &mut W, alloc: Global, from: R) -> io::Result<()> {
+    let map = read_map(alloc, from)?;
+    if 1100000 <= map.len() {
+        return writeln!(
+            to,
+            "the map is larger than this program reads (1,099,999 bytes)"
+        );
     }
-    let fd = os::open_read(&path[..length]);
-    if fd < 0 {
-        os::fail(&path[..length]);
-        return;
+    show_map(to, &map)
+}
+
+fn main(rt: HostRuntime) -> io::Result<()> {
+    let Some(path) = env::args(&rt)?.nth(1) else {
+        return println!(rt; "usage: info MAP");
+    };
+    match File::open(&rt, &path) {
+        Ok(file) => {
+            let mut out = BufWriter::new(rt.alloc(), io::writer(&rt))?;
+            show_file(&mut out, rt.alloc(), file)?;
+            out.flush()
+        }
+        Err(e) => eprintln!(rt; "{path}: {e}"),
     }
-    read_map(fd);
-    libc::close(fd);
 }

@@ -1,9 +1,11 @@
 // Digests of the answers to every short input, a line for each first byte.
 use crate::answers;
+use std::io;
+use std::io::Write;
 
-fn print_digest(letter: u8, first: u8, digest: u64) {
+fn print_digest<W: Write>(to: &mut W, letter: u8, first: u8, digest: u64) -> io::Result<()> {
     let words = report::push(report::no_words(), first as u64);
-    report::print_line(letter, report::push(words, digest));
+    report::print_line(to, letter, report::push(words, digest))
 }
 
 // The input of one byte, and then all of two bytes, that start with `first`.
@@ -18,14 +20,15 @@ fn inputs_from(letter: u8, first: u8) -> u64 {
 }
 
 // Every input of one and of two bytes, for the letter that the input names.
-pub(crate) fn short_inputs(input: &[u8]) {
+pub(crate) fn short_inputs<W: Write>(to: &mut W, input: &[u8]) -> io::Result<()> {
     if input.len() < 1 {
-        return;
+        return Ok(());
     }
     let letter = input[0];
     for first in 0..=255u8 {
-        print_digest(letter, first, inputs_from(letter, first));
+        print_digest(to, letter, first, inputs_from(letter, first))?;
     }
+    Ok(())
 }
 
 // A text's validity, its replaced bytes behind their length, its hash and its letter.
@@ -56,8 +59,9 @@ fn texts_from(first: u8) -> u64 {
 }
 
 // Every text of three bytes.
-pub(crate) fn texts_of_three() {
+pub(crate) fn texts_of_three<W: Write>(to: &mut W) -> io::Result<()> {
     for first in 0..=255u8 {
-        print_digest(b'3', first, texts_from(first));
+        print_digest(to, b'3', first, texts_from(first))?;
     }
+    Ok(())
 }

@@ -7,40 +7,37 @@ mod digests;
 mod fills;
 
 use report::RecordRead;
+use std::io;
+use std::io::{BufWriter, Read, Write};
 
 // Some letters ask for a digest of every short input, or for a map that is filled up.
-fn answer_record(letter: u8, input: &[u8]) {
-    if letter == b'1' {
-        digests::short_inputs(input);
-        return;
+fn answer_record<W: Write>(to: &mut W, letter: u8, input: &[u8]) -> io::Result<()> {
+    match letter {
+        b'1' => digests::short_inputs(to, input),
+        b'3' => digests::texts_of_three(to),
+        b'T' => report::print_line(to, letter, fills::filled_text(input)),
+        _ => report::print_line(to, letter, answers::answer(letter, input)),
     }
-    if letter == b'3' {
-        digests::texts_of_three();
-        return;
-    }
-    if letter == b'T' {
-        report::print_line(letter, fills::filled_text(input));
-        return;
-    }
-    report::print_line(letter, answers::answer(letter, input));
 }
 
 // No input has as many records as the loop may take.
-fn answer_all(input: &[u8]) {
+fn answer_all<W: Write>(to: &mut W, input: &[u8]) -> io::Result<()> {
     let mut at = 0;
-    let mut turns: u64 = 100000;
-    while 0 < turns {
+    for _ in 0..100000u32 {
         let RecordRead::Asked(letter, span, next) = report::read_record(input, at) else {
-            return;
+            return Ok(());
         };
-        answer_record(letter, byte_source::span_bytes(input, span));
+        answer_record(to, letter, byte_source::span_bytes(input, span))?;
         at = next;
-        turns -= 1;
     }
+    Ok(())
 }
 
-fn main() {
-    let mut input = report::large();
-    let n = io::read_full(0, &mut input);
-    answer_all(&input[..n]);
+// More input than a map has room for is left unread.
+fn main(rt: HostRuntime) -> io::Result<()> {
+    let mut input = Vec::new(rt.alloc());
+    rt.reader().take(1100000).read_to_end(&mut input)?;
+    let mut out = BufWriter::new(rt.alloc(), io::writer(&rt))?;
+    answer_all(&mut out, &input)?;
+    out.flush()
 }

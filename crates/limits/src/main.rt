@@ -3,6 +3,7 @@
 #![tactic(auto)]
 
 use report::Words;
+use std::io;
 use way_data::WayDataWritten;
 use way_measure::WayDataRead;
 
@@ -47,15 +48,16 @@ fn read(map: &[u8]) -> Words {
 }
 
 // 2^20 nodes, the same without the last byte, in lists of 1000, and 2^20 + 1 nodes.
-fn main() {
+fn main(rt: HostRuntime) -> io::Result<()> {
+    let mut out = io::writer(&rt);
     // one data block of one block, whose node count has three bytes; its nodes are zeros
     let most = [1u8, 128, 128, 64];
     let more = [1u8, 129, 128, 64];
     let mut map = room();
     copies::put_front(&mut map, &most);
-    report::print_line(b'n', measured(&map, 2097156));
-    report::print_line(b'e', measured(&map, 2097155));
-    report::print_line(b'l', read(&map));
+    report::print_line(&mut out, b'n', measured(&map, 2097156))?;
+    report::print_line(&mut out, b'e', measured(&map, 2097155))?;
+    report::print_line(&mut out, b'l', read(&map))?;
     copies::put_front(&mut map, &more);
-    report::print_line(b'm', measured(&map, 2097158));
+    report::print_line(&mut out, b'm', measured(&map, 2097158))
 }

@@ -1,3 +1,4 @@
 pub mod Words
 pub mod Texts
 pub mod Records
+pub mod Lines

@@ -1,7 +1,9 @@
 // What the programs that are run against the Rust print: an answer as a list of words, and digests of many answers.
 #![tactic(auto)]
 
-ghost use Rattle.std.specs.Prelude.{◌≡◌, ◌+◌, ◌%◌, min, length, unsigned_abs};
+ghost use Rattle.std.specs.Prelude.{◌≡◌, ◌+◌, ◌%◌, min, length, unsigned_abs, OnOk};
+ghost use Rattle.std.specs.Io.KnownBytes.{Appends};
+ghost use Rattle.report.specs.Lines.{word_text, words_text, line_of};
 ghost use Rattle.report.specs.Words.{no_words, pushed, mixed, mixed_upto, mixed_all, digest_of, sign_of, bits_of, float_of};
 ghost use Rattle.report.specs.Texts.{room, zeros, mixed_replaced};
 ghost use Rattle.text.specs.Writing.{writing};
@@ -9,7 +11,8 @@ ghost use Rattle.report.specs.Records.{a_record, record_res};
 
 use byte_source::{ByteRead, Span, SpanRead, WordRead};
 use error::Refusal;
-use libc::STDOUT_FILENO;
+use std::io;
+use std::io::Write;
 use text::Written;
 
 // An answer: 0 and its values, or a refusal's number and its values. No answer that is printed has more than 40 words.
@@ -192,22 +195,28 @@ pub fn float_of(bits: u64) -> f64
     f64::from_bits(bits)
 }
 
-fn print_word(word: u64) {
-    io::write_all(STDOUT_FILENO, b" ");
-    io::print_decimal(STDOUT_FILENO, word);
+fn print_word<W: Write>(to: &mut W, word: u64) -> io::Result<()>
+    ensures { OnOk result (Appends (W.contents to.old) (W.contents to.new) (word_text word)) }
+{
+    write!(to, " {word}")
 }
 
-// A line: the letter of what was asked, and the words of the answer. What is written cannot be stated in a contract.
-pub fn print_line(letter: u8, words: Words) {
-    let list = words.words;
-    let count = words.count;
-    io::write_all(STDOUT_FILENO, &[letter]);
-    let mut i = 0;
-    while i < 40 {
-        if i < count {
-            print_word(list[i]);
-        }
-        i += 1;
+fn print_words<W: Write>(to: &mut W, words: &[u64]) -> io::Result<()>
+    ensures { OnOk result (Appends (W.contents to.old) (W.contents to.new) (words_text words.now)) }
+{
+    for word in words {
+        print_word(to, *word)?;
     }
-    io::write_all(STDOUT_FILENO, b"\n");
+    Ok(())
+}
+
+// A line: the letter of what was asked, and the words of the answer.
+pub fn print_line<W: Write>(to: &mut W, letter: u8, words: Words) -> io::Result<()>
+    ensures { OnOk result (Appends (W.contents to.old) (W.contents to.new) (line_of letter words)) }
+{
+    let list = words.words;
+    let count = words.count.min(40);
+    to.write_all(&[letter])?;
+    print_words(to, &list[..count])?;
+    to.write_all(b"\n")
 }

@@ -1,4 +1,4 @@
-use Rattle.std.proofs.Common.{◌-◌, arith}
+use Rattle.std.proofs.Common.{arith}
 use Rattle.report.proofs.WordLaws.{words, mix-more}
 use Rattle.report.proofs.mix_list.Goals as goal
 

@@ -1,4 +1,3 @@
-use Rattle.std.proofs.Common.{rules}
 use Rattle.std.proofs.Common.{arith}
 use Rattle.report.proofs.TextLaws.{text-short, text-mixed, text-never}
 use Rattle.report.proofs.mix_replaced.Goals as goal
@@ -10,4 +9,4 @@ pub returns-then-buffer-n : goal.returns-then-buffer-n
 returns-then-buffer-n c = text-never _ _ _ _ _ c.write_replaced.ensures _ c.in-Upto.is (omega arith)
 
 pub returns : goal.returns
-returns c = text-mixed _ _ _ _ _ (search rules) _ _ (search rules) c.mix_bytes.ensures
+returns c = text-mixed _ _ _ _ _ c.write_replaced.ensures _ _ c.in-Upto.is c.mix_bytes.ensures

@@ -1,0 +1,11 @@
+use Rattle.header_words.proofs.IndexLaws.{answers}
+use Rattle.header_words.proofs.count_words.Goals as goal
+
+pub returns-in-Absent : goal.returns-in-Absent
+returns-in-Absent c = search answers
+
+pub returns-in-Count : goal.returns-in-Count
+returns-in-Count c = search answers
+
+pub returns-in-Refused : goal.returns-in-Refused
+returns-in-Refused c = search answers
