@@ -1,4 +1,4 @@
-use mathlib.Core.List.{◌∷◌}
+use mathlib.Core.List.{[], ◌∷◌}
 use Rattle.visit.specs.Visit.{state_of}
 use Rattle.selection.specs.Selected.{ways_of}
 use Rattle.wire.specs.Wire.{lending}
