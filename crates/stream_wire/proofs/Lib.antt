@@ -1,3 +1,4 @@
+pub mod DeclineLaws
 pub mod WireLaws
 pub mod PastLaws
 pub mod WordLaws

@@ -30,7 +30,7 @@ use Rattle.wire.specs.Wire.{Wire, Lent, Decoder, Codec, list_of, word, signed_at
 use Rattle.wire.specs.Codecs.{settle, settled, settle_lent, settled-lent, truth-back, span_in, span-back, place_in, place-back, degree}
 use Rattle.wire.specs.Elevation.{metres_in, metres-back}
 use Rattle.wire.specs.Spread.{spread_wire, spread-out}
-use Rattle.stream_wire.specs.Streams.{turn_words, stream_words, stream_in, opened_wire, next_with, next_wire, accept_with, accept_wire, decline_with, decline_wire}
+use Rattle.stream_wire.specs.Streams.{turn_words, stream_words, stream_in, opened_wire, next_with, next_wire, accept_with, accept_wire}
 
 -- the state
 idle-back : (r : Remaining) (e : TileEnd) (w w' p p' : Bool) → w ≡ w' → p ≡ p' → ◌≡◌ {A = Stream} (record { turn = turn.Idle r; end = record { sub_file = e.sub_file; is_water = w; plain = p } }) (record { turn = turn.Idle r; end = record { sub_file = e.sub_file; is_water = w'; plain = p' } })
@@ -195,13 +195,3 @@ decline_seen w s = record { answer = s.answer; stream = decline_left s.answer s.
 
 abbrev pub DeclineLent : Wire → Type 0
 DeclineLent = Lent (6 ∷ 8 ∷ []) 0 0
-
-pub decline-back : (w : Wire) → DeclineLent w → (s : Declined) → decline_in (decline_wire w s) ≡ decline_seen w s
-decline-back w h s = spread-out (6 ∷ 8 ∷ []) 0 0 w h (λ v. decline_in (decline_wire v s) ≡ decline_seen v s) (go s.answer s.stream)
-  where
-    go : (a : DeclineAnswer) (t : Stream) → decline_in (decline_with a t (spread_wire (6 ∷ 8 ∷ []) 0 0 w)) ≡ decline_seen (spread_wire (6 ∷ 8 ∷ []) 0 0 w) (record { answer = a; stream = t })
-    go decline-answer.Declined t = ap (λ (x : Stream). record { answer = decline-answer.Declined; stream = x }) (stream-back t _ _ _ _ _ _ _ _)
-    go (decline-answer.Refused r) t = ap (λ (x : DeclineAnswer). record { answer = x; stream = stream_in (list_of (spread_wire (6 ∷ 8 ∷ []) 0 0 w) 1) }) (settled decline-answer.Refused decline-answer.Declined _ _ r)
-
-abbrev pub decline_decoder : (w : Wire) → DeclineLent w → Decoder (decline_wire w) (decline_seen w)
-decline_decoder w h = record { decode = decline_in; back = decline-back w h }

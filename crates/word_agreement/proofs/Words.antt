@@ -72,7 +72,8 @@ use Rattle.header_wire.specs.Codecs.{HeaderLent, header_in, header_codec}
 use Rattle.index_wire.specs.Index.{interval_wire, interval_in, entry_wire}
 use Rattle.index_wire.specs.Codecs.{entry_codec}
 use Rattle.stream_wire.specs.Streams.{stream_in, opened_wire, next_wire, accept_wire, decline_wire}
-use Rattle.stream_wire.specs.Codecs.{OpenedLent, opened-back, shown_of, seen, Seen, next_in, next_decoder, accept_in, accept_seen, accept_decoder, decline_in, decline_seen, decline_decoder}
+use Rattle.stream_wire.specs.Codecs.{OpenedLent, opened-back, shown_of, seen, Seen, next_in, next_decoder, accept_in, accept_seen, accept_decoder, decline_in, decline_seen}
+use Rattle.stream_wire.proofs.DeclineLaws.{decline_decoder}
 use Rattle.feature_wire.specs.Features.{tile_wire}
 use Rattle.feature_wire.specs.Codecs.{summary_in, tile_in, tile_codec}
 use Rattle.exports.specs.Calls.{OpenOf, StreamOf, NextOf, AcceptOf, DeclineOf, EntryOf, TileOf}
