@@ -37,10 +37,16 @@ fn show_file<W: Write, R: Read + Drop>(to: &mut W, alloc: Global, from: R) -> io
     show_map(to, &map)
 }
 
+// A path of as many bytes or more is none that can be opened.
+const TOO_LONG: usize = 4096;
+
 fn main(rt: HostRuntime) -> io::Result<()> {
     let Some(path) = env::args(&rt)?.nth(1) else {
         return println!(rt; "usage: info MAP");
     };
+    if TOO_LONG <= path.len() {
+        return println!(rt; "usage: info MAP");
+    }
     match File::open(&rt, &path) {
         Ok(file) => {
             let mut out = BufWriter::new(rt.alloc(), io::writer(&rt))?;
