@@ -367,7 +367,7 @@ fn refusals_have_the_librarys_names() {
     let mut cases = first_enum(&source, "pub enum Refusal {");
     cases.insert(14, "TooShort".into());
     assert!(source.contains("LentRefusal::Short(_) => 15,"));
-    let of_rules = first_enum(&text("crates/showing/src/lib.rt"), "pub enum Checked {");
+    let of_rules = first_enum(&text("crates/showing/src/lib.rt"), "pub enum RulesRefusal {");
     // A case with two values is listed in two pieces.
     let of_rules = of_rules.into_iter().filter(|case| case.contains("Rules"));
     let numbered = (1..).zip(cases).chain((22..).zip(of_rules));

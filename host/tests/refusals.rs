@@ -293,7 +293,7 @@ fn every_refusal_has_a_row() {
             if number == 15 { "LentRefusal::Short".into() } else { format!("Refusal::{case}") };
         let arms = ["", "(_)"].map(|value| format!("        {known}{value} => {number},\n"));
         let of_check = [case.into(), format!("({case} id zoom)")]
-            .map(|answer| format!("\nchecked_res {answer} = no {number} "));
+            .map(|answer| format!("\nrules_refused {answer} = no {number} "));
         assert!(
             arms.iter().any(|arm| source.contains(arm))
                 || of_check.iter().any(|line| of_rules.contains(line)),
@@ -304,9 +304,9 @@ fn every_refusal_has_a_row() {
     // No other case of the library has a number.
     let body = source.split("pub enum Refusal {").nth(1).and_then(|rest| rest.split("\n}").next());
     let cases = body.expect("the enum").lines().map(str::trim).filter(|line| !line.is_empty());
-    let checks = of_rules.matches("\nchecked_res ").count();
-    // Of the answers of a check, one is that it passes, and 15 counts already.
-    let cases = cases.filter(|line| !line.starts_with("//")).count() + 1 + checks - 2;
+    let checks = of_rules.matches("\nrules_refused ").count();
+    // Of the refusals of a check, 15 counts already.
+    let cases = cases.filter(|line| !line.starts_with("//")).count() + 1 + checks - 1;
     assert_eq!(cases, rows.len());
     let constants = text("include/mapsforge.h").matches("    MAPSFORGE_").count();
     assert_eq!(constants, rows.len());

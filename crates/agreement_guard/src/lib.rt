@@ -9,83 +9,43 @@ ghost use Rattle.index.specs.Answers.{interval_found};
 ghost use Rattle.opening.specs.Opening.{lists};
 ghost use Rattle.tile_layout.specs.TileLayout.{kinds_of};
 ghost use Rattle.way_data.specs.Reply.{lent};
-ghost use Rattle.agreement_guard.specs.Guard.{OpenedIs, CollectingIs, Called3, OutcomeIs};
+ghost use Rattle.agreement_guard.specs.Guard.{OpenedIs, Called3, OutcomeIs};
 
-use error::LentRefusal;
-use index::IntervalRead;
-use opening::OpenEnd;
-use tile::TileAnswer;
+use error::{LentRefusal, Refusal};
+use tile::Tile;
 use tile_layout::TileLayout;
-use types::Grid;
-use visit::{AcceptAnswer, DeclineAnswer, NextAnswer, OpenRead, Stream};
+use types::{Grid, ZoomInterval};
+use visit::{Given, Stream, StreamedBody};
 
-// How the map opened, and what tiles need of its header.
+// What tiles need of the header of a map that opened.
 #[derive(Clone, Copy)]
 pub struct OpenedMap {
-    pub end: OpenEnd,
     pub layout: TileLayout,
-    pub found: IntervalRead,
+    pub found: Option<ZoomInterval>,
 }
 
-// Whether the tile collects, and whether every way's stored size is its decoded length.
-#[derive(Clone, Copy)]
-pub enum Collecting {
-    Exact,
-    Inexact,
-    Refused(LentRefusal),
-}
-
-// What the three calls answered. The point and the head that stand beside the first answer are not handed on.
+// What the three calls answered.
 #[derive(Clone, Copy)]
 pub struct Replies {
-    pub next: NextAnswer,
-    pub accepted: AcceptAnswer,
-    pub declined: DeclineAnswer,
-}
-
-#[derive(Clone, Copy)]
-pub enum Outcome {
-    // the map does not open, or the tile does not collect; 15 if a list is too short for it
-    Refused(LentRefusal),
-    Inexact,
-    Replied(Replies),
+    pub next: Result<Given, Refusal>,
+    pub accepted: Result<StreamedBody, LentRefusal>,
+    pub declined: Result<(), Refusal>,
 }
 
 // Opens the map and lists its tags.
-fn open_with_lists(map: &[u8], starts: &mut [u64], letters: &mut [u8], sub_file: usize) -> OpenedMap
+fn open_with_lists(
+    map: &[u8],
+    starts: &mut [u64],
+    letters: &mut [u8],
+    sub_file: usize,
+) -> Result<OpenedMap, LentRefusal>
     ensures { OpenedIs map.now sub_file (lists starts.old letters.old) (lists starts.new letters.new) result }
 {
-    let read = opening::open_map(map, starts, letters);
-    let end = read.end;
-    let header = read.header;
-    let layout = tile_layout::layout_of(header);
-    let found = index::interval_of(header, sub_file);
-    OpenedMap { end, layout, found }
-}
-
-fn collect(
-    map: &[u8],
-    layout: TileLayout,
-    letters: &[u8],
-    found: IntervalRead,
-    grid: Grid,
-    tile: usize,
-    places: &mut [u64],
-) -> Collecting
-    ensures { CollectingIs map.now (kinds_of layout letters.now) (interval_found found) (grid_of grid) tile places.old places.new result }
-{
-    let read = tile::read_tile(map, layout, letters, found, grid, tile, places);
-    let answer = read.answer;
-    let whole = read.tile;
-    match answer {
-        TileAnswer::Refused(refusal) => Collecting::Refused(refusal),
-        TileAnswer::Collected => {
-            if whole.exact {
-                return Collecting::Exact;
-            }
-            Collecting::Inexact
-        }
-    }
+    let (header, _) = opening::open_map(map, starts, letters)?;
+    Ok(OpenedMap {
+        layout: tile_layout::layout_of(header),
+        found: index::interval_of(header, sub_file),
+    })
 }
 
 fn call_three(
@@ -100,21 +60,17 @@ fn call_three(
     ensures { Called3 map.now (kinds_of layout letters.now) «stream» (lent node_counts.old latitudes.old longitudes.old) (lent node_counts.new latitudes.new longitudes.new) result }
 {
     let first = visit::next(map, layout, letters, stream);
-    let next = first.answer;
-    let stream = first.stream;
-    let second = visit::accept(map, stream, node_counts, latitudes, longitudes);
-    let accepted = second.answer;
-    let left = second.stream;
-    let third = visit::decline(left);
-    let declined = third.answer;
+    let second = visit::accept(map, first.stream, node_counts, latitudes, longitudes);
+    let third = visit::decline(second.stream);
     Replies {
-        next,
-        accepted,
-        declined,
+        next: first.answer,
+        accepted: second.answer,
+        declined: third.answer,
     }
 }
 
-// Next, accept and decline, called on a freshly opened stream of a tile that collects and whose stored sizes are exact.
+// Next, accept and decline, called on a freshly opened stream of a tile that collects and whose stored sizes are exact; nothing is called where
+// they are not. Refused if the map does not open, or the tile does not collect; with 15 if a list is too short for it.
 pub fn first_calls(
     map: &[u8],
     starts: &mut [u64],
@@ -127,34 +83,25 @@ pub fn first_calls(
     node_counts: &mut [u64],
     latitudes: &mut [f64],
     longitudes: &mut [f64],
-) -> Outcome
+) -> Result<Option<Replies>, LentRefusal>
     ensures { OutcomeIs map.now sub_file (grid_of grid) tile zoom (lists starts.old letters.old) (lists starts.new letters.new) places.old places.new (lent node_counts.old latitudes.old longitudes.old) (lent node_counts.new latitudes.new longitudes.new) result }
 {
-    let opened = open_with_lists(map, starts, letters, sub_file);
-    let end = opened.end;
-    if let OpenEnd::Refused(refusal) = end {
-        return Outcome::Refused(refusal);
-    }
+    let opened = open_with_lists(map, starts, letters, sub_file)?;
     let layout = opened.layout;
     let found = opened.found;
-    let collecting = collect(map, layout, letters, found, grid, tile, places);
-    match collecting {
-        Collecting::Refused(refusal) => Outcome::Refused(refusal),
-        Collecting::Inexact => Outcome::Inexact,
-        Collecting::Exact => {
-            let got = visit::open(map, layout, found, sub_file, grid, tile, zoom);
-            match got {
-                OpenRead::Refused(refusal) => Outcome::Refused(LentRefusal::Refused(refusal)),
-                OpenRead::Stream(stream) => Outcome::Replied(call_three(
-                    map,
-                    layout,
-                    letters,
-                    stream,
-                    node_counts,
-                    latitudes,
-                    longitudes,
-                )),
-            }
-        }
+    let whole = tile::read_tile(map, layout, letters, found, grid, tile, places)?;
+    if !whole.exact {
+        return Ok(None);
     }
+    let stream = visit::open(map, layout, found, sub_file, grid, tile, zoom)?;
+    let replies = call_three(
+        map,
+        layout,
+        letters,
+        stream,
+        node_counts,
+        latitudes,
+        longitudes,
+    );
+    Ok(Some(replies))
 }

@@ -1,6 +1,6 @@
 -- Laws of products and powers modulo 2 ^ 64, and of sums cut at 2 ^ 64 - 1.
 use Rattle.std.proofs.Common.{◌≡◌, ℕ, zero, suc, ◌+◌, ◌-◌, ◌*◌, ◌/◌, ◌%◌, ◌^◌, ◌<◌, ◌≤◌, sym, refl, ap, ◌∙◌, lt_of_le_of_lt, le_of_lt, mod-lt, mod-eq_of_lt, mul_assoc, mul_comm, add-mul, mul-le-mul_left, mul-lt-mul_of_pos_right, pow-suc, mul-one, mul-add, mul_left_comm, arith, lit<, pow_pos, pow-add, rules, le-ltb, lt-ltb}
-use native.Mathlib.Nat.{pow-zero, add-mul-mod_self_left, mod-add-div, mul-mul-mul_comm}
+use native.Mathlib.Nat.{pow-zero, add-mul-mod_self_left, mod-add-div}
 use lib.Pow.{mod-mod-pow}
 use Rattle.arithmetic.specs.Cut.{cut}
 

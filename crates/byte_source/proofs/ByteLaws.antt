@@ -1,21 +1,22 @@
 -- Laws of big-endian numbers and of parts of the map, by the tests that the code makes.
 use Prim.Native.Nat.{ℕ, zero, suc, ◌+◌, ◌*◌, ◌-◌, ◌/◌, ◌%◌, ◌^◌, ◌<◌, ◌≤◌}
-use native.Mathlib.Nat.{add_assoc, add-zero, mul-one, pow-zero, pow-suc, mul_assoc, mul_comm, add-mul, mul-le-mul_right}
+use native.Mathlib.Nat.{add-zero, mul-one, pow-zero, pow-suc, mul_assoc, mul_comm, add-mul, mul-le-mul_right}
 use native.Mathlib.Omega.{arith}
 use mathlib.Core.Path.{◌≡◌, refl, sym, ap, ◌∙◌, subst}
-use mathlib.Core.Bool.{Bool, true, false, cond}
 use mathlib.Core.List.{List, [], ◌∷◌, ◌++◌}
-use lib.Dec.{ltb}
-use lib.IntN.{ℤ, pos, negsuc, neg_ℤ, ◌-ℤ◌}
+use lib.IntN.{ℤ, pos, negsuc, ◌-ℤ◌}
 use lib.ListN.{length, get_or, take, drop, length-drop, drop_of_length-le}
 use lib.Seq.{take-add, take_all, take-nil, drop-drop, length-take-le, drop-cons}
 use lib.Pow.{pow-add}
-use borrow.Author.Tests.{lt-ltb, le-ltb}
+use borrow.Author.Tests.{lt-ltb, le-ltb, lt-leb}
 use mir.Syntax.{w32}
 use mir.Val.{SFits, to_z, of_z}
 use mir.Facts.{to_z_pos, to_z-of_z}
-use Rattle.parsing.specs.Parse.{Res, ok, no, Part, part, chunk}
-use Rattle.parsing.proofs.Steps.{chunk-none, chunk-here, chunk-behind, chunk-past}
+use Rattle.parsing.specs.Parse.{ok, no, part, chunk}
+use Rattle.error.specs.Refusals.{refused}
+use Rattle.error.specs.declared.Refusal.{Refusal}
+use Rattle.error.specs.declared.Refusal.TheVariants.{Source}
+use Rattle.parsing.proofs.Steps.{chunk-none, chunk-here}
 use Rattle.parsing.proofs.Ends.{PastEnd, bind-end, chunk_end}
 use Rattle.parsing.proofs.Sized.{Sized, chunk-sized, return-sized, bind-sized}
 use Rattle.byte_source.specs.BigEndian.{big_endian_of, big_endian, twos_complement, Holds}
@@ -69,19 +70,22 @@ pair40 s at x y f e b g = joined 1 4 s at x y f (single s at x (omega arith) e b
 pub pair64 : (s : List ℕ) (at x y : ℕ) → at + 8 ≤ length s → Holds 4 s at x → Holds 4 s (at + 4) y → Holds 8 s at (x * 4294967296 + y)
 pair64 s at x y f h g = joined 4 4 s at x y f h g
 
+past : (s : List ℕ) (at k : ℕ) → 1 ≤ k → length s < at + k → chunk k s at ≡ no 1 []
+past s at zero b h = absurd (omega arith)
+past s at (suc k) b h = rw (lt-leb (at + suc k) (length s) h)
+
 -- a number that the code has read, and one that it has not
 module _ (k : ℕ) (s : List ℕ) (at : ℕ) where
   pub number-here : (r : ℕ) → 1 ≤ k → at ≤ length s → k ≤ length s - at → Holds k s at r → ok r (at + k) ≡ big_endian k s at
   unfolding big_endian
   number-here r b h l e = rw (← chunk-here s at k b h l, e.value)
 
-  pub number_behind : 1 ≤ k → length s < at → no 1 [] ≡ big_endian k s at
-  unfolding big_endian
-  number_behind b h = rw (← chunk-behind s at k b h)
+  pub number-read : (r n : ℕ) → 1 ≤ k → at + k ≤ length s → n ≡ at + k → Holds k s at r → ok r n ≡ big_endian k s at
+  number-read r n b h z e = rw z (number-here r b (omega arith) (omega arith) e)
 
-  pub number_past : 1 ≤ k → at ≤ length s → length s - at < k → no 1 [] ≡ big_endian k s at
+  pub number-past : (e : Refusal) → 1 ≤ k → e ≡ Source → length s < at + k → refused e ≡ big_endian k s at
   unfolding big_endian
-  number_past b h l = rw (← chunk-past s at k b h l)
+  number-past e b z h = rw (z, past s at k b h)
 
 pub big_endian-sized : (k : ℕ) → Sized (big_endian k) k
 unfolding big_endian
@@ -101,13 +105,12 @@ module _ (s : List ℕ) (at n : ℕ) where
   unfolding part
   part-here b h l = rw (← chunk-here s at n b h l)
 
-  pub part-behind : 1 ≤ n → length s < at → no 1 [] ≡ part n s at
-  unfolding part
-  part-behind b h = rw (← chunk-behind s at n b h)
+  pub part-read : (x : ℕ) → 1 ≤ n → at + n ≤ length s → x ≡ at + n → ok (part_in s (record { start = at; size = n })) x ≡ part n s at
+  part-read x b h z = rw z (part-here b (omega arith) (omega arith))
 
-  pub part-past : 1 ≤ n → at ≤ length s → length s - at < n → no 1 [] ≡ part n s at
+  pub part-past : (e : Refusal) → 1 ≤ n → e ≡ Source → length s < at + n → refused e ≡ part n s at
   unfolding part
-  part-past b h l = rw (← chunk-past s at n b h l)
+  part-past e b z h = rw (z, past s at n b h)
 
 -- 32 bits in two's complement
 minus_one : (n : ℕ) → negsuc 0 -ℤ pos n ≡ negsuc n
@@ -141,4 +144,4 @@ module _ (m : List ℕ) (s : Span) where
   pub span-in : take (s.start + s.size - s.start) (drop s.start m) ≡ span_bytes m s
   span-in = let e : s.start + s.size - s.start ≡ s.size = omega arith in rw e
 
-pub ruleset parts = (reads, pair16, pair32, pair40, pair64, number-here, number_behind, number_past, part_none, part-here, part-behind, part-past, low_bits, high_fits, high_bits, span-out, span_rest, span-in)
+pub ruleset parts = (reads, pair16, pair32, pair40, pair64, number-read, number-past, part_none, part-read, part-past, low_bits, high_fits, high_bits, span-out, span_rest, span-in)

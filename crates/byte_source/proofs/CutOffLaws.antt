@@ -1,41 +1,37 @@
 -- A read whose refusal 1 goes by another number: what it gives is what the read gives, of which only a view may be known.
 use Prim.Native.Nat.{ℕ}
-use mathlib.Core.Path.{◌≡◌, refl, sym, ap, ◌∙◌}
+use mathlib.Core.Path.{◌≡◌, refl, ap, ◌∙◌}
 use mathlib.Core.Bool.{Bool, true, false, cond}
 use mathlib.Core.List.{[], ◌∷◌}
 use lib.Dec.{eqb}
+use Rattle.std.specs.Prelude.{Result, Ok, Err}
+use Rattle.std.specs.Result.{MatchResult, IsErrAnd}
 use Rattle.parsing.specs.Parse.{Res, ok, no, map_res, renumbered}
-use Rattle.parsing.specs.Good.{no_ok}
-use Rattle.error.specs.Refusals.{refused, number_of, values_of, in_tile_head}
+use Rattle.error.specs.Refusals.{refused, in_index, in_tile_head}
 use Rattle.error.specs.declared.Refusal.{Refusal}
-use Rattle.error.proofs.RefusalLaws.{in-tile-head}
+use Rattle.error.proofs.RefusalLaws.{in-index, in-tile-head}
+use Rattle.byte_source.specs.Answers.{read_by}
 
-module _ {A C : Type 0} (view : A → C) where
-  pub renumbered-value : (k w : ℕ) (r : Res A) {v : C} {n : ℕ} → ok v n ≡ map_res view r → ok v n ≡ map_res view (renumbered k w r)
-  renumbered-value k w (ok a e) q = q
-  renumbered-value k w (no j v) q = no_ok (sym q)
+-- what a `map_err` makes of what a read answers
+abbrev pub Mapped : {T : Type 0} → (Refusal → Refusal) → (g g' : Result T Refusal) → Type 0
+Mapped f g g' = MatchResult g (λ x. g' ≡ Ok x) (λ e. IsErrAnd g' (λ d. d ≡ f e))
 
-  pub head-refusal : (w : ℕ) (r : Res A) (e : Refusal) → refused e ≡ map_res view r → refused (in_tile_head w e) ≡ map_res view (renumbered 20 w r)
-  head-refusal w (ok a e) x q = no_ok q
-  head-refusal w (no j v) x q =
-      let a : number_of x ≡ j = cc in
-      let b : values_of x ≡ v = cc in
-      in-tile-head w x ∙ rw (a, b) (go (eqb j 1))
-    where
-      go : (c : Bool) → cond c (no 20 (w ∷ [])) (no j v) ≡ map_res view (cond c (no 20 (w ∷ [])) (no j v))
-      go true = refl
-      go false = refl
+module _ {T C : Type 0} (view : T → C) (k w : ℕ) (f : Refusal → Refusal) (law : (e : Refusal) → refused {A = C} (f e) ≡ renumbered k w (refused e)) where
+  mapped : (r : Res C) (g g' : Result (T × ℕ) Refusal) → Mapped f g g' → read_by view g ≡ r → read_by view g' ≡ renumbered k w r
+  mapped r (Ok (v, n)) g' h q = ap (read_by view) h ∙ ap (renumbered k w) q
+  mapped r (Err e) (Ok x) h q = absurd h
+  mapped r (Err e) (Err d) h q = ap refused h ∙ law e ∙ ap (renumbered k w) q
 
--- the same of a kind of answer, by what it says was read
-module _ {A G : Type 0} (res : G → Res A) (refusal : G → Refusal) (nothing : Refusal → G) (is : (e : Refusal) → res (nothing e) ≡ refused e) (out : (e : Refusal) → refusal (nothing e) ≡ e) where
-  whole : (r : Res A) → map_res (λ a. a) r ≡ r
-  whole (ok a e) = refl
-  whole (no k v) = refl
+pub mapped-index : {T C : Type 0} (view : T → C) (w : ℕ) (r : Res C) (g g' : Result (T × ℕ) Refusal) → Mapped (in_index w) g g' → read_by view g ≡ r → read_by view g' ≡ renumbered 19 w r
+mapped-index view w r g g' h q = mapped view 19 w (in_index w) (in-index w) r g g' h q
 
-  pub head-no : (w : ℕ) (r : Res A) (g : G) (e'' e' e : Refusal) (w' : ℕ) → res g ≡ r → g ≡ nothing e → e' ≡ refusal g → w' ≡ w → e'' ≡ in_tile_head w' e' → res (nothing e'') ≡ renumbered 20 w r
-  head-no w r g e'' e' e w' q h p k i =
-      is e'' ∙ ap refused (i ∙ ap (in_tile_head w') (p ∙ ap refusal h ∙ out e) ∙ ap (λ x. in_tile_head x e) k)
-      ∙ head-refusal (λ a. a) w r e (sym (is e) ∙ ap res (sym h) ∙ q ∙ sym (whole r)) ∙ whole (renumbered 20 w r)
+pub mapped-head : {T C : Type 0} (view : T → C) (w : ℕ) (r : Res C) (g g' : Result (T × ℕ) Refusal) → Mapped (in_tile_head w) g g' → read_by view g ≡ r → read_by view g' ≡ renumbered 20 w r
+mapped-head view w r g g' h q = mapped view 20 w (in_tile_head w) (in-tile-head w) r g g' h q
 
-  pub head_ok : (w : ℕ) (r : Res A) (g g' : G) {a : A} {n : ℕ} → res g ≡ r → g ≡ g' → res g' ≡ ok a n → res g ≡ renumbered 20 w r
-  head_ok w r g g' {a} {n} q h k = ap res h ∙ k ∙ renumbered-value (λ a. a) 20 w r (sym (ap res h ∙ k) ∙ q ∙ sym (whole r)) ∙ whole (renumbered 20 w r)
+pub renumbered-map : {A B : Type 0} (f : A → B) (k w : ℕ) (r : Res A) → renumbered k w (map_res f r) ≡ map_res f (renumbered k w r)
+renumbered-map f k w (ok a e) = refl
+renumbered-map f k w (no j v) = go (eqb j 1)
+  where
+    go : (c : Bool) → cond c (no k (w ∷ [])) (no j v) ≡ map_res f (cond c (no k (w ∷ [])) (no j v))
+    go true = refl
+    go false = refl

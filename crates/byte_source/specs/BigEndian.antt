@@ -1,5 +1,5 @@
 -- Document 01, io.rs: big-endian numbers; 32 bits in two's complement.
-use Rattle.std.specs.Prelude.{ℕ, zero, suc, ◌+◌, ◌*◌, ◌-◌, ◌^◌, ◌<◌, ◌≡◌, cond, List, [], ◌∷◌, ltb, ℤ, pos, neg_ℤ, take, drop}
+use Rattle.std.specs.Prelude.{ℕ, ◌+◌, ◌*◌, ◌-◌, ◌^◌, ◌<◌, ◌≡◌, cond, List, [], ◌∷◌, ltb, ℤ, pos, neg_ℤ, take, drop}
 use Rattle.parsing.specs.Parse.{Parser, ◌>>=◌, return, chunk}
 use Rattle.parsing.specs.Good.{Good}
 use Rattle.parsing.proofs.GoodLaws.{goods}

@@ -2,10 +2,11 @@
 // refusal 1.
 #![tactic(auto)]
 
-ghost use Rattle.std.specs.Prelude.{◌≡◌, ◌+◌, ◌*◌, ◌/◌, ◌%◌, ◌≤◌, ◌<◌, ◌^◌, length, take, drop};
+ghost use Rattle.std.specs.Prelude.{◌≡◌, ◌+◌, ◌*◌, ◌/◌, ◌%◌, ◌≤◌, ◌<◌, ◌^◌, length, take, drop, IfOk, IfErr};
+ghost use Rattle.error.specs.declared.Refusal.TheVariants.{Source};
 ghost use Rattle.parsing.specs.Parse.{byte, part};
 ghost use Rattle.byte_source.specs.BigEndian.{Holds, big_endian, twos_complement, int32};
-ghost use Rattle.byte_source.specs.Answers.{byte_res, byte_refusal, short_res, short_refusal, word_res, word_refusal, int_res, int_refusal, number_res, number_refusal, span_res, span_refusal, span_bytes};
+ghost use Rattle.byte_source.specs.Answers.{read_res, read_by, part_in, span_bytes};
 
 use error::Refusal;
 
@@ -16,105 +17,16 @@ pub struct Span {
     pub size: usize,
 }
 
-// Each answer is a value with the place behind it, or a refusal.
-#[derive(Clone, Copy)]
-pub enum ByteRead {
-    Value(u8, usize),
-    Refused(Refusal),
-}
+// A read answers a value with the place behind it, or a refusal.
+pub type Read<T> = Result<(T, usize), Refusal>;
 
-#[derive(Clone, Copy)]
-pub enum ShortRead {
-    Value(u16, usize),
-    Refused(Refusal),
-}
-
-#[derive(Clone, Copy)]
-pub enum WordRead {
-    Value(u32, usize),
-    Refused(Refusal),
-}
-
-#[derive(Clone, Copy)]
-pub enum IntRead {
-    Value(i32, usize),
-    Refused(Refusal),
-}
-
-#[derive(Clone, Copy)]
-pub enum NumberRead {
-    Value(u64, usize),
-    Refused(Refusal),
-}
-
-#[derive(Clone, Copy)]
-pub enum SpanRead {
-    Value(Span, usize),
-    Refused(Refusal),
-}
-
-// The refusal of an answer that is one (of any other, `Source`).
-pub fn byte_refusal(got: ByteRead) -> Refusal
-    ensures { result ≡ byte_refusal got }
-{
-    match got {
-        ByteRead::Refused(r) => r,
-        ByteRead::Value(_, _) => Refusal::Source,
-    }
-}
-
-pub fn short_refusal(got: ShortRead) -> Refusal
-    ensures { result ≡ short_refusal got }
-{
-    match got {
-        ShortRead::Refused(r) => r,
-        ShortRead::Value(_, _) => Refusal::Source,
-    }
-}
-
-pub fn word_refusal(got: WordRead) -> Refusal
-    ensures { result ≡ word_refusal got }
-{
-    match got {
-        WordRead::Refused(r) => r,
-        WordRead::Value(_, _) => Refusal::Source,
-    }
-}
-
-pub fn int_refusal(got: IntRead) -> Refusal
-    ensures { result ≡ int_refusal got }
-{
-    match got {
-        IntRead::Refused(r) => r,
-        IntRead::Value(_, _) => Refusal::Source,
-    }
-}
-
-pub fn number_refusal(got: NumberRead) -> Refusal
-    ensures { result ≡ number_refusal got }
-{
-    match got {
-        NumberRead::Refused(r) => r,
-        NumberRead::Value(_, _) => Refusal::Source,
-    }
-}
-
-pub fn span_refusal(got: SpanRead) -> Refusal
-    ensures { result ≡ span_refusal got }
-{
-    match got {
-        SpanRead::Refused(r) => r,
-        SpanRead::Value(_, _) => Refusal::Source,
-    }
-}
-
-pub fn read_u8(map: &[u8], at: usize) -> ByteRead
-    ensures { byte_res result ≡ byte map.now at }
+pub fn read_u8(map: &[u8], at: usize) -> Read<u8>
+    ensures { read_res result ≡ byte map.now at }
 {
     if at < map.len() {
-        return ByteRead::Value(map[at], at + 1);
+        return Ok((map[at], at + 1));
     }
-    ByteRead::Refused(Refusal::Source)
+    Err(Refusal::Source)
 }
 
 fn wide(x: u8) -> u64
@@ -160,53 +72,44 @@ fn be64(map: &[u8], at: usize) -> u64
     be32(map, at) * 4294967296 + be32(map, at + 4)
 }
 
-pub fn read_u16_be(map: &[u8], at: usize) -> ShortRead
-    ensures { short_res result ≡ big_endian 2 map.now at }
+// The place behind the next `n` bytes, if the map has them.
+fn behind(map: &[u8], at: usize, n: usize) -> Result<usize, Refusal>
+    ensures ok { IfOk result (λ next. (next ≡ at + n) × (at + n ≤ length map.now)) }
+    ensures err { IfErr result (λ r. (r ≡ Source) × (length map.now < at + n)) }
 {
-    if map.len() < at {
-        return ShortRead::Refused(Refusal::Source);
+    if map.len() < at || map.len() - at < n {
+        return Err(Refusal::Source);
     }
-    if map.len() - at < 2 {
-        return ShortRead::Refused(Refusal::Source);
-    }
-    ShortRead::Value(be16(map, at) as u16, at + 2)
+    Ok(at + n)
 }
 
-pub fn read_u32_be(map: &[u8], at: usize) -> WordRead
-    ensures { word_res result ≡ big_endian 4 map.now at }
+pub fn read_u16_be(map: &[u8], at: usize) -> Read<u16>
+    ensures { read_res result ≡ big_endian 2 map.now at }
 {
-    if map.len() < at {
-        return WordRead::Refused(Refusal::Source);
-    }
-    if map.len() - at < 4 {
-        return WordRead::Refused(Refusal::Source);
-    }
-    WordRead::Value(be32(map, at) as u32, at + 4)
+    let next = behind(map, at, 2)?;
+    Ok((be16(map, at) as u16, next))
+}
+
+pub fn read_u32_be(map: &[u8], at: usize) -> Read<u32>
+    ensures { read_res result ≡ big_endian 4 map.now at }
+{
+    let next = behind(map, at, 4)?;
+    Ok((be32(map, at) as u32, next))
 }
 
 // 5 bytes, as an entry of the tile index has.
-pub fn read_u40_be(map: &[u8], at: usize) -> NumberRead
-    ensures { number_res result ≡ big_endian 5 map.now at }
+pub fn read_u40_be(map: &[u8], at: usize) -> Read<u64>
+    ensures { read_res result ≡ big_endian 5 map.now at }
 {
-    if map.len() < at {
-        return NumberRead::Refused(Refusal::Source);
-    }
-    if map.len() - at < 5 {
-        return NumberRead::Refused(Refusal::Source);
-    }
-    NumberRead::Value(be40(map, at), at + 5)
+    let next = behind(map, at, 5)?;
+    Ok((be40(map, at), next))
 }
 
-pub fn read_u64_be(map: &[u8], at: usize) -> NumberRead
-    ensures { number_res result ≡ big_endian 8 map.now at }
+pub fn read_u64_be(map: &[u8], at: usize) -> Read<u64>
+    ensures { read_res result ≡ big_endian 8 map.now at }
 {
-    if map.len() < at {
-        return NumberRead::Refused(Refusal::Source);
-    }
-    if map.len() - at < 8 {
-        return NumberRead::Refused(Refusal::Source);
-    }
-    NumberRead::Value(be64(map, at), at + 8)
+    let next = behind(map, at, 8)?;
+    Ok((be64(map, at), next))
 }
 
 // The number that these 32 bits are in two's complement.
@@ -219,30 +122,22 @@ pub fn to_i32(bits: u32) -> i32
     -1 - ((4294967295 - bits) as i32)
 }
 
-pub fn read_i32_be(map: &[u8], at: usize) -> IntRead
-    ensures { int_res result ≡ int32 map.now at }
+pub fn read_i32_be(map: &[u8], at: usize) -> Read<i32>
+    ensures { read_res result ≡ int32 map.now at }
 {
-    let got = read_u32_be(map, at);
-    let WordRead::Value(bits, next) = got else {
-        return IntRead::Refused(word_refusal(got));
-    };
-    IntRead::Value(to_i32(bits), next)
+    let (bits, next) = read_u32_be(map, at)?;
+    Ok((to_i32(bits), next))
 }
 
 // The next `size` bytes as a part of the map. 0 bytes are read anywhere.
-pub fn read_bytes(map: &[u8], at: usize, size: usize) -> SpanRead
-    ensures { span_res map.now result ≡ part size map.now at }
+pub fn read_bytes(map: &[u8], at: usize, size: usize) -> Read<Span>
+    ensures { read_by (part_in map.now) result ≡ part size map.now at }
 {
     if size < 1 {
-        return SpanRead::Value(Span { start: at, size: 0 }, at);
+        return Ok((Span { start: at, size: 0 }, at));
     }
-    if map.len() < at {
-        return SpanRead::Refused(Refusal::Source);
-    }
-    if map.len() - at < size {
-        return SpanRead::Refused(Refusal::Source);
-    }
-    SpanRead::Value(Span { start: at, size }, at + size)
+    let next = behind(map, at, size)?;
+    Ok((Span { start: at, size }, next))
 }
 
 // The bytes of a part, as far as the map goes.

@@ -2,7 +2,7 @@
 use Rattle.std.proofs.Common.{◌≡◌, ℕ, ◌*◌, ◌%◌, ◌^◌, ◌<◌, ◌≤◌, [], ℤ, refl, ap, ◌∙◌, arith, shl_exact, w32, to_z, of_z, rules, le-leb}
 use lib.Ieee.{Float, binary64, to_signed, of_bits, of_int, add, sub, mul, div}
 use borrow.Author.Tests.{lt-leb}
-use Rattle.parsing.specs.Parse.{Res, ok, no}
+use Rattle.parsing.specs.Parse.{ok, no}
 use Rattle.column.specs.Column.{as_float, longitude_of, longitude, column_of, column}
 use Rattle.column.proofs.CutLaws.{kept}
 

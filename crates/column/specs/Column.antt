@@ -1,14 +1,12 @@
 -- Document 01, tile.rs: `tilex2long` and the longitude half of `get_tiles`, with refusal 18 for a zoom above 63.
 -- Each step of `Ieee` rounds once; `to_signed 31` is Rust's `as i32`: toward zero, 0 for a NaN, and the ends saturate.
-use Rattle.std.specs.Prelude.{ℕ, ◌^◌, cond, [], ℤ, pos, nat_le, Float}
+use Rattle.std.specs.Prelude.{ℕ, ◌^◌, cond, [], ℤ, pos, nat_le, Float, Result, Ok, Err}
 use Rattle.std.specs.Float.Ieee as Ieee
 use Rattle.std.specs.Float.{binary64}
 use Rattle.parsing.specs.Parse.{Res, ok, no}
 use Rattle.error.specs.Refusals.{refused}
-use Rattle.column.specs.declared.LongitudeRead.{LongitudeRead}
-use Rattle.column.specs.declared.LongitudeRead.TheVariants as longitudes
-use Rattle.column.specs.declared.ColumnRead.{ColumnRead}
-use Rattle.column.specs.declared.ColumnRead.TheVariants as columns
+use Rattle.error.specs.declared.Refusal.{Refusal}
+use Rattle.utils.specs.declared.Degrees.{Degrees}
 
 -- a whole number as a float, the nearest
 abbrev pub as_float : ℕ → Float
@@ -36,10 +34,10 @@ unfoldable pub column : Float → ℕ → Res ℤ
 column degrees zoom = cond (nat_le zoom 63) (ok (column_of degrees zoom) 0) (no 18 [])
 
 -- the answers as results
-abbrev pub longitude_res : LongitudeRead → Res Float
-longitude_res (longitudes.Value d) = ok d.0 0
-longitude_res (longitudes.Refused r) = refused r
+abbrev pub longitude_res : Result Degrees Refusal → Res Float
+longitude_res (Ok d) = ok d.0 0
+longitude_res (Err r) = refused r
 
-abbrev pub column_res : ColumnRead → Res ℤ
-column_res (columns.Value z) = ok z 0
-column_res (columns.Refused r) = refused r
+abbrev pub column_res : Result ℤ Refusal → Res ℤ
+column_res (Ok z) = ok z 0
+column_res (Err r) = refused r

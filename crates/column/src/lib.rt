@@ -11,18 +11,6 @@ use utils::Degrees;
 // A larger zoom is refused: 1 << zoom would not fit 64 bits.
 const MAX_ZOOM: u8 = 63;
 
-#[derive(Clone, Copy)]
-pub enum LongitudeRead {
-    Value(Degrees),
-    Refused(Refusal),
-}
-
-#[derive(Clone, Copy)]
-pub enum ColumnRead {
-    Value(i32),
-    Refused(Refusal),
-}
-
 // How many columns a zoom has: 2^zoom.
 fn zoom_tiles(zoom: u8) -> f64
     requires { zoom ≤ 63 }
@@ -48,21 +36,21 @@ fn to_i32(x: f64) -> i32
 }
 
 // The longitude at which column x starts.
-pub fn tilex2long(x: u32, zoom: u8) -> LongitudeRead
+pub fn tilex2long(x: u32, zoom: u8) -> Result<Degrees, Refusal>
     ensures { longitude_res result ≡ longitude x zoom }
 {
     if MAX_ZOOM < zoom {
-        return LongitudeRead::Refused(Refusal::ZoomTooLarge);
+        return Err(Refusal::ZoomTooLarge);
     }
-    LongitudeRead::Value(Degrees(x as f64 / zoom_tiles(zoom) * 360.0 - 180.0))
+    Ok(Degrees(x as f64 / zoom_tiles(zoom) * 360.0 - 180.0))
 }
 
 // The column that a longitude lies in.
-pub fn tile_column(degrees: Degrees, zoom: u8) -> ColumnRead
+pub fn tile_column(degrees: Degrees, zoom: u8) -> Result<i32, Refusal>
     ensures { column_res result ≡ column degrees.0 zoom }
 {
     if MAX_ZOOM < zoom {
-        return ColumnRead::Refused(Refusal::ZoomTooLarge);
+        return Err(Refusal::ZoomTooLarge);
     }
-    ColumnRead::Value(to_i32(zoom_tiles(zoom) * (degrees.0 + 180.0) / 360.0))
+    Ok(to_i32(zoom_tiles(zoom) * (degrees.0 + 180.0) / 360.0))
 }

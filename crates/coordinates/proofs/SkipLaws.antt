@@ -1,7 +1,7 @@
 -- The loop that passes over coordinates, and that what it passes are coordinates.
 use Prim.Native.Nat.{ℕ, zero, suc, ◌+◌, ◌-◌, ◌*◌, ◌/◌, ◌%◌, ◌^◌, ◌<◌, ◌≤◌}
 use native.Mathlib.Omega.{arith}
-use mathlib.Core.Path.{◌≡◌, refl, sym, ap, ◌∙◌}
+use mathlib.Core.Path.{◌≡◌, refl, sym, ap}
 use mathlib.Core.Bool.{Bool, true, false, cond, not, ◌&&◌, ◌||◌, and-true, and_assoc, false≢true}
 use mathlib.Core.List.{List, [], ◌∷◌, ◌++◌}
 use lib.Dec.{ltb, eqb, leb, lit<, lit≤}
@@ -11,14 +11,13 @@ use mir.Syntax.{w8}
 use mir.Val.{Fits}
 use borrow.Author.Tests.{le-ltb, lt-ltb, ltb-true, ltb-false, le-leb, lt-leb, eq-eqb, ne_eqb, eqb-true, eqb-false, leb-true, leb-false}
 use borrow.Author.Rules.{rules}
+use Rattle.std.specs.Prelude.{Some, None}
 use Rattle.parsing.specs.Parse.{Res, ok, no, and_then, map_res, many, byte}
 use Rattle.parsing.specs.Good.{split, ok_at, no_ok}
 use Rattle.parsing.proofs.Loops.{fold_more, view-no}
 use Rattle.utils.specs.Vbe.{Noted, noted, all_plain, Groups, groups, last_group, below, signed_of, plain_signed, noted_signed, noted_coordinate}
 use Rattle.utils.proofs.VbeLaws.{groups-small, first_plain}
 use Rattle.coordinates.specs.Skip.{short, skip_one, skip_all, skip_of, plain_end, not_plain, not_short, is_off, off_at, any_off, open_in, start_of, PassedTo}
-use Rattle.coordinates.specs.declared.Skip.{Skip}
-use Rattle.coordinates.specs.declared.Skip.TheVariants.{At, Unknown}
 
 -- by the code's tests
 module _ (before last : ℕ) where
@@ -39,12 +38,12 @@ end-plain b l v w high fits more less = go (eqb (l % 64) 0) refl (leb 192 b) ref
 
 -- one number, by its bytes
 module _ (s : List ℕ) (at : ℕ) (r : at + 3 ≤ length s) where
-  pub one_byte : get_or s at 0 < 128 → At (not (eqb (get_or s at 0) 64)) (at + 1) ≡ skip_one (short s at)
+  pub one_byte : get_or s at 0 < 128 → Some (not (eqb (get_or s at 0) 64), at + 1) ≡ skip_one (short s at)
   unfolding short groups
   one_byte h = simp (lt-ltb at (length s) (omega arith), lt-ltb _ _ h) (rw (first_plain (get_or s at 0) h))
 
   module _ (h : 128 ≤ get_or s at 0) where
-    pub two_bytes : (p : Bool) → ((i : ℕ) → Fits w8 (get_or s i 0)) → get_or s (at + 1) 0 < 128 → p ≡ plain_end (get_or s at 0) (get_or s (at + 1) 0) → At p (at + 2) ≡ skip_one (short s at)
+    pub two_bytes : (p : Bool) → ((i : ℕ) → Fits w8 (get_or s i 0)) → get_or s (at + 1) 0 < 128 → p ≡ plain_end (get_or s at 0) (get_or s (at + 1) 0) → Some (p, at + 2) ≡ skip_one (short s at)
     unfolding short groups
     two_bytes p k l q =
         let z : at + 2 ≡ at + 1 + 1 = omega arith in
@@ -52,7 +51,7 @@ module _ (s : List ℕ) (at : ℕ) (r : at + 3 ≤ length s) where
         (rw (q, z, end-plain (get_or s at 0) (get_or s (at + 1) 0) (get_or s at 0 % 128 + 128 * (get_or s (at + 1) 0 % 64)) 128 h (omega (arith, k at)) (λ t. omega arith) (λ t. omega arith)))
 
     module _ (l : 128 ≤ get_or s (at + 1) 0) where
-      pub three-bytes : (p : Bool) → ((i : ℕ) → Fits w8 (get_or s i 0)) → get_or s (at + 2) 0 < 128 → p ≡ plain_end (get_or s (at + 1) 0) (get_or s (at + 2) 0) → At p (at + 3) ≡ skip_one (short s at)
+      pub three-bytes : (p : Bool) → ((i : ℕ) → Fits w8 (get_or s i 0)) → get_or s (at + 2) 0 < 128 → p ≡ plain_end (get_or s (at + 1) 0) (get_or s (at + 2) 0) → Some (p, at + 3) ≡ skip_one (short s at)
       unfolding short groups
       three-bytes p k o q =
           let z : at + 1 + 1 ≡ at + 2 = omega arith in
@@ -62,7 +61,7 @@ module _ (s : List ℕ) (at : ℕ) (r : at + 3 ≤ length s) where
           simp (lt-ltb at (length s) (omega arith), le-ltb _ _ h, lt-ltb (at + 1) (length s) (omega arith), le-ltb _ _ l, z, lt-ltb (at + 2) (length s) (omega arith), lt-ltb _ _ o)
           (rw (q, y, end-plain b (get_or s (at + 2) 0) (get_or s at 0 % 128 + 128 * (b % 128 + 128 * (get_or s (at + 2) 0 % 64))) 16384 l (omega (arith, k (at + 1))) (λ t. omega arith) (λ t. omega arith)))
 
-      pub more_bytes : 128 ≤ get_or s (at + 2) 0 → Unknown ≡ skip_one (short s at)
+      pub more_bytes : 128 ≤ get_or s (at + 2) 0 → None ≡ skip_one (short s at)
       unfolding short groups
       more_bytes o =
           let z : at + 1 + 1 ≡ at + 2 = omega arith in
@@ -99,13 +98,16 @@ pub plain-snoc : {A : Type 0} (xs : List (Noted A)) (v : Noted A) → all_plain 
 plain-snoc [] v = and-true v.plain
 plain-snoc (x ∷ xs) v = rw (plain-snoc xs v, and_assoc)
 
-module _ (s : List ℕ) (next : ℕ) (g : Skip) (q : g ≡ skip_one (short s next)) (p : Bool) (after : ℕ) (h : g ≡ At p after) where
+parts : {A B : Type 0} (x y : A × B) → Some x ≡ Some y → (x.0 ≡ y.0) × (x.1 ≡ y.1)
+parts x y h = let q : x ≡ y = cc in (ap (λ z. z.0) q, ap (λ z. z.1) q)
+
+module _ (s : List ℕ) (next : ℕ) (p : Bool) (after : ℕ) (h : Some (p, after) ≡ skip_one (short s next)) where
   one-passed : map_res (λ v. v.plain) (short s next) ≡ ok p after
-  one-passed = go (short s next) (sym h ∙ q)
+  one-passed = go (short s next) h
     where
-      go : (r : Res (Noted ℤ)) → At p after ≡ skip_one r → map_res (λ v. v.plain) r ≡ ok p after
-      go (ok v e) z = cc
-      go (no n v) z = absurd (let y : ◌≡◌ {A = ℕ} 0 1 = cc in omega arith)
+      go : (r : Res (Noted ℤ)) → Some (p, after) ≡ skip_one r → map_res (λ v. v.plain) r ≡ ok p after
+      go (ok v e) z = let q = parts _ _ z in rw (q.0, q.1)
+      go (no n v) z = cc
 
   pub skip-near : after ≤ next + 3
   skip-near =
@@ -115,27 +117,24 @@ module _ (s : List ℕ) (next : ℕ) (g : Skip) (q : g ≡ skip_one (short s nex
   pub skip-more : (i at : ℕ) (b : Bool) → map_res all_plain (many short i s at) ≡ ok b next → map_res all_plain (many short (i + 1) s at) ≡ ok (b && p) after
   skip-more i at b e = fold_more short s all_plain (λ v. v.plain) ◌&&◌ plain-snoc i at e one-passed
 
-pub skip-room : (s : List ℕ) (at n : ℕ) → length s < at + 3 * n → Unknown ≡ skip_of s at n
-skip-room s at n h = rw (lt-leb (at + 3 * n) (length s) h)
-
-pub skip-done : (s : List ℕ) (at n i next : ℕ) (b : Bool) → at + 3 * n ≤ length s → map_res all_plain (many short i s at) ≡ ok b next → i ≤ n → n ≤ i → At b next ≡ skip_of s at n
+pub skip-done : (s : List ℕ) (at n i next : ℕ) (b : Bool) → at + 3 * n ≤ length s → map_res all_plain (many short i s at) ≡ ok b next → i ≤ n → n ≤ i → Some (b, next) ≡ skip_of s at n
 skip-done s at n i next b h e c d =
     let k : i ≡ n = omega arith in
     rw (le-leb (at + 3 * n) (length s) h) (go (many short n s at) (rw k at e))
   where
-    go : (r : Res (List (Noted ℤ))) → map_res all_plain r ≡ ok b next → At b next ≡ skip_all r
+    go : (r : Res (List (Noted ℤ))) → map_res all_plain r ≡ ok b next → Some (b, next) ≡ skip_all r
     go (ok l e) z = cc
     go (no n v) z = no_ok z
 
-pub skip_stop : (s : List ℕ) (at n i next : ℕ) (b : Bool) (g : Skip) → map_res all_plain (many short i s at) ≡ ok b next → g ≡ skip_one (short s next) → g ≡ Unknown → i < n → Unknown ≡ skip_of s at n
-skip_stop s at n i next b g e q h c = go (short s next) refl (sym h ∙ q)
+pub skip_stop : (s : List ℕ) (at n i next : ℕ) (b : Bool) → map_res all_plain (many short i s at) ≡ ok b next → None ≡ skip_one (short s next) → i < n → None ≡ skip_of s at n
+skip_stop s at n i next b e q c = go (short s next) refl q
   where
-    either : (t : Bool) (r : Res (List (Noted ℤ))) → Unknown ≡ skip_all r → Unknown ≡ cond t (skip_all r) Unknown
+    either : (t : Bool) (r : Res (List (Noted ℤ))) → None ≡ skip_all r → None ≡ cond t (skip_all r) None
     either true r z = z
     either false r z = refl
 
-    go : (r : Res (Noted ℤ)) → short s next ≡ r → Unknown ≡ skip_one r → Unknown ≡ skip_of s at n
-    go (ok v x) d z = absurd (let y : ◌≡◌ {A = ℕ} 0 1 = cc in omega arith)
+    go : (r : Res (Noted ℤ)) → short s next ≡ r → None ≡ skip_one r → None ≡ skip_of s at n
+    go (ok v x) d z = cc
     go (no k v) d z = either (leb (at + 3 * n) (length s)) (many short n s at) (rw (view-no short s all_plain (λ v. v.plain) i n at e (ap (map_res (λ v. v.plain)) d) c))
 
 -- what is known of a byte that is not off
@@ -170,10 +169,10 @@ module _ (second before b : ℕ) (z : is_off second before b ≡ false) where
   off-long h k l = false≢true (sym (rw (le-leb 128 second h, le-leb 128 before k, le-leb 128 b l) at (or_no (not_plain before b) (not_short second before b) z).1))
 
 module _ (s : List ℕ) (at n : ℕ) (k : (i : ℕ) → Fits w8 (get_or s i 0)) where
-  passed-one : (start after l m : ℕ) → At true after ≡ skip_one (short s start) → after ≤ start + 3 → 0 < l → m + 1 ≡ l → PassedTo s at n start l → PassedTo s at n after m
+  passed-one : (start after l m : ℕ) → Some (true, after) ≡ skip_one (short s start) → after ≤ start + 3 → 0 < l → m + 1 ≡ l → PassedTo s at n start l → PassedTo s at n after m
   passed-one start after l m g h o q p =
       let y : n - l + 1 ≡ n - m = omega arith in
-      ((omega arith, omega arith), rw y at (skip-more s start _ g true after refl (n - l) at true p.1))
+      ((omega arith, omega arith), rw y at (skip-more s start true after g (n - l) at true p.1))
 
   -- the byte behind those at i and i + 1
   pass-one : (i l m : ℕ) → 0 < l → m + 1 ≡ l + get_or s (i + 2) 0 / 128 → off_at s i (i + 1) (i + 2) ≡ false → PassedTo s at n (start_of s i) l → PassedTo s at n (start_of s (i + 1)) m
@@ -230,9 +229,6 @@ module _ (s : List ℕ) (at n : ℕ) (k : (i : ℕ) → Fits w8 (get_or s i 0)) 
       let p7 = pass-next (i + 6) (i + 7) (i + 8) (i + 7) (l - 6 + (get_or s (i + 2) 0 / 128 + get_or s (i + 3) 0 / 128 + get_or s (i + 4) 0 / 128 + get_or s (i + 5) 0 / 128 + get_or s (i + 6) 0 / 128 + get_or s (i + 7) 0 / 128)) (l - 7 + (get_or s (i + 2) 0 / 128 + get_or s (i + 3) 0 / 128 + get_or s (i + 4) 0 / 128 + get_or s (i + 5) 0 / 128 + get_or s (i + 6) 0 / 128 + get_or s (i + 7) 0 / 128 + get_or s (i + 8) 0 / 128)) (omega arith) (omega arith) (omega arith) (omega arith) (omega arith) e6.1 p6 in
       pass-next (i + 7) (i + 8) (i + 9) (i + 8) (l - 7 + (get_or s (i + 2) 0 / 128 + get_or s (i + 3) 0 / 128 + get_or s (i + 4) 0 / 128 + get_or s (i + 5) 0 / 128 + get_or s (i + 6) 0 / 128 + get_or s (i + 7) 0 / 128 + get_or s (i + 8) 0 / 128)) (l - 8 + (get_or s (i + 2) 0 / 128 + get_or s (i + 3) 0 / 128 + get_or s (i + 4) 0 / 128 + get_or s (i + 5) 0 / 128 + get_or s (i + 6) 0 / 128 + get_or s (i + 7) 0 / 128 + get_or s (i + 8) 0 / 128 + get_or s (i + 9) 0 / 128)) (omega arith) (omega arith) (omega arith) (omega arith) (omega arith) e7.1 p7
 
-  pub open-small : (i : ℕ) → open_in s i ≤ 8
-  open-small i = omega (arith, k (i + 2), k (i + 3), k (i + 4), k (i + 5), k (i + 6), k (i + 7), k (i + 8), k (i + 9))
-
 -- by the code's tests
 module _ (s : List ℕ) (i : ℕ) where
   pub start-next : get_or s (i + 1) 0 < 128 → i + 2 ≡ start_of s i
@@ -251,16 +247,6 @@ module _ (s : List ℕ) (i : ℕ) where
       go true u = omega arith
       go false true = omega arith
       go false false = omega arith
-
--- none is passed
-pub passed_none : (s : List ℕ) (at n : ℕ) → at + 3 * n ≤ length s → PassedTo s at n at n
-passed_none s at n h = let z : n - n ≡ 0 = omega arith in ((omega arith, h), rw z)
-
-pub passed_start : (s : List ℕ) (at n back : ℕ) → at + 3 * n ≤ length s → at ≡ back + 2 → get_or s (back + 1) 0 < 128 → PassedTo s at n (start_of s back) n
-passed_start s at n back h q l =
-    let z : at ≡ start_of s back = q ∙ start-next s back l in
-    let y : n - n ≡ 0 = omega arith in
-    ((omega arith, rw z at h), rw y (ap (ok true) z))
 
 pub ruleset skips = (rules, end_low, end-high, one_byte, two_bytes, three-bytes, more_bytes, start-next, start-one, start-two)
 
@@ -304,10 +290,10 @@ many-short s (suc n) at l e h =
     rw (short-coordinate s at u.val u.mid u.first, many-short s n u.mid v.val v.mid v.first) v.second
 
 -- n coordinates that end at e, and whether all are plain
-pub skipped : (s : List ℕ) (n at e : ℕ) (p : Bool) (g : Skip) → g ≡ skip_of s at n → g ≡ At p e → map_res all_plain (many noted_coordinate n s at) ≡ ok p e
-skipped s n at e p g q h = go (leb (at + 3 * n) (length s)) (many short n s at) refl (sym h ∙ q)
+pub skipped : (s : List ℕ) (n at e : ℕ) (p : Bool) → Some (p, e) ≡ skip_of s at n → map_res all_plain (many noted_coordinate n s at) ≡ ok p e
+skipped s n at e p h = go (leb (at + 3 * n) (length s)) (many short n s at) refl h
   where
-    go : (t : Bool) (r : Res (List (Noted ℤ))) → many short n s at ≡ r → At p e ≡ cond t (skip_all r) Unknown → map_res all_plain (many noted_coordinate n s at) ≡ ok p e
-    go true (ok l x) d f = rw (many-short s n at l x d) cc
-    go true (no i v) d f = absurd (let z : ◌≡◌ {A = ℕ} 0 1 = cc in omega arith)
-    go false r d f = absurd (let z : ◌≡◌ {A = ℕ} 0 1 = cc in omega arith)
+    go : (t : Bool) (r : Res (List (Noted ℤ))) → many short n s at ≡ r → Some (p, e) ≡ cond t (skip_all r) None → map_res all_plain (many noted_coordinate n s at) ≡ ok p e
+    go true (ok l x) d f = let q = parts _ _ f in rw (many-short s n at l x d, q.0, q.1)
+    go true (no i v) d f = cc
+    go false r d f = cc

@@ -1,10 +1,8 @@
 -- Document 01, utils.rs: signed numbers. Those of at most 3 bytes are coordinates, whatever they hold, and are passed over without
 -- decoding them.
-use Rattle.std.specs.Prelude.{ℕ, ◌+◌, ◌-◌, ◌*◌, ◌/◌, ◌%◌, ◌≤◌, ◌≡◌, Bool, true, cond, ◌&&◌, ◌||◌, List, ltb, leb, eqb, ℤ, length, get_or}
+use Rattle.std.specs.Prelude.{ℕ, ◌+◌, ◌-◌, ◌*◌, ◌/◌, ◌%◌, ◌≤◌, ◌≡◌, Bool, true, cond, ◌&&◌, ◌||◌, List, ltb, leb, eqb, ℤ, length, get_or, Option, Some, None}
 use Rattle.parsing.specs.Parse.{Res, ok, no, Parser, ◌>>=◌, return, map_res, many}
 use Rattle.utils.specs.Vbe.{Noted, noted, all_plain, groups, signed_of, plain_signed}
-use Rattle.coordinates.specs.declared.Skip.{Skip}
-use Rattle.coordinates.specs.declared.Skip.TheVariants.{At, Unknown}
 
 -- a signed number of at most 3 bytes
 unfoldable pub short : Parser (Noted ℤ)
@@ -13,18 +11,18 @@ short = do
   return (noted (signed_of g.magnitude g.sign) (plain_signed g.magnitude g.sign g.weight))
 
 -- n of them: whether all were plain, and where they end
-abbrev pub skip_all : Res (List (Noted ℤ)) → Skip
-skip_all (ok l e) = At (all_plain l) e
-skip_all (no n v) = Unknown
+abbrev pub skip_all : Res (List (Noted ℤ)) → Option (Bool × ℕ)
+skip_all (ok l e) = Some (all_plain l, e)
+skip_all (no n v) = None
 
 -- where the map has bytes for n of the longest
-abbrev pub skip_of : List ℕ → (at n : ℕ) → Skip
-skip_of m at n = cond (leb (at + 3 * n) (length m)) (skip_all (many short n m at)) Unknown
+abbrev pub skip_of : List ℕ → (at n : ℕ) → Option (Bool × ℕ)
+skip_of m at n = cond (leb (at + 3 * n) (length m)) (skip_all (many short n m at)) None
 
 -- Of private functions, which need not be believed: one number
-abbrev pub skip_one : Res (Noted ℤ) → Skip
-skip_one (ok v e) = At v.plain e
-skip_one (no n v) = Unknown
+abbrev pub skip_one : Res (Noted ℤ) → Option (Bool × ℕ)
+skip_one (ok v e) = Some (v.plain, e)
+skip_one (no n v) = None
 
 -- and by the last two bytes of a longer one, whether it was plain
 abbrev pub plain_end : (before last : ℕ) → Bool

@@ -4,41 +4,31 @@
 ghost use Rattle.std.specs.Prelude.{◌≡◌, ◌+◌, ◌*◌, ◌≤◌, length};
 ghost use Rattle.coordinates.specs.Skip.{short, skip_of, skip_one, plain_end, is_off, any_off, open_in, start_of, PassedTo};
 
-// Whether all of some short coordinates were plain and where they end, or that they are not all short, or that the map may end in them.
-#[derive(Clone, Copy)]
-pub enum Skip {
-    At(bool, usize),
-    Unknown,
-}
-
 // A number of more bytes than one is plain by its last two: they have data above the bits that one byte less would hold.
 fn plain_end(before: u8, last: u8) -> bool
     ensures { result ≡ plain_end before last }
 {
-    if last % 64 == 0 {
-        return 192 <= before;
-    }
-    true
+    last % 64 != 0 || 192 <= before
 }
 
-// One number of at most 3 bytes.
-fn skip_one(map: &[u8], at: usize) -> Skip
+// One number of at most 3 bytes: whether it is plain, and where it ends.
+fn skip_one(map: &[u8], at: usize) -> Option<(bool, usize)>
     requires { at + 3 ≤ length map.now }
     ensures { result ≡ skip_one (short map.now at) }
 {
     let a = map[at];
     if a < 128 {
-        return Skip::At(a != 64, at + 1);
+        return Some((a != 64, at + 1));
     }
     let b = map[at + 1];
     if b < 128 {
-        return Skip::At(plain_end(a, b), at + 2);
+        return Some((plain_end(a, b), at + 2));
     }
     let c = map[at + 2];
     if c < 128 {
-        return Skip::At(plain_end(b, c), at + 3);
+        return Some((plain_end(b, c), at + 3));
     }
-    Skip::Unknown
+    None
 }
 
 // Whether a byte, behind two others, ends a number that is not plain, or is the third of a number and does not end it.
@@ -124,6 +114,7 @@ fn skip_eights(map: &[u8], at: usize, n: u64) -> Rest
         return Rest { next: at, left: n };
     }
     let mut left = n;
+    // counted by what eight bytes hold, not by turns
     while 8 <= left {
         if any_off(map, back) {
             break;
@@ -137,31 +128,26 @@ fn skip_eights(map: &[u8], at: usize, n: u64) -> Rest
     }
 }
 
-// Where n coordinates of at most 3 bytes end. 3 bytes hold 20 bits, so none of them is refused. That the map has bytes for all of them is
-// asked once.
-pub fn skip_coordinates(map: &[u8], at: usize, n: u64) -> Skip
+// Whether n coordinates of at most 3 bytes are all plain, and where they end. 3 bytes hold 20 bits, so none of them is refused. That the map
+// has bytes for all of them is asked once: none stands for a map that may end in them, or for coordinates that are not all short.
+pub fn skip_coordinates(map: &[u8], at: usize, n: u64) -> Option<(bool, usize)>
     ensures { result ≡ skip_of map.now at n }
 {
     let len = map.len();
     if len < at {
-        return Skip::Unknown;
+        return None;
     }
     let room = ((len - at) / 3) as u64;
     if room < n {
-        return Skip::Unknown;
+        return None;
     }
     let rest = skip_eights(map, at, n);
     let mut next = rest.next;
     let mut plain = true;
-    let mut left = rest.left;
-    while 0 < left {
-        let got = skip_one(map, next);
-        let Skip::At(p, after) = got else {
-            return Skip::Unknown;
-        };
+    for _ in 0..rest.left {
+        let (p, after) = skip_one(map, next)?;
         plain = plain & p;
         next = after;
-        left -= 1;
     }
-    Skip::At(plain, next)
+    Some((plain, next))
 }

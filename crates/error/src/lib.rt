@@ -2,6 +2,7 @@
 #![tactic(auto)]
 
 ghost use Rattle.std.specs.Prelude.{◌≡◌};
+ghost use Rattle.error.specs.declared.LentRefusal.TheVariants.{Refused};
 ghost use Rattle.error.specs.Refusals.{number_of, lent_number, short_buffer, in_index, in_tile_head};
 
 // The lengths that a call needs: of the lists in the order in which it takes them, and of the buffer. 0 where it takes none.
@@ -65,6 +66,15 @@ pub enum LentRefusal {
     Refused(Refusal),
     // 15: a lent list or buffer is shorter than the result, with the lengths needed
     Short(Lengths),
+}
+
+// A call that is lent nothing refuses alike.
+impl From<Refusal> for LentRefusal {
+    ghost from_gives = { λ refusal lent. lent ≡ Refused refusal };
+
+    fn from(refusal: Refusal) -> LentRefusal {
+        LentRefusal::Refused(refusal)
+    }
 }
 
 // Document 01's number of a refusal.

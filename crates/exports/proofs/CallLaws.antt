@@ -1,4 +1,5 @@
 -- What crosses back, from the contracts of the inner function and of the encoders.
+use Rattle.visit.specs.Visit.{NextStep, Accepted, Declined}
 use Prim.Native.Nat.{ℕ}
 use lib.IntN.{ℤ}
 use mathlib.Core.Path.{◌≡◌, refl, subst}
@@ -7,8 +8,10 @@ use mathlib.Core.List.{List}
 use mir.Syntax.{w32, w64}
 use mir.Val.{SFits, to_z, of_z}
 use mir.Facts.{to_z-of_z}
-use Rattle.byte_source.specs.Answers.{span_res}
-use Rattle.byte_source.specs.declared.SpanRead.{SpanRead}
+use Rattle.std.specs.Prelude.{Result}
+use Rattle.byte_source.specs.Answers.{read_by, part_in}
+use Rattle.byte_source.specs.declared.Span.{Span}
+use Rattle.error.specs.declared.Refusal.{Refusal}
 use Rattle.tag.specs.declared.Kind.{Kind}
 use Rattle.format.specs.Tile.{kind_at}
 use Rattle.format.specs.Lent.{LentLists}
@@ -19,9 +22,6 @@ use Rattle.tag_table.specs.Tables.{kinds_by}
 use Rattle.tile_layout.specs.declared.TileLayout.{TileLayout}
 use Rattle.quick_head.specs.Quick.{IfKnown}
 use Rattle.visit.specs.declared.Stream.{Stream}
-use Rattle.visit.specs.declared.NextStep.{NextStep}
-use Rattle.visit.specs.declared.Accepted.{Accepted}
-use Rattle.visit.specs.declared.Declined.{Declined}
 use Rattle.wire.specs.Wire.{Wire, Crosses}
 use Rattle.index_wire.specs.Index.{tag_wire}
 use Rattle.stream_wire.specs.Streams.{next_wire, accept_wire, decline_wire}
@@ -32,7 +32,7 @@ pub crosses : {A : Type 0} (encode : A → Wire) (Is : A → Type 0) (a : A) (w 
 crosses encode Is a w i q = record { answer = a; is = i; crossed = q }
 
 -- a tag
-pub tag-crosses : (starts letters : List ℕ) (t : TagRange) (k : ℕ) (m : List ℕ) (g : SpanRead) (y : Kind) (before w : Wire) → span_res m g ≡ listed_text starts t.first t.count k m → y ≡ kind_at (kinds_by letters t) k → w ≡ tag_wire before (record { text = g; kind = y }) → Crosses (tag_wire before) (TagIs starts letters t k m) w
+pub tag-crosses : (starts letters : List ℕ) (t : TagRange) (k : ℕ) (m : List ℕ) (g : Result (Span × ℕ) Refusal) (y : Kind) (before w : Wire) → read_by (part_in m) g ≡ listed_text starts t.first t.count k m → y ≡ kind_at (kinds_by letters t) k → w ≡ tag_wire before (record { text = g; kind = y }) → Crosses (tag_wire before) (TagIs starts letters t k m) w
 tag-crosses starts letters t k m g y before w p q s = crosses (tag_wire before) (TagIs starts letters t k m) (record { text = g; kind = y }) w (record { text = p; kind = q }) s
 
 -- an answer by what was handed in (where the intervals stand, a layout), as the words say it

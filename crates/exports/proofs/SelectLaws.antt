@@ -10,9 +10,8 @@ use Rattle.tile_layout.specs.TileLayout.{kinds_of}
 use Rattle.tile_layout.specs.declared.TileLayout.{TileLayout}
 use Rattle.format.specs.Tile.{Point, Head, Body}
 use Rattle.agreement.specs.Stream.{on_decline}
-use Rattle.visit.specs.Visit.{state_of}
+use Rattle.visit.specs.Visit.{state_of, NextStep}
 use Rattle.visit.specs.declared.Stream.{Stream}
-use Rattle.visit.specs.declared.NextStep.{NextStep}
 use Rattle.selection.specs.Selected.{ways_of}
 use Rattle.selection.specs.declared.Selection.{Selection}
 use Rattle.selection.proofs.NextLaws.{Left, returned, goes_on, fewer, given_back, not-true, not-false}

@@ -1,4 +1,5 @@
 -- The call that declines and goes on, which calls decline and next: from their contracts, by what their words say.
+use Rattle.std.specs.Prelude.{Result, Ok, Err}
 use Prim.Native.Nat.{ℕ, ◌<◌}
 use native.Mathlib.Omega.{arith}
 use lib.IntN.{ℤ}
@@ -11,19 +12,13 @@ use borrow.Author.Tests.{ltb-true}
 use Rattle.error.specs.Refusals.{number_of, values_of}
 use Rattle.error.specs.declared.Refusal.{Refusal}
 use Rattle.format.specs.Tile.{Point, Head, Body}
-use Rattle.poi.specs.Poi.{empty_poi}
 use Rattle.tile_layout.specs.TileLayout.{kinds_of, format_of}
 use Rattle.tile_layout.specs.declared.TileLayout.{TileLayout}
 use Rattle.agreement.specs.Calls.{Answer, declined, refused, Step, plain}
 use Rattle.agreement.specs.Format.{Format}
 use Rattle.agreement.specs.Stream.{idle, waits, on_next, on_decline}
 use Rattle.agreement.specs.TileFormat as tile
-use Rattle.visit.specs.Visit.{TileState, state_of, ShownAnswer, shown_step, no_head, poi_in, head_in, NextIs, decline_answer}
-use Rattle.visit.specs.declared.NextAnswer.TheVariants as next-answer
-use Rattle.visit.specs.declared.NextStep.{NextStep}
-use Rattle.visit.specs.declared.DeclineAnswer.{DeclineAnswer}
-use Rattle.visit.specs.declared.DeclineAnswer.TheVariants as decline-answer
-use Rattle.visit.specs.declared.Declined.{Declined}
+use Rattle.visit.specs.Visit.{TileState, state_of, ShownAnswer, shown_step, NextIs, decline_answer, NextStep, Declined}
 use Rattle.selection.specs.Selected.{unless_refused, skipped_next}
 use Rattle.selection.proofs.NextLaws.{gives, given_back}
 use Rattle.selection.proofs.SkipLaws.{past-it, out-of-turn}
@@ -77,16 +72,16 @@ module _ (m letters : List ℕ) (l : TileLayout) (w i s : List ℕ) (z : List �
   pub skip-refused : (k ≡ 0 → ⊥) → Crosses (next_wire (lending (w ∷ i ∷ s ∷ []) z d)) (SkipOf m letters l (stream_in s)) (wire k (w ∷ i ∷ cur ∷ []) z d)
   skip-refused f = go b.answer refl number_is state-is answer-is
     where
-      go : (x : DeclineAnswer) → b.answer ≡ x → k ≡ (decline_with x b.stream (lending (aside ∷ s ∷ []) [] [])).number → cur ≡ list_of (decline_with x b.stream (lending (aside ∷ s ∷ []) [] [])) 1
+      go : (x : Result (Unit {0}) Refusal) → b.answer ≡ x → k ≡ (decline_with x b.stream (lending (aside ∷ s ∷ []) [] [])).number → cur ≡ list_of (decline_with x b.stream (lending (aside ∷ s ∷ []) [] [])) 1
           → decline_answer x ≡ (shown_step (on_decline S)).reply.answer → Crosses (next_wire (lending (w ∷ i ∷ s ∷ []) z d)) (SkipOf m letters l (stream_in s)) (wire k (w ∷ i ∷ cur ∷ []) z d)
-      go decline-answer.Declined u e j q = absurd (f e)
-      go (decline-answer.Refused r) u e j q =
+      go (Ok tt) u e j q = absurd (f e)
+      go (Err r) u e j q =
           let o = out S (number_of r) (values_of r) q in
           let t : shown_step (skipped_next (format_of (kinds_of l letters)) m S) ≡ plain (refused (number_of r) (values_of r)) (state_of b.stream) =
-          ap shown_step (out-of-turn (format_of (kinds_of l letters)) m S (number_of r) (values_of r) o.answer) ∙ sym y.is ∙ ap (λ (x : DeclineAnswer). plain (decline_answer x) (state_of b.stream)) u in
+          ap shown_step (out-of-turn (format_of (kinds_of l letters)) m S (number_of r) (values_of r) o.answer) ∙ sym y.is ∙ ap (λ (x : Result (Unit {0}) Refusal). plain (decline_answer x) (state_of b.stream)) u in
           record {
-            answer = record { answer = next-answer.Refused r; poi = empty_poi; head = no_head; stream = b.stream };
-            is = record { answer = sym t; poi = ap (λ (x : Step ShownAnswer TileState). poi_in x.reply.answer) (sym t); head = ap (λ (x : Step ShownAnswer TileState). head_in x.reply.answer) (sym t) };
+            answer = record { answer = Err r; stream = b.stream };
+            is = sym t;
             crossed = ap (λ (o : ℕ). wire o (w ∷ i ∷ cur ∷ []) z d) e ∙ ap (λ (o : List ℕ). wire (number_of r) (w ∷ i ∷ o ∷ []) z d) j ∙ ap (λ (v : List ℕ). wire (number_of r) (sets w 0 v ∷ i ∷ s ∷ []) z d) (sym o.values);
           }
 
@@ -102,9 +97,9 @@ module _ (m letters : List ℕ) (l : TileLayout) (w i s : List ℕ) (z : List �
     declines : (on_decline {P = Point} {H = Head} {B = Body} S).reply.answer ≡ declined
     declines = go b.answer (sym e ∙ number_is) answer-is
       where
-        go : (q : DeclineAnswer) → 0 ≡ (decline_with q b.stream (lending (aside ∷ s ∷ []) [] [])).number → decline_answer q ≡ (shown_step (on_decline S)).reply.answer → (on_decline {P = Point} {H = Head} {B = Body} S).reply.answer ≡ declined
-        go decline-answer.Declined u q = went S q
-        go (decline-answer.Refused r) u q = not-0 r (sym u)
+        go : (q : Result (Unit {0}) Refusal) → 0 ≡ (decline_with q b.stream (lending (aside ∷ s ∷ []) [] [])).number → decline_answer q ≡ (shown_step (on_decline S)).reply.answer → (on_decline {P = Point} {H = Head} {B = Body} S).reply.answer ≡ declined
+        go (Ok tt) u q = went S q
+        go (Err r) u q = not-0 r (sym u)
 
     long : length cur ≡ 8
     long = ap length state-is ∙ decline-long aside s b h

@@ -6,14 +6,15 @@
 ghost use Rattle.std.specs.Prelude.{◌≡◌, [], ◌∷◌};
 ghost use Rattle.parsing.specs.Parse.{map_res};
 ghost use Rattle.format.specs.WayData.{way_data};
-ghost use Rattle.way_measure.specs.Answers.{way_sizes, way_data_res};
+ghost use Rattle.byte_source.specs.Answers.{read_res};
+ghost use Rattle.way_measure.specs.Answers.{way_sizes};
 ghost use Rattle.text.specs.Writing.{outcome, writing};
 ghost use Rattle.column.specs.Column.{column_res, longitude_res, column as column_of, longitude as longitude_of};
 ghost use Rattle.opening.specs.Opening.{lists};
 ghost use Rattle.way_data.specs.Reply.{lent, reply, read_way_data};
 ghost use Rattle.fetch_way.specs.FetchWay.{lent as lent_all};
 ghost use Rattle.wire.specs.Wire.{wire, lending, Crosses};
-ghost use Rattle.index_wire.specs.Index.{count_wire, index_wire, sub_file_wire, interval_wire, interval_in, entry_wire, tag_wire, text_wire, column_wire, longitude_wire, way_data_wire, data_written_wire};
+ghost use Rattle.index_wire.specs.Index.{number_wire, interval_wire, interval_in, entry_wire, tag_wire, text_wire, column_wire, longitude_wire, way_data_wire, data_written_wire};
 ghost use Rattle.window.specs.Window.{shares_cell};
 ghost use Rattle.window_wire.specs.Windows.{window_count_wire, window_tile_wire};
 ghost use Rattle.wanted_wire.specs.Figures.{wanted_wire};
@@ -64,7 +65,7 @@ pub extern "C" fn mapsforge_sub_file(
     zoom: u8,
     words: &mut [u64; 8],
 ) -> u64
-    ensures { Crosses (sub_file_wire (lending (words.old ∷ []) [] [])) (SubFileOf map.now zoom (intervals_in layout.now)) (wire result (words.new ∷ []) [] []) }
+    ensures { Crosses (number_wire (lending (words.old ∷ []) [] [])) (SubFileOf map.now zoom (intervals_in layout.now)) (wire result (words.new ∷ []) [] []) }
 {
     exports::mapsforge_sub_file(map, layout, zoom, words)
 }
@@ -103,7 +104,7 @@ pub extern "C" fn mapsforge_tile_count(
     y_max: i32,
     words: &mut [u64; 8],
 ) -> u64
-    ensures { Crosses (count_wire (lending (words.old ∷ []) [] [])) (CountOf (interval_in interval.now) (grid_in x_min y_min x_max y_max)) (wire result (words.new ∷ []) [] []) }
+    ensures { Crosses (number_wire (lending (words.old ∷ []) [] [])) (CountOf (interval_in interval.now) (grid_in x_min y_min x_max y_max)) (wire result (words.new ∷ []) [] []) }
 {
     exports::mapsforge_tile_count(interval, x_min, y_min, x_max, y_max, words)
 }
@@ -120,7 +121,7 @@ pub extern "C" fn mapsforge_tile_index(
     y: i32,
     words: &mut [u64; 8],
 ) -> u64
-    ensures { Crosses (index_wire (lending (words.old ∷ []) [] [])) (IndexOf x y (interval_in interval.now) (grid_in x_min y_min x_max y_max)) (wire result (words.new ∷ []) [] []) }
+    ensures { Crosses (number_wire (lending (words.old ∷ []) [] [])) (IndexOf x y (interval_in interval.now) (grid_in x_min y_min x_max y_max)) (wire result (words.new ∷ []) [] []) }
 {
     exports::mapsforge_tile_index(interval, x_min, y_min, x_max, y_max, x, y, words)
 }
@@ -440,7 +441,7 @@ pub extern "C" fn mapsforge_measure_way_data(
     data_blocks: u64,
     words: &mut [u64; 10],
 ) -> u64
-    ensures { Crosses (way_data_wire (lending (words.old ∷ []) [] [])) (λ a. way_data_res a ≡ map_res way_sizes (way_data data_blocks map.now at)) (wire result (words.new ∷ []) [] []) }
+    ensures { Crosses (way_data_wire (lending (words.old ∷ []) [] [])) (λ a. read_res a ≡ map_res way_sizes (way_data data_blocks map.now at)) (wire result (words.new ∷ []) [] []) }
 {
     exports::mapsforge_measure_way_data(map, at, data_blocks, words)
 }

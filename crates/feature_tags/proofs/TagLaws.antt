@@ -8,28 +8,14 @@ use mathlib.Core.List.{List, [], ◌∷◌, ◌++◌}
 use lib.ListN.{length, get_or, take, set, replicate}
 use lib.Dec.{leb}
 use lib.Seq.{take-suc, take_all, take-length, length-take-le}
-use borrow.Author.Rules.{rules}
 use borrow.Author.Tests.{leb-true, leb-false}
-use Rattle.byte_source.specs.Answers.{span_bytes}
-use Rattle.byte_source.specs.declared.Span.{Span}
-use Rattle.arithmetic.specs.Cut.{cut}
-use Rattle.text.specs.Utf8.{replaced}
-use Rattle.tag.specs.Tag.{new_tag, tag_of, key_bytes}
-use Rattle.tag.specs.declared.Tag.{Tag}
-use Rattle.tag.specs.declared.TextKey.{TextKey}
-use Rattle.tag.specs.declared.TextKey.TheVariants.{Name, HouseNumber, Ref}
 use Rattle.types.specs.declared.TagRange.{TagRange}
-use Rattle.types.specs.Types.{maybe_part}
-use Rattle.types.specs.declared.OptionalSpan.{OptionalSpan}
-use Rattle.types.specs.declared.OptionalSpan.TheVariants as span
 use Rattle.types.proofs.FillLaws.{front-map-more}
-use Rattle.fetched.specs.Fetched.{started_name, tag_string, keyed, no_text, no_texts, filled_texts}
+use Rattle.fetched.specs.Fetched.{started_name, tag_string, no_text, filled_texts}
 use Rattle.fetched.specs.declared.FeatureTexts.{FeatureTexts}
 use Rattle.feature_texts.specs.declared.TextParts.{TextParts}
 use Rattle.feature_tags.specs.FeatureTags.{strings_of, own_texts, texts_of}
 use Rattle.fetched.specs.declared.TagText.{TagText}
-use Rattle.fetched.specs.declared.OptionalText.{OptionalText}
-use Rattle.fetched.specs.declared.OptionalText.TheVariants.{Absent, At}
 
 -- the first 15 ids
 take-15 : (ids : List ℕ) (n : ℕ) → n ≡ min (length ids) 15 → take n ids ≡ take 15 ids
@@ -92,25 +78,3 @@ module _ (starts : List ℕ) (p : TextParts) (m ids : List ℕ) (n : ℕ) (x₀ 
         let w = h.within in
         let k : i ≡ min (length ids) 15 = (let q : i ≡ n = omega arith in q ∙ h.most) in
         h.told ∙ ap (λ y. tags_of y (strings_of starts p.tags m (take i ids))) e ∙ ap (λ l. tags_of (own_texts p m) (strings_of starts p.tags m l)) (take-15 ids i k)
-
--- another text
-pub own-absent : (m : List ℕ) (key : TextKey) (o : OptionalSpan) → o ≡ span.Absent → Absent ≡ keyed key (maybe_part m o)
-own-absent m key o h = rw h
-
-pub own_at : (m b : List ℕ) (key : TextKey) (o : OptionalSpan) (s : Span) (n : ℕ) (t : Tag) → o ≡ span.At s → b ≡ span_bytes m s → n ≡ cut (length (replaced b)) → t ≡ new_tag (key_bytes key) (replaced b)
-    → At (record { len = n; tag = t }) ≡ keyed key (maybe_part m o)
-own_at m b key o s n t h e k q =
-    rw (h, k, q, e)
-
-pub string-of : (s : List ℕ) (n : ℕ) (t : Tag) → n ≡ cut (length (replaced s)) → t ≡ tag_of s → ◌≡◌ {A = TagText} (record { len = n; tag = t }) (tag_string s)
-string-of s n t h k = rw (h, k)
-
-pub none_of : (e : TagText) → e ≡ no_text → ◌≡◌ {A = FeatureTexts} (record { tags = replicate 15 e; name = Absent; house_number = Absent; reference = Absent }) no_texts
-none_of e h = rw h
-
-pub ruleset records = (rules, string-of, none_of)
-
-pub own_of : (p : TextParts) (m : List ℕ) (z : TagText) (a b c : OptionalText) → z ≡ no_text → a ≡ keyed Name (maybe_part m p.name)
-    → b ≡ keyed HouseNumber (maybe_part m p.house_number) → c ≡ keyed Ref (maybe_part m p.reference)
-    → ◌≡◌ {A = FeatureTexts} (record { tags = replicate 15 z; name = a; house_number = b; reference = c }) (own_texts p m)
-own_of p m z a b c h f g k = rw (h, f, g, k)

@@ -1,18 +1,17 @@
 -- The texts of a feature, written one behind the other to a buffer that has room for all.
 use Prim.Native.Nat.{ℕ, ◌+◌, ◌≤◌, ◌<◌}
-use native.Mathlib.Nat.{zero-add}
 use native.Mathlib.Numerals.{add-one}
 use native.Mathlib.Omega.{arith}
 use mathlib.Core.Path.{◌≡◌, refl, sym, ap, ◌∙◌}
-use mathlib.Core.List.{List, [], ◌++◌}
-use lib.ListN.{length, get_or, drop, length-append, drop_of_length-le}
+use mathlib.Core.List.{List, ◌++◌}
+use lib.ListN.{length, get_or, drop, length-append}
 use lib.Seq.{sets, length-sets, drop-cons}
 use Rattle.parsing.proofs.Loops.{sets-append}
+use Rattle.std.specs.Prelude.{Result, Ok, Err}
+use Rattle.std.specs.Result.{result_unwrap_or}
 use Rattle.error.specs.declared.LentRefusal.{LentRefusal}
 use Rattle.text.specs.Utf8.{replaced}
 use Rattle.text.specs.Writing.{outcome, writing}
-use Rattle.text.specs.declared.Written.{Written}
-use Rattle.text.specs.declared.Written.TheVariants.{Upto, Refused}
 use Rattle.text.proofs.WrittenLaws.{written-fits, written-short}
 use Rattle.types.specs.Types.{maybe_part}
 use Rattle.fetched.specs.Fetched.{part_bytes, started_name, id_texts}
@@ -21,22 +20,9 @@ use Rattle.feature_texts.specs.declared.TextParts.{TextParts}
 use Rattle.feature_texts.proofs.TextLaws.{texts-are}
 
 -- one text
-pub record Put (s b b' : List ℕ) (at n : ℕ) : Type 0 where
-  pub place : n ≡ at + length (replaced s)
-  pub bytes : b' ≡ sets b at (replaced s)
-
-module _ (s b b' : List ℕ) (at : ℕ) (g : Written) (e : outcome g b' ≡ writing s b at) where
-  pub put-place : (n : ℕ) → g ≡ Upto n → n ≡ at + length (replaced s)
-  put-place n h = (written-fits s b b' at g e n h).place
-
-  pub put-bytes : (n : ℕ) → g ≡ Upto n → b' ≡ sets b at (replaced s)
-  put-bytes n h = (written-fits s b b' at g e n h).bytes
-
-  pub put-never : (r : LentRefusal) → g ≡ Refused r → at + length (replaced s) ≤ length b → at ≡ at + length (replaced s)
-  put-never r h f = let x = (written-short s b b' at g e r h).room in absurd (omega arith)
-
-  pub put-never-bytes : (r : LentRefusal) → g ≡ Refused r → at + length (replaced s) ≤ length b → b' ≡ sets b at (replaced s)
-  put-never-bytes r h f = let x = (written-short s b b' at g e r h).room in absurd (omega arith)
+pub put-there : (s b b' : List ℕ) (at : ℕ) (g : Result ℕ LentRefusal) (n : ℕ) → outcome g b' ≡ writing s b at → at + length (replaced s) ≤ length b → n ≡ result_unwrap_or g at → (n ≡ at + length (replaced s)) × (b' ≡ sets b at (replaced s))
+put-there s b b' at (Ok k) n e f h = let x = written-fits s b b' at (Ok k) e k refl in (h ∙ x.place, x.bytes)
+put-there s b b' at (Err r) n e f h = let x = (written-short s b b' at (Err r) e r refl).room in absurd (omega arith)
 
 -- the tags' strings: what is left, written behind the last one, gives what is to be written
 pub record IdsLeft (f : ℕ → List ℕ) (ids b₀ b : List ℕ) (at i : ℕ) : Type 0 where
@@ -47,20 +33,9 @@ pub record IdsLeft (f : ℕ → List ℕ) (ids b₀ b : List ℕ) (at i : ℕ) :
   pub kept : length b ≡ length b₀
 
 module _ (f : ℕ → List ℕ) (ids b₀ : List ℕ) where
-  pub ids-start : length (id_texts f ids) ≤ length b₀ → IdsLeft f ids b₀ b₀ 0 0
-  ids-start h = record { within = omega arith; bytes = refl; place = zero-add (length (id_texts f ids)); room = h; kept = refl }
-
   module _ (b : List ℕ) (at i : ℕ) (l : IdsLeft f ids b₀ b at i) where
     next-texts : (d : ℕ) → i < length ids → id_texts f (drop i ids) ≡ replaced (f (get_or ids i d)) ++ id_texts f (drop (i + 1) ids)
     next-texts d h = rw (drop-cons ids i d h, add-one i) refl
-
-    pub ids-room : (d : ℕ) (s : List ℕ) → i < length ids → s ≡ f (get_or ids i d) → at + length (replaced s) ≤ length b
-    ids-room d s h e =
-        let x : length (id_texts f (drop i ids)) ≡ length (replaced s) + length (id_texts f (drop (i + 1) ids)) =
-        ap length (next-texts d h) ∙ length-append (replaced (f (get_or ids i d))) (id_texts f (drop (i + 1) ids)) ∙ ap (λ y. length (replaced y) + length (id_texts f (drop (i + 1) ids))) (sym e) in
-        let p = l.place in
-        let q = l.room in
-        omega arith
 
     pub ids_more : (d n : ℕ) (s b' : List ℕ) → i < length ids → s ≡ f (get_or ids i d) → n ≡ at + length (replaced s) → b' ≡ sets b at (replaced s) → IdsLeft f ids b₀ b' n (i + 1)
     ids_more d n s b' h e k w =
@@ -76,15 +51,6 @@ module _ (f : ℕ → List ℕ) (ids b₀ : List ℕ) where
           room = let q = l.room in omega arith;
           kept = z ∙ l.kept;
         }
-
-    none_left : length ids ≤ i → id_texts f (drop i ids) ≡ []
-    none_left h = rw (drop_of_length-le ids h)
-
-    pub ids-place : length ids ≤ i → at ≡ length (id_texts f ids)
-    ids-place h = let x = ap length (none_left h) in let p = l.place in omega arith
-
-    pub ids-bytes : length ids ≤ i → b ≡ sets b₀ 0 (id_texts f ids)
-    ids-bytes h = sym (ap (λ c. sets b at c) (none_left h)) ∙ l.bytes
 
 -- the other texts behind the tags' strings
 module _ (s : List ℕ) (p : TextParts) (m ids b : List ℕ) (room : length (texts_in s p m ids) ≤ length b) where
@@ -109,9 +75,6 @@ module _ (s : List ℕ) (p : TextParts) (m ids b : List ℕ) (room : length (tex
       let f = length-append (strings ++ replaced name) (replaced house) in
       let g = length-append strings (replaced name) in
       omega arith
-
-  pub strings-room : length strings ≤ length b
-  strings-room = let w = whole in omega arith
 
   module _ (n₁ : ℕ) (b₁ s₁ : List ℕ) (h₁ : n₁ ≡ length strings) (w₁ : b₁ ≡ sets b 0 strings) (e₁ : s₁ ≡ name) where
     kept₁ : length b₁ ≡ length b

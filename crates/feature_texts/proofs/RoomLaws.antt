@@ -4,9 +4,9 @@ use native.Mathlib.Numerals.{add-one}
 use native.Mathlib.Omega.{arith}
 use mathlib.Core.Path.{◌≡◌, refl, sym, ap, ◌∙◌}
 use mathlib.Core.Bool.{Bool, true, false, cond}
-use mathlib.Core.List.{List, [], ◌++◌}
+use mathlib.Core.List.{List, ◌++◌}
 use lib.Dec.{leb, ltb}
-use lib.ListN.{length, get_or, drop, length-append, drop_of_length-le}
+use lib.ListN.{length, get_or, drop, length-append}
 use lib.Seq.{sets, drop-cons}
 use borrow.Author.Tests.{ltb-true, ltb-false, lt-ltb, le-leb, leb-true}
 use Rattle.arithmetic.specs.Cut.{cut}
@@ -34,9 +34,6 @@ pub record StoredLeft (f : ℕ → List ℕ) (ids : List ℕ) (len i : ℕ) : Ty
   pub most : len < 2 ^ 64 - 1 → length (id_texts f ids) ≤ 3 * len + length (id_texts f (drop i ids))
 
 module _ (f : ℕ → List ℕ) (ids : List ℕ) where
-  pub stored-none : StoredLeft f ids 0 0
-  stored-none = record { within = omega arith; most = λ h. omega arith }
-
   module _ (len i : ℕ) (l : StoredLeft f ids len i) where
     pub stored_more : (d n : ℕ) (s : List ℕ) → i < length ids → s ≡ f (get_or ids i d) → n ≡ cut (len + length s) → StoredLeft f ids n (i + 1)
     stored_more d n s h e k = record { within = omega arith; most = λ b. bound (below (len + length s) n k b) b }
@@ -50,15 +47,6 @@ module _ (f : ℕ → List ℕ) (ids : List ℕ) where
             let y = replaced-most s in
             let z = l.most (omega arith) in
             omega arith
-
-    pub stored-done : length ids ≤ i → AtMost (id_texts f ids) len
-    stored-done h = record { most = λ b. bound (l.most b) }
-      where
-        none : id_texts f (drop i ids) ≡ []
-        none = rw (drop_of_length-le ids h)
-
-        bound : length (id_texts f ids) ≤ 3 * len + length (id_texts f (drop i ids)) → length (id_texts f ids) ≤ 3 * len
-        bound b = let x = ap length none in omega arith
 
 -- one text more
 one_more : (xs s t : List ℕ) (a n : ℕ) → AtMost xs a → s ≡ t → n ≡ cut (a + length s) → AtMost (xs ++ replaced t) n
@@ -91,23 +79,6 @@ module _ (texts : List ℕ) (room : ℕ) where
       let z : length texts ≤ room = omega arith in
       rw (lt-ltb (length texts) (2 ^ 64 - 1) y, le-leb (length texts) room z)
 
-  module _ (n : ℕ) (e : n ≡ cut (length texts)) where
-    pub room-none : 18446744073709551614 < n → false ≡ room_for texts room
-    room-none h = go (ltb (length texts) (2 ^ 64 - 1)) refl
-      where
-        go : (t : Bool) → ltb (length texts) (2 ^ 64 - 1) ≡ t → false ≡ cond t (leb (length texts) room) false
-        go true q =
-            let y = ltb-true (length texts) (2 ^ 64 - 1) q in
-            let x = e ∙ cut_fits (length texts) (omega arith) in
-            absurd (omega arith)
-        go false q = refl
-
-    pub room-measured : n ≤ 18446744073709551614 → leb n room ≡ room_for texts room
-    room-measured h =
-        let x : n ≡ length texts = below (length texts) n e (omega arith) in
-        let y : length texts < 2 ^ 64 - 1 = omega arith in
-        rw (lt-ltb (length texts) (2 ^ 64 - 1) y) (ap (λ k. leb k room) x)
-
 -- what is then in the buffer
 module _ (texts b : List ℕ) (v : Bool) (e : v ≡ room_for texts (length b)) where
   fits : v ≡ true → leb (length texts) (length b) ≡ true
@@ -126,10 +97,3 @@ module _ (texts b : List ℕ) (v : Bool) (e : v ≡ room_for texts (length b)) w
       go : (t : Bool) → cond t (leb (length texts) (length b)) false ≡ true → front texts b ≡ cond t (cond (leb (length texts) (length b)) (front texts b) b) b
       go true q = rw q
       go false q = let z : ◌≡◌ {A = ℕ} 0 1 = cc in absurd (omega arith)
-
-  pub write-not : v ≡ false → b ≡ write_texts texts b
-  write-not h = go (ltb (length texts) (2 ^ 64 - 1)) (sym e ∙ h)
-    where
-      go : (t : Bool) → cond t (leb (length texts) (length b)) false ≡ false → b ≡ cond t (cond (leb (length texts) (length b)) (front texts b) b) b
-      go true q = rw q
-      go false q = refl

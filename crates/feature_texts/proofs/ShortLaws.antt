@@ -8,7 +8,7 @@ use lib.Dec.{leb, ltb}
 use lib.ListN.{length, get_or, take, drop, replicate, length-append, length-take}
 use lib.Seq.{take-append_seam, length-take-le}
 use borrow.Author.Tests.{leb-true}
-use Rattle.parsing.specs.Parse.{Res, ok, no, map_res, many, chunk, Part, part, pick, fail, byte, optional, Maybe, none, some}
+use Rattle.parsing.specs.Parse.{Res, ok, no, map_res, many, chunk, Part, part, byte, optional, Maybe, none, some}
 use Rattle.parsing.specs.Good.{split, ok-val, ok_at, no_ok}
 use Rattle.parsing.proofs.Loops.{many-count}
 use Rattle.text.specs.Utf8.{replaced}

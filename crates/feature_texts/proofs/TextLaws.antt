@@ -1,45 +1,21 @@
 -- The texts of a feature: found, measured and written one behind the other.
-use Prim.Native.Nat.{ℕ, suc, ◌+◌, ◌≤◌, ◌<◌, ◌^◌}
+use Prim.Native.Nat.{ℕ, suc, ◌+◌, ◌<◌}
 use native.Mathlib.Nat.{add_assoc, add_comm, zero-add}
 use native.Mathlib.Numerals.{add-one}
 use native.Mathlib.Omega.{arith}
 use mathlib.Core.Path.{◌≡◌, refl, sym, ap, ◌∙◌}
 use mathlib.Core.List.{List, [], ◌++◌}
-use lib.ListN.{length, get_or, drop, length-append, drop_of_length-le}
+use lib.ListN.{length, get_or, drop, length-append}
 use lib.Seq.{drop-cons}
 use Rattle.parsing.specs.Parse.{Part, Maybe, none, some}
-use Rattle.error.specs.declared.Refusal.{Refusal}
 use Rattle.arithmetic.specs.Cut.{cut}
-use Rattle.arithmetic.proofs.CutLaws.{cut_fits, cut-add}
-use Rattle.byte_source.specs.Answers.{span_res, span_bytes}
-use Rattle.byte_source.specs.declared.Span.{Span}
-use Rattle.byte_source.specs.declared.SpanRead.{SpanRead}
-use Rattle.byte_source.specs.declared.SpanRead.TheVariants as span
+use Rattle.arithmetic.proofs.CutLaws.{cut-add}
 use Rattle.text.specs.Utf8.{bytes_of_all, replaced}
 use Rattle.text.proofs.Utf8Laws.{sequences-end}
-use Rattle.format.specs.TagLists.{listed_text}
-use Rattle.types.specs.declared.TagRange.{TagRange}
 use Rattle.types.specs.Types.{maybe_part}
-use Rattle.types.specs.declared.OptionalSpan.{OptionalSpan}
-use Rattle.types.specs.declared.OptionalSpan.TheVariants.{Absent, At}
-use Rattle.fetched.specs.Fetched.{part_bytes, found_bytes, started_name, id_texts, present, buffered}
+use Rattle.fetched.specs.Fetched.{part_bytes, started_name, id_texts, present, buffered}
 use Rattle.feature_texts.specs.FeatureTexts.{texts_in}
 use Rattle.feature_texts.specs.declared.TextParts.{TextParts}
-
--- a tag's name
-module _ (s : List ℕ) (t : TagRange) (m : List ℕ) (i : ℕ) (g : SpanRead) (q : span_res m g ≡ listed_text s t.first t.count i m) where
-  pub name-missing : (r : Refusal) → g ≡ span.Refused r → [] ≡ started_name s t m i
-  name-missing r h = ap (λ x. found_bytes (span_res m x)) (sym h) ∙ ap found_bytes q
-
-  pub name-found : (p : Span) (n : ℕ) (b : List ℕ) → g ≡ span.Value p n → b ≡ span_bytes m p → b ≡ started_name s t m i
-  name-found p n b h e = e ∙ ap (λ x. found_bytes (span_res m x)) (sym h) ∙ ap found_bytes q
-
--- another text
-pub bytes-at : (m : List ℕ) (o : OptionalSpan) (s : Span) (b : List ℕ) → o ≡ At s → b ≡ span_bytes m s → b ≡ part_bytes (maybe_part m o)
-bytes-at m o s b h e = rw h e
-
-pub bytes-absent : (m : List ℕ) (o : OptionalSpan) → o ≡ Absent → [] ≡ part_bytes (maybe_part m o)
-bytes-absent m o h = rw h
 
 -- lengths, summed
 module _ (f : ℕ → List ℕ) (ids : List ℕ) (len i : ℕ) where
@@ -61,11 +37,6 @@ module _ (f : ℕ → List ℕ) (ids : List ℕ) (len i : ℕ) where
         sums l a r one next k n =
             let x : next ≡ cut (l + a) = n ∙ ap (λ y. cut (l + y)) k ∙ ap cut (add_comm l (cut a)) ∙ cut-add a l ∙ ap cut (add_comm a l) in
             ap (λ y. cut (y + r)) x ∙ cut-add (l + a) r ∙ ap cut (add_assoc l a r)
-
-    pub len-done : length ids ≤ i → len < 2 ^ 64 → len ≡ cut (length (id_texts f ids))
-    len-done b s =
-        let w : cut (len + length (id_texts f (drop i ids))) ≡ cut len = rw (drop_of_length-le ids b) (let z : len + 0 ≡ len = omega arith in rw z) in
-        sym (cut_fits len s) ∙ sym w ∙ e
 
 -- a text that is there, or not
 replaced-nil : replaced [] ≡ []

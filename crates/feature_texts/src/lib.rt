@@ -10,35 +10,33 @@ ghost use Rattle.types.specs.Types.{maybe_part};
 ghost use Rattle.fetched.specs.Fetched.{part_bytes, started_name, id_texts};
 ghost use Rattle.feature_texts.specs.FeatureTexts.{texts_in, write_texts, AtMost, room_for};
 
-use byte_source::SpanRead;
-use text::Written;
-use types::{OptionalSpan, TagRange};
+use byte_source::Span;
+use types::TagRange;
 
 // What a feature's texts are made of.
 #[derive(Clone, Copy)]
 pub struct TextParts {
     pub tags: TagRange,
-    pub name: OptionalSpan,
-    pub house_number: OptionalSpan,
-    pub reference: OptionalSpan,
+    pub name: Option<Span>,
+    pub house_number: Option<Span>,
+    pub reference: Option<Span>,
 }
 
 // The stored bytes of a tag's name, at its listed start; none where no text stands there.
 pub fn tag_name<'a>(map: &'a [u8], starts: &[u64], tags: TagRange, id: u64) -> &'a [u8]
     ensures { result.now ≡ started_name starts.now tags map.now id }
 {
-    let got = tag_table::listed_text(map, starts, tags, id as usize);
-    let SpanRead::Value(span, _) = got else {
+    let Ok((span, _)) = tag_table::listed_text(map, starts, tags, id as usize) else {
         return &map[..0];
     };
     byte_source::span_bytes(map, span)
 }
 
 // The stored bytes of a text; none where it is absent.
-pub fn optional_bytes(map: &[u8], text: OptionalSpan) -> &[u8]
+pub fn optional_bytes(map: &[u8], text: Option<Span>) -> &[u8]
     ensures { result.now ≡ part_bytes (maybe_part map.now text) }
 {
-    let OptionalSpan::At(span) = text else {
+    let Some(span) = text else {
         return &map[..0];
     };
     byte_source::span_bytes(map, span)
@@ -49,11 +47,9 @@ fn ids_len(map: &[u8], starts: &[u64], tags: TagRange, ids: &[u64]) -> usize
     ensures { result ≡ cut (length (id_texts (started_name starts.now tags map.now) ids.now)) }
 {
     let mut len = 0;
-    let mut i = 0;
-    while i < ids.len() {
-        let one = text::replaced_len(tag_name(map, starts, tags, ids[i]));
+    for &id in ids {
+        let one = text::replaced_len(tag_name(map, starts, tags, id));
         len = arithmetic::saturating_add_usize(len, one);
-        i += 1;
     }
     len
 }
@@ -62,29 +58,24 @@ fn ids_len(map: &[u8], starts: &[u64], tags: TagRange, ids: &[u64]) -> usize
 pub fn texts_len(map: &[u8], starts: &[u64], ids: &[u64], parts: TextParts) -> usize
     ensures { result ≡ cut (length (texts_in starts.now parts map.now ids.now)) }
 {
-    let tags = parts.tags;
-    let len = ids_len(map, starts, tags, ids);
-    let text = parts.name;
-    let name = text::replaced_len(optional_bytes(map, text));
-    let text = parts.house_number;
-    let house_number = text::replaced_len(optional_bytes(map, text));
-    let text = parts.reference;
-    let reference = text::replaced_len(optional_bytes(map, text));
+    let len = ids_len(map, starts, parts.tags, ids);
+    let name = text::replaced_len(optional_bytes(map, parts.name));
+    let house_number = text::replaced_len(optional_bytes(map, parts.house_number));
+    let reference = text::replaced_len(optional_bytes(map, parts.reference));
     let len = arithmetic::saturating_add_usize(len, name);
     let len = arithmetic::saturating_add_usize(len, house_number);
     arithmetic::saturating_add_usize(len, reference)
 }
 
-// How long the tags' strings are as stored. 2^64 - 1 stands for any larger length.
+// How long the tags' strings are as stored. 2^64 - 1 stands for any larger length. Not one function with `ids_len`: this one promises a
+// bound, and that one a length.
 fn stored_ids(map: &[u8], starts: &[u64], tags: TagRange, ids: &[u64]) -> usize
     ensures { AtMost (id_texts (started_name starts.now tags map.now) ids.now) result }
 {
     let mut len = 0;
-    let mut i = 0;
-    while i < ids.len() {
-        let name = tag_name(map, starts, tags, ids[i]);
+    for &id in ids {
+        let name = tag_name(map, starts, tags, id);
         len = arithmetic::saturating_add_usize(len, name.len());
-        i += 1;
     }
     len
 }
@@ -93,14 +84,10 @@ fn stored_ids(map: &[u8], starts: &[u64], tags: TagRange, ids: &[u64]) -> usize
 fn stored_len(map: &[u8], starts: &[u64], ids: &[u64], parts: TextParts) -> usize
     ensures { AtMost (texts_in starts.now parts map.now ids.now) result }
 {
-    let tags = parts.tags;
-    let len = stored_ids(map, starts, tags, ids);
-    let text = parts.name;
-    let name = optional_bytes(map, text);
-    let text = parts.house_number;
-    let house_number = optional_bytes(map, text);
-    let text = parts.reference;
-    let reference = optional_bytes(map, text);
+    let len = stored_ids(map, starts, parts.tags, ids);
+    let name = optional_bytes(map, parts.name);
+    let house_number = optional_bytes(map, parts.house_number);
+    let reference = optional_bytes(map, parts.reference);
     let len = arithmetic::saturating_add_usize(len, name.len());
     let len = arithmetic::saturating_add_usize(len, house_number.len());
     arithmetic::saturating_add_usize(len, reference.len())
@@ -114,10 +101,7 @@ fn has_room(map: &[u8], starts: &[u64], ids: &[u64], parts: TextParts, room: usi
         return true;
     }
     let len = texts_len(map, starts, ids, parts);
-    if 18446744073709551614 < len {
-        return false;
-    }
-    len <= room
+    len < usize::MAX && len <= room
 }
 
 // A text in a buffer that has room for it; the place behind it.
@@ -125,11 +109,7 @@ fn put(bytes: &[u8], buffer: &mut [u8], at: usize) -> usize
     requires { at + length (replaced bytes.now) ≤ length buffer.old }
     ensures { (result ≡ at + length (replaced bytes.now)) × (buffer.new ≡ sets buffer.old at (replaced bytes.now)) }
 {
-    let got = text::write_replaced(bytes, buffer, at);
-    let Written::Upto(next) = got else {
-        return at;
-    };
-    next
+    text::write_replaced(bytes, buffer, at).unwrap_or(at)
 }
 
 // The tags' strings at the front of a buffer that has room for them; the place behind them.
@@ -138,10 +118,8 @@ fn put_ids(map: &[u8], starts: &[u64], tags: TagRange, ids: &[u64], buffer: &mut
     ensures { (result ≡ length (id_texts (started_name starts.now tags map.now) ids.now)) × (buffer.new ≡ sets buffer.old 0 (id_texts (started_name starts.now tags map.now) ids.now)) }
 {
     let mut at = 0;
-    let mut i = 0;
-    while i < ids.len() {
-        at = put(tag_name(map, starts, tags, ids[i]), buffer, at);
-        i += 1;
+    for &id in ids {
+        at = put(tag_name(map, starts, tags, id), buffer, at);
     }
     at
 }
@@ -151,14 +129,10 @@ fn put_texts(map: &[u8], starts: &[u64], ids: &[u64], parts: TextParts, buffer: 
     requires { length (texts_in starts.now parts map.now ids.now) ≤ length buffer.old }
     ensures { buffer.new ≡ sets buffer.old 0 (texts_in starts.now parts map.now ids.now) }
 {
-    let tags = parts.tags;
-    let at = put_ids(map, starts, tags, ids, buffer);
-    let text = parts.name;
-    let at = put(optional_bytes(map, text), buffer, at);
-    let text = parts.house_number;
-    let at = put(optional_bytes(map, text), buffer, at);
-    let text = parts.reference;
-    put(optional_bytes(map, text), buffer, at);
+    let at = put_ids(map, starts, parts.tags, ids, buffer);
+    let at = put(optional_bytes(map, parts.name), buffer, at);
+    let at = put(optional_bytes(map, parts.house_number), buffer, at);
+    put(optional_bytes(map, parts.reference), buffer, at);
 }
 
 // Writes the texts of a feature with these tag ids to the front of a buffer, if it is long enough.

@@ -1,32 +1,26 @@
 -- How the other program reads the words of a tile and a feature, and that nothing is lost on the way.
-use Rattle.std.specs.Prelude.{ℕ, zero, suc, ◌≤◌, Bool, ◌≡◌, refl, List, [], ◌∷◌, ◌++◌, length, get_or, drop}
+use Rattle.std.specs.Prelude.{ℕ, ℤ, zero, suc, ◌≤◌, Bool, ◌≡◌, refl, List, [], ◌∷◌, ◌++◌, length, get_or, drop, Option, Some, None, Result, Ok, Err}
 use Rattle.std.proofs.Common.{arith, ap}
 use Rattle.std.proofs.lemmas.List.{length-map}
 use Rattle.std.proofs.lemmas.List.Edits.{sets}
+use Rattle.byte_source.specs.declared.Span.{Span}
+use Rattle.types.specs.declared.Position.{Position}
 use Rattle.error.specs.declared.LentRefusal.{LentRefusal}
 use Rattle.format.specs.Lent.{front, sets-front}
-use Rattle.types.specs.declared.OptionalPosition.{OptionalPosition}
-use Rattle.types.specs.declared.OptionalSpan.{OptionalSpan}
 use Rattle.zoom_table.specs.declared.ZoomRow.{ZoomRow}
-use Rattle.poi.specs.declared.OptionalElevation.{OptionalElevation}
 use Rattle.tile.specs.Tile.{row_points, row_ways}
 use Rattle.tile.specs.declared.TileSummary.{TileSummary}
-use Rattle.tile.specs.declared.SummaryRead.{SummaryRead}
-use Rattle.tile.specs.declared.SummaryRead.TheVariants as summary
 use Rattle.fetched.specs.declared.TagText.{TagText}
-use Rattle.fetched.specs.declared.OptionalText.{OptionalText}
-use Rattle.fetched.specs.declared.OptionalText.TheVariants as text
+use Rattle.fetched.specs.declared.Feature.{Feature}
+use Rattle.fetched.specs.declared.Feature.TheVariants as feature
 use Rattle.fetched.specs.declared.FeatureTexts.{FeatureTexts}
 use Rattle.fetched.specs.declared.FetchedPoi.{FetchedPoi}
 use Rattle.fetched.specs.declared.FetchedWay.{FetchedWay}
-use Rattle.fetched.specs.declared.FetchAnswer.{FetchAnswer}
-use Rattle.fetched.specs.declared.FetchAnswer.TheVariants as fetch-answer
-use Rattle.fetched.specs.declared.Fetch.{Fetch}
 use Rattle.wire.specs.Wire.{Wire, Lent, Decoder, Codec, list_of, word, signed_at, truth, there}
 use Rattle.wire.specs.Codecs.{settle_lent, settled-lent, truth-back, span_in, span-back, place_in, place-back, degree}
 use Rattle.wire.specs.Elevation.{metres_in, metres-back}
 use Rattle.wire.specs.Spread.{spread_wire, spread-out}
-use Rattle.feature_wire.specs.Features.{tile_wire, text_words, tag_words, fetch_with, fetch_wire}
+use Rattle.feature_wire.specs.Features.{tile_wire, text_words, tag_words, fetch_wire}
 
 -- what is said of a collected tile
 abbrev pub summary_in : Wire → TileSummary
@@ -40,17 +34,17 @@ summary_in w = record {
   plain = truth (word w 0 14);
 }
 
-abbrev pub tile_in : Wire → SummaryRead
-tile_in w = settle_lent summary.Refused (summary.Value (summary_in w)) w
+abbrev pub tile_in : Wire → Result TileSummary LentRefusal
+tile_in w = settle_lent Err (Ok (summary_in w)) w
 
-summary-with : (t : TileSummary) (s s' : OptionalSpan) (b b' a a' : Bool) → s ≡ s' → b ≡ b' → a ≡ a' → ◌≡◌ {A = SummaryRead} (summary.Value (record { signature = s; first_way_offset = t.first_way_offset; points = t.points; ways = t.ways; rows = t.rows; exact = b; plain = a })) (summary.Value (record { signature = s'; first_way_offset = t.first_way_offset; points = t.points; ways = t.ways; rows = t.rows; exact = b'; plain = a' }))
+summary-with : (t : TileSummary) (s s' : Option Span) (b b' a a' : Bool) → s ≡ s' → b ≡ b' → a ≡ a' → ◌≡◌ {A = Result TileSummary LentRefusal} (Ok (record { signature = s; first_way_offset = t.first_way_offset; points = t.points; ways = t.ways; rows = t.rows; exact = b; plain = a })) (Ok (record { signature = s'; first_way_offset = t.first_way_offset; points = t.points; ways = t.ways; rows = t.rows; exact = b'; plain = a' }))
 summary-with t s s' b b' a a' q1 q2 q3 = rw (q1, q2, q3) refl
 
-tile-spread : (w : Wire) (r : SummaryRead) → tile_in (tile_wire (spread_wire (15 ∷ []) 0 0 w) r) ≡ r
-tile-spread w (summary.Value t) = summary-with t _ _ _ _ _ _ (span-back t.signature) (truth-back t.exact) (truth-back t.plain)
-tile-spread w (summary.Refused r) = settled-lent summary.Refused _ _ _ _ _ _ _ _ r
+tile-spread : (w : Wire) (r : Result TileSummary LentRefusal) → tile_in (tile_wire (spread_wire (15 ∷ []) 0 0 w) r) ≡ r
+tile-spread w (Ok t) = summary-with t _ _ _ _ _ _ (span-back t.signature) (truth-back t.exact) (truth-back t.plain)
+tile-spread w (Err r) = settled-lent Err _ _ _ _ _ _ _ _ r
 
-pub tile-back : (w : Wire) → Lent (15 ∷ []) 0 0 w → (r : SummaryRead) → tile_in (tile_wire w r) ≡ r
+pub tile-back : (w : Wire) → Lent (15 ∷ []) 0 0 w → (r : Result TileSummary LentRefusal) → tile_in (tile_wire w r) ≡ r
 tile-back w h r = spread-out (15 ∷ []) 0 0 w h (λ (v : Wire). tile_in (tile_wire v r) ≡ r) (tile-spread w r)
 
 abbrev pub tile_codec : (w : Wire) → Lent (15 ∷ []) 0 0 w → Codec (tile_wire w)
@@ -71,26 +65,23 @@ rows_back l ps ws h k =
     let w : sets ws 0 (row_ways l) ≡ front (row_ways l) ws = sets-front (row_ways l) ws (omega (arith, length-map l (λ (r : ZoomRow). r.ways))) in
     rw (p, w) (rows-front l _ _)
 
--- a fetched feature: the point and the way stand beside the answer, of which one is meant
+-- a fetched feature, or why there is none
 pub data Given : Type 0 where
   a_poi : FetchedPoi → Given
   a_line : FetchedWay → Given
   no_feature : LentRefusal → Given
 
-abbrev pub given_of : FetchAnswer → FetchedPoi → FetchedWay → Given
-given_of fetch-answer.Point p w = a_poi p
-given_of fetch-answer.Way p w = a_line w
-given_of (fetch-answer.Refused r) p w = no_feature r
+abbrev pub given : Result Feature LentRefusal → Given
+given (Ok (feature.Point p)) = a_poi p
+given (Ok (feature.Way y)) = a_line y
+given (Err r) = no_feature r
 
-abbrev pub given : Fetch → Given
-given f = given_of f.answer f.poi f.way
+abbrev pub text_in : (present len key_len value_len key_code value_code : ℕ) → Option TagText
+text_in p n k v a b = there p None (Some (record { len = n; tag = record { key_len = k; value_len = v; key_code = a; value_code = b } }))
 
-abbrev pub text_in : (present len key_len value_len key_code value_code : ℕ) → OptionalText
-text_in p n k v a b = there p text.Absent (text.At (record { len = n; tag = record { key_len = k; value_len = v; key_code = a; value_code = b } }))
-
-pub text-back : (t : OptionalText) → text_in (text_words t).present (text_words t).len (text_words t).key_len (text_words t).value_len (text_words t).key_code (text_words t).value_code ≡ t
-text-back text.Absent = refl
-text-back (text.At t) = refl
+pub text-back : (t : Option TagText) → text_in (text_words t).present (text_words t).len (text_words t).key_len (text_words t).value_len (text_words t).key_code (text_words t).value_code ≡ t
+text-back None = refl
+text-back (Some t) = refl
 
 unfoldable pub tags_in : List ℕ → List TagText
 tags_in (n ∷ k ∷ v ∷ a ∷ b ∷ l) = record { len = n; tag = record { key_len = k; value_len = v; key_code = a; value_code = b } } ∷ tags_in l
@@ -142,7 +133,7 @@ line_in w = record {
 abbrev pub fetch_in : Wire → Given
 fetch_in w = settle_lent no_feature (get_or (a_poi (poi_in w) ∷ []) (word w 0 6) (a_line (line_in w))) w
 
-texts-with : (g g' : List TagText) (n n' h h' r r' : OptionalText) → g ≡ g' → n ≡ n' → h ≡ h' → r ≡ r' → ◌≡◌ {A = FeatureTexts} (record { tags = g; name = n; house_number = h; reference = r }) (record { tags = g'; name = n'; house_number = h'; reference = r' })
+texts-with : (g g' : List TagText) (n n' h h' r r' : Option TagText) → g ≡ g' → n ≡ n' → h ≡ h' → r ≡ r' → ◌≡◌ {A = FeatureTexts} (record { tags = g; name = n; house_number = h; reference = r }) (record { tags = g'; name = n'; house_number = h'; reference = r' })
 texts-with g g' n n' h h' r r' q1 q2 q3 q4 = rw (q1, q2, q3, q4) refl
 
 texts-back : (t : FeatureTexts) → ◌≡◌ {A = FeatureTexts} (record {
@@ -153,19 +144,19 @@ texts-back : (t : FeatureTexts) → ◌≡◌ {A = FeatureTexts} (record {
 }) t
 texts-back t = texts-with _ _ _ _ _ _ _ _ (tags-back t.tags) (text-back t.name) (text-back t.house_number) (text-back t.reference)
 
-poi-with : (p : FetchedPoi) (s s' : OptionalSpan) (t t' : FeatureTexts) (e e' : OptionalElevation) (b b' : Bool) → s ≡ s' → t ≡ t' → e ≡ e' → b ≡ b' → ◌≡◌ {A = Given} (a_poi (record { signature = s; position = p.position; layer = p.layer; tag_ids = p.tag_ids; texts = t; elevation = e; plain = b })) (a_poi (record { signature = s'; position = p.position; layer = p.layer; tag_ids = p.tag_ids; texts = t'; elevation = e'; plain = b' }))
+poi-with : (p : FetchedPoi) (s s' : Option Span) (t t' : FeatureTexts) (e e' : Option ℤ) (b b' : Bool) → s ≡ s' → t ≡ t' → e ≡ e' → b ≡ b' → ◌≡◌ {A = Given} (a_poi (record { signature = s; position = p.position; layer = p.layer; tag_ids = p.tag_ids; texts = t; elevation = e; plain = b })) (a_poi (record { signature = s'; position = p.position; layer = p.layer; tag_ids = p.tag_ids; texts = t'; elevation = e'; plain = b' }))
 poi-with p s s' t t' e e' b b' q1 q2 q3 q4 = rw (q1, q2, q3, q4) refl
 
-line-with : (y : FetchedWay) (s s' : OptionalSpan) (t t' : FeatureTexts) (p p' : OptionalPosition) (b b' a a' h h' : Bool) → s ≡ s' → t ≡ t' → p ≡ p' → b ≡ b' → a ≡ a' → h ≡ h' → ◌≡◌ {A = Given} (a_line (record { signature = s; bitmap = y.bitmap; layer = y.layer; tag_ids = y.tag_ids; texts = t; label_position = p; double_delta = b; blocks = y.blocks; nodes = y.nodes; plain = a; head_plain = h })) (a_line (record { signature = s'; bitmap = y.bitmap; layer = y.layer; tag_ids = y.tag_ids; texts = t'; label_position = p'; double_delta = b'; blocks = y.blocks; nodes = y.nodes; plain = a'; head_plain = h' }))
+line-with : (y : FetchedWay) (s s' : Option Span) (t t' : FeatureTexts) (p p' : Option Position) (b b' a a' h h' : Bool) → s ≡ s' → t ≡ t' → p ≡ p' → b ≡ b' → a ≡ a' → h ≡ h' → ◌≡◌ {A = Given} (a_line (record { signature = s; bitmap = y.bitmap; layer = y.layer; tag_ids = y.tag_ids; texts = t; label_position = p; double_delta = b; blocks = y.blocks; nodes = y.nodes; plain = a; head_plain = h })) (a_line (record { signature = s'; bitmap = y.bitmap; layer = y.layer; tag_ids = y.tag_ids; texts = t'; label_position = p'; double_delta = b'; blocks = y.blocks; nodes = y.nodes; plain = a'; head_plain = h' }))
 line-with y s s' t t' p p' b b' a a' h h' q1 q2 q3 q4 q5 q6 = rw (q1, q2, q3, q4, q5, q6) refl
 
-fetch-spread : (w : Wire) (a : FetchAnswer) (p : FetchedPoi) (y : FetchedWay) → fetch_in (fetch_with a p y (spread_wire (37 ∷ 15 ∷ 75 ∷ []) 2 2 w)) ≡ given_of a p y
-fetch-spread w fetch-answer.Point p y = poi-with p _ _ _ _ _ _ _ _ (span-back p.signature) (texts-back p.texts) (metres-back p.elevation) (truth-back p.plain)
-fetch-spread w fetch-answer.Way p y = line-with y _ _ _ _ _ _ _ _ _ _ _ _ (span-back y.signature) (texts-back y.texts) (place-back y.label_position) (truth-back y.double_delta) (truth-back y.plain) (truth-back y.head_plain)
-fetch-spread w (fetch-answer.Refused r) p y = settled-lent no_feature _ _ _ _ _ _ _ _ r
+fetch-spread : (w : Wire) (f : Result Feature LentRefusal) → fetch_in (fetch_wire (spread_wire (37 ∷ 15 ∷ 75 ∷ []) 2 2 w) f) ≡ given f
+fetch-spread w (Ok (feature.Point p)) = poi-with p _ _ _ _ _ _ _ _ (span-back p.signature) (texts-back p.texts) (metres-back p.elevation) (truth-back p.plain)
+fetch-spread w (Ok (feature.Way y)) = line-with y _ _ _ _ _ _ _ _ _ _ _ _ (span-back y.signature) (texts-back y.texts) (place-back y.label_position) (truth-back y.double_delta) (truth-back y.plain) (truth-back y.head_plain)
+fetch-spread w (Err r) = settled-lent no_feature _ _ _ _ _ _ _ _ r
 
-pub fetch-back : (w : Wire) → Lent (37 ∷ 15 ∷ 75 ∷ []) 2 2 w → (f : Fetch) → fetch_in (fetch_wire w f) ≡ given f
-fetch-back w h f = spread-out (37 ∷ 15 ∷ 75 ∷ []) 2 2 w h (λ (v : Wire). fetch_in (fetch_wire v f) ≡ given f) (fetch-spread w f.answer f.poi f.way)
+pub fetch-back : (w : Wire) → Lent (37 ∷ 15 ∷ 75 ∷ []) 2 2 w → (f : Result Feature LentRefusal) → fetch_in (fetch_wire w f) ≡ given f
+fetch-back w h f = spread-out (37 ∷ 15 ∷ 75 ∷ []) 2 2 w h (λ (v : Wire). fetch_in (fetch_wire v f) ≡ given f) (fetch-spread w f)
 
 abbrev pub fetch_decoder : (w : Wire) → Lent (37 ∷ 15 ∷ 75 ∷ []) 2 2 w → Decoder (fetch_wire w) given
 fetch_decoder w h = record { decode = fetch_in; back = fetch-back w h }

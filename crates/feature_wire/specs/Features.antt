@@ -1,39 +1,35 @@
 -- A collected tile, and a fetched feature, as words: which ones each answer writes. The others keep their values.
-use Rattle.std.specs.Prelude.{ℕ, cond, List, [], ◌∷◌}
-use Rattle.types.specs.declared.OptionalSpan.{OptionalSpan}
+use Rattle.std.specs.Prelude.{ℕ, cond, List, [], ◌∷◌, Option, Some, None, Result, Ok, Err}
+use Rattle.byte_source.specs.declared.Span.{Span}
+use Rattle.error.specs.declared.LentRefusal.{LentRefusal}
 use Rattle.tile.specs.declared.TileSummary.{TileSummary}
-use Rattle.tile.specs.declared.SummaryRead.{SummaryRead}
-use Rattle.tile.specs.declared.SummaryRead.TheVariants as summary
 use Rattle.fetched.specs.declared.TagText.{TagText}
-use Rattle.fetched.specs.declared.OptionalText.{OptionalText}
-use Rattle.fetched.specs.declared.OptionalText.TheVariants as text
+use Rattle.fetched.specs.declared.Feature.{Feature}
+use Rattle.fetched.specs.declared.Feature.TheVariants as feature
 use Rattle.fetched.specs.declared.FeatureTexts.{FeatureTexts}
 use Rattle.fetched.specs.declared.FetchedPoi.{FetchedPoi}
 use Rattle.fetched.specs.declared.FetchedWay.{FetchedWay}
-use Rattle.fetched.specs.declared.FetchAnswer.{FetchAnswer}
-use Rattle.fetched.specs.declared.FetchAnswer.TheVariants as fetch-answer
-use Rattle.fetched.specs.declared.Fetch.{Fetch}
 use Rattle.wire.specs.Wire.{Wire, put, put_all, put_signed, put_degrees, numbered, put_lent_refusal}
 use Rattle.wire.specs.Verdicts.{span_words, place_words}
 use Rattle.wire.specs.Elevation.{metre_words}
 use Rattle.feature_wire.specs.declared.TextWords.{TextWords}
 
 -- a span's three words in front of others
-abbrev pub span_before : OptionalSpan → List ℕ → List ℕ
+abbrev pub span_before : Option Span → List ℕ → List ℕ
 span_before s l = (span_words s).present ∷ (span_words s).start ∷ (span_words s).size ∷ l
 
 -- collecting: words from 6 on; the rows go to two lent lists (`CollectIs` of crate tile)
 abbrev pub put_summary : TileSummary → Wire → Wire
 put_summary s w = put 0 6 (span_before s.signature (s.rows ∷ s.first_way_offset ∷ s.points ∷ s.ways ∷ cond s.exact 1 0 ∷ cond s.plain 1 0 ∷ [])) w
 
-abbrev pub tile_wire : (before : Wire) → SummaryRead → Wire
-tile_wire w (summary.Value s) = numbered 0 (put_summary s w)
-tile_wire w (summary.Refused r) = put_lent_refusal r w
+abbrev pub tile_wire : (before : Wire) → Result TileSummary LentRefusal → Wire
+tile_wire w (Ok s) = numbered 0 (put_summary s w)
+tile_wire w (Err r) = put_lent_refusal r w
 
 -- fetching: words from 6 on, the tag ids, the tags
-abbrev pub text_words : OptionalText → TextWords
-text_words text.Absent = record { present = 0; len = 0; key_len = 0; value_len = 0; key_code = 0; value_code = 0 }
-text_words (text.At t) = record {
+abbrev pub text_words : Option TagText → TextWords
+text_words None = record { present = 0; len = 0; key_len = 0; value_len = 0; key_code = 0; value_code = 0 }
+text_words (Some t) = record {
   present = 1;
   len = t.len;
   key_len = t.tag.key_len;
@@ -67,10 +63,7 @@ put_way y w =
     (put_all 1 y.tag_ids.ids (put_all 2 (tag_words y.texts.tags)
     (put_signed 0 (y.layer ∷ []) (put_degrees 0 ((place_words y.label_position).latitude ∷ (place_words y.label_position).longitude ∷ []) w)))))
 
-abbrev pub fetch_with : FetchAnswer → FetchedPoi → FetchedWay → Wire → Wire
-fetch_with fetch-answer.Point p y w = numbered 0 (put_point p w)
-fetch_with fetch-answer.Way p y w = numbered 0 (put_way y w)
-fetch_with (fetch-answer.Refused r) p y w = put_lent_refusal r w
-
-abbrev pub fetch_wire : (before : Wire) → Fetch → Wire
-fetch_wire w f = fetch_with f.answer f.poi f.way w
+abbrev pub fetch_wire : (before : Wire) → Result Feature LentRefusal → Wire
+fetch_wire w (Ok (feature.Point p)) = numbered 0 (put_point p w)
+fetch_wire w (Ok (feature.Way y)) = numbered 0 (put_way y w)
+fetch_wire w (Err r) = put_lent_refusal r w

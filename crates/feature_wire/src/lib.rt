@@ -8,15 +8,15 @@ ghost use Rattle.wire.specs.Wire.{wire, lending};
 ghost use Rattle.wire.specs.Elevation.{metre_words};
 ghost use Rattle.feature_wire.specs.Features.{put_summary, tile_wire, text_words, texts_before, tag_words, put_point, put_way, fetch_wire};
 
-use fetched::{FeatureTexts, Fetch, FetchAnswer, FetchedPoi, FetchedWay, OptionalText, TagText};
-use tile::{SummaryRead, TileSummary};
+use error::LentRefusal;
+use fetched::{Feature, FeatureTexts, FetchedPoi, FetchedWay, TagText};
+use tile::TileSummary;
 
 // What is said of a collected tile.
 fn put_summary(summary: TileSummary, words: &mut [u64; 15])
     ensures { wire 0 (words.new ∷ []) [] [] ≡ put_summary summary (lending (words.old ∷ []) [] []) }
 {
-    let stored = summary.signature;
-    let signature = wire::span_words(stored);
+    let signature = wire::span_words(summary.signature);
     let exact = wire::bit(summary.exact);
     let plain = wire::bit(summary.plain);
     words[6] = signature.present;
@@ -30,15 +30,15 @@ fn put_summary(summary: TileSummary, words: &mut [u64; 15])
     words[14] = plain;
 }
 
-pub fn put_tile(read: SummaryRead, words: &mut [u64; 15]) -> u64
+pub fn put_tile(read: Result<TileSummary, LentRefusal>, words: &mut [u64; 15]) -> u64
     ensures { wire result (words.new ∷ []) [] [] ≡ tile_wire (lending (words.old ∷ []) [] []) read }
 {
     match read {
-        SummaryRead::Value(summary) => {
+        Ok(summary) => {
             put_summary(summary, words);
             0
         }
-        SummaryRead::Refused(r) => wire::put_lent_refusal(r, words),
+        Err(r) => wire::put_lent_refusal(r, words),
     }
 }
 
@@ -52,11 +52,11 @@ struct TextWords {
     value_code: u64,
 }
 
-fn text_words(text: OptionalText) -> TextWords
+fn text_words(text: Option<TagText>) -> TextWords
     ensures { result ≡ text_words text }
 {
     match text {
-        OptionalText::Absent => TextWords {
+        None => TextWords {
             present: 0,
             len: 0,
             key_len: 0,
@@ -64,17 +64,14 @@ fn text_words(text: OptionalText) -> TextWords
             key_code: 0,
             value_code: 0,
         },
-        OptionalText::At(t) => {
-            let tag = t.tag;
-            TextWords {
-                present: 1,
-                len: t.len as u64,
-                key_len: tag.key_len as u64,
-                value_len: tag.value_len as u64,
-                key_code: tag.key_code,
-                value_code: tag.value_code,
-            }
-        }
+        Some(t) => TextWords {
+            present: 1,
+            len: t.len as u64,
+            key_len: t.tag.key_len as u64,
+            value_len: t.tag.value_len as u64,
+            key_code: t.tag.key_code,
+            value_code: t.tag.value_code,
+        },
     }
 }
 
@@ -82,12 +79,9 @@ fn text_words(text: OptionalText) -> TextWords
 fn put_texts(texts: FeatureTexts, words: &mut [u64; 37])
     ensures { words.new ≡ sets words.old 11 (texts_before texts []) }
 {
-    let stored = texts.name;
-    let n = text_words(stored);
-    let stored = texts.house_number;
-    let h = text_words(stored);
-    let stored = texts.reference;
-    let r = text_words(stored);
+    let n = text_words(texts.name);
+    let h = text_words(texts.house_number);
+    let r = text_words(texts.reference);
     words[11] = n.present;
     words[12] = n.len;
     words[13] = n.key_len;
@@ -108,23 +102,18 @@ fn put_texts(texts: FeatureTexts, words: &mut [u64; 37])
     words[28] = r.value_code;
 }
 
-// Five words for each tag. Zeros go first: the proof knows of the lent array's 75 words by their being written whole.
+// Five words for each tag.
 fn put_tags(tags: [TagText; 15], words: &mut [u64; 75])
     ensures { words.new ≡ tag_words tags }
 {
-    let row = [0u64; 75];
-    *words = row;
-    let mut i = 0;
-    while i < 15 {
+    for i in 0..15 {
         let text = tags[i];
-        let tag = text.tag;
         let at = 5 * i;
         words[at] = text.len as u64;
-        words[at + 1] = tag.key_len as u64;
-        words[at + 2] = tag.value_len as u64;
-        words[at + 3] = tag.key_code;
-        words[at + 4] = tag.value_code;
-        i += 1;
+        words[at + 1] = text.tag.key_len as u64;
+        words[at + 2] = text.tag.value_len as u64;
+        words[at + 3] = text.tag.key_code;
+        words[at + 4] = text.tag.value_code;
     }
 }
 
@@ -132,12 +121,9 @@ fn put_tags(tags: [TagText; 15], words: &mut [u64; 75])
 fn put_signs(poi: FetchedPoi, signed_words: &mut [i64; 2])
     ensures { signed_words.new ≡ sets signed_words.old 0 (poi.layer ∷ (metre_words poi.elevation).metres ∷ []) }
 {
-    let stored = poi.elevation;
-    let elevation = wire::metre_words(stored);
-    let metres = elevation.metres;
-    let layer = wire::wide_i8(poi.layer);
-    signed_words[0] = layer;
-    signed_words[1] = metres;
+    let elevation = wire::metre_words(poi.elevation);
+    signed_words[0] = wire::wide_i8(poi.layer);
+    signed_words[1] = elevation.metres;
 }
 
 fn put_point(
@@ -150,36 +136,29 @@ fn put_point(
 )
     ensures { wire 0 (words.new ∷ ids.new ∷ tags.new ∷ []) signed_words.new degrees.new ≡ put_point poi (lending (words.old ∷ ids.old ∷ tags.old ∷ []) signed_words.old degrees.old) }
 {
-    let stored = poi.signature;
-    let signature = wire::span_words(stored);
-    let stored = poi.elevation;
-    let elevation = wire::metre_words(stored);
-    let position = poi.position;
-    let of = poi.tag_ids;
-    let texts = poi.texts;
+    let signature = wire::span_words(poi.signature);
+    let elevation = wire::metre_words(poi.elevation);
     let plain = wire::bit(poi.plain);
     words[6] = 0;
-    words[7] = of.count as u64;
+    words[7] = poi.tag_ids.count as u64;
     words[8] = signature.present;
     words[9] = signature.start;
     words[10] = signature.size;
-    put_texts(texts, words);
+    put_texts(poi.texts, words);
     words[29] = elevation.present;
     words[35] = plain;
     put_signs(poi, signed_words);
-    degrees[0] = position.latitude;
-    degrees[1] = position.longitude;
-    let row = of.ids;
+    degrees[0] = poi.position.latitude;
+    degrees[1] = poi.position.longitude;
+    let row = poi.tag_ids.ids;
     *ids = row;
-    let row = texts.tags;
-    put_tags(row, tags);
+    put_tags(poi.texts.tags, tags);
 }
 
 fn put_layer(way: FetchedWay, signed_words: &mut [i64; 2])
     ensures { signed_words.new ≡ sets signed_words.old 0 (way.layer ∷ []) }
 {
-    let layer = wire::wide_i8(way.layer);
-    signed_words[0] = layer;
+    signed_words[0] = wire::wide_i8(way.layer);
 }
 
 // What a fetched way has besides its nodes.
@@ -193,21 +172,17 @@ fn put_way(
 )
     ensures { wire 0 (words.new ∷ ids.new ∷ tags.new ∷ []) signed_words.new degrees.new ≡ put_way way (lending (words.old ∷ ids.old ∷ tags.old ∷ []) signed_words.old degrees.old) }
 {
-    let stored = way.signature;
-    let signature = wire::span_words(stored);
-    let stored = way.label_position;
-    let label = wire::place_words(stored);
+    let signature = wire::span_words(way.signature);
+    let label = wire::place_words(way.label_position);
     let double_delta = wire::bit(way.double_delta);
     let plain = wire::bit(way.plain);
     let head_plain = wire::bit(way.head_plain);
-    let of = way.tag_ids;
-    let texts = way.texts;
     words[6] = 1;
-    words[7] = of.count as u64;
+    words[7] = way.tag_ids.count as u64;
     words[8] = signature.present;
     words[9] = signature.start;
     words[10] = signature.size;
-    put_texts(texts, words);
+    put_texts(way.texts, words);
     words[30] = way.bitmap as u64;
     words[31] = double_delta;
     words[32] = way.blocks;
@@ -218,14 +193,13 @@ fn put_way(
     put_layer(way, signed_words);
     degrees[0] = label.latitude;
     degrees[1] = label.longitude;
-    let row = of.ids;
+    let row = way.tag_ids.ids;
     *ids = row;
-    let row = texts.tags;
-    put_tags(row, tags);
+    put_tags(way.texts.tags, tags);
 }
 
 pub fn put_fetch(
-    fetch: Fetch,
+    fetch: Result<Feature, LentRefusal>,
     words: &mut [u64; 37],
     signed_words: &mut [i64; 2],
     degrees: &mut [f64; 2],
@@ -234,18 +208,15 @@ pub fn put_fetch(
 ) -> u64
     ensures { wire result (words.new ∷ ids.new ∷ tags.new ∷ []) signed_words.new degrees.new ≡ fetch_wire (lending (words.old ∷ ids.old ∷ tags.old ∷ []) signed_words.old degrees.old) fetch }
 {
-    let answer = fetch.answer;
-    match answer {
-        FetchAnswer::Point => {
-            let poi = fetch.poi;
+    match fetch {
+        Ok(Feature::Point(poi)) => {
             put_point(poi, words, signed_words, degrees, ids, tags);
             0
         }
-        FetchAnswer::Way => {
-            let way = fetch.way;
+        Ok(Feature::Way(way)) => {
             put_way(way, words, signed_words, degrees, ids, tags);
             0
         }
-        FetchAnswer::Refused(r) => wire::put_lent_refusal(r, words),
+        Err(r) => wire::put_lent_refusal(r, words),
     }
 }

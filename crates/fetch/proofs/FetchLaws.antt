@@ -9,22 +9,20 @@ use lib.Ieee.{Float}
 use lib.ListN.{length, get_or, drop, length-append, get_or-append}
 use lib.Seq.{get_or-append-add}
 use borrow.Author.Tests.{ltb-true, ltb-false, le-ltb, lt-ltb, le-leb}
+use Rattle.std.specs.Prelude.{Result, Ok, Err}
 use Rattle.parsing.specs.Parse.{Res, ok, no, and_then, map_res, Parser, end_of, list_of, Maybe, none, nth}
 use Rattle.parsing.specs.Good.{Agree, Good, ok-val, no_ok}
 use Rattle.tag.specs.declared.Kind.{Kind}
 use Rattle.parsing.proofs.Lists.{nth_past}
 use Rattle.error.specs.Refusals.{refused}
 use Rattle.error.specs.declared.LentRefusal.{LentRefusal}
-use Rattle.error.specs.declared.LentRefusal.TheVariants as lent-refusal
+use Rattle.error.specs.declared.LentRefusal.TheVariants.{Refused}
 use Rattle.error.specs.declared.Refusal.{Refusal}
-use Rattle.error.specs.declared.Refusal.TheVariants.{Source, InvalidFeature}
+use Rattle.error.specs.declared.Refusal.TheVariants.{InvalidFeature}
 use Rattle.format.specs.Header.{Interval}
 use Rattle.format.specs.Index.{answer, answered, Grid, Located, locate, tile_at}
 use Rattle.format.specs.Rows.{located_head}
 use Rattle.format.specs.Tile.{TileHead, Point, point, Head, head, Body, body}
-use Rattle.types.specs.Beside.{view_or}
-use Rattle.types.specs.declared.End.{End}
-use Rattle.types.specs.declared.End.TheVariants as end
 use Rattle.types.specs.declared.TagRange.{TagRange}
 use Rattle.tag_table.specs.Tables.{kinds_by}
 use Rattle.agreement.specs.TileFormat.{TileEnd, tile_end, tile_format}
@@ -40,43 +38,20 @@ use Rattle.tile_layout.specs.declared.TileLayout.{TileLayout}
 use Rattle.format.specs.Lent.{front}
 use Rattle.tile.specs.Tile.{shown_tile, places_of, feature_places, collect_tile, tile_places, TileIs}
 use Rattle.tile.specs.declared.Tile.{Tile}
-use Rattle.tile.specs.declared.TileAnswer.TheVariants as tile-answer
-use Rattle.tile.specs.declared.TileRead.{TileRead}
 use Rattle.tile.proofs.PlaceLaws.{places-length, stands}
 use Rattle.tile.proofs.CollectLaws.{is-collected}
-use Rattle.fetch.specs.declared.FeaturePlace.{FeaturePlace}
-use Rattle.fetch.specs.declared.FeaturePlace.TheVariants as place
-use Rattle.fetched.specs.Fetched.{started_name, buffered, FetchLists, Fetched, fetched_point, poi_lists, fetched_way, fits_all, FetchReply, deliver_all, end_res, FetchIs}
-use Rattle.fetched.specs.declared.FetchEnd.{FetchEnd}
-use Rattle.fetched.specs.declared.FetchEnd.TheVariants as fetch-end
+use Rattle.fetched.specs.Fetched.{started_name, buffered, FetchLists, Fetched, fetched_point, poi_lists, fetched_way, fits_all, FetchReply, deliver_all, fetched_res, fetch_reply}
+use Rattle.fetched.specs.declared.Feature.{Feature}
+use Rattle.fetched.specs.declared.Feature.TheVariants as feature
 use Rattle.fetched.specs.declared.FetchedPoi.{FetchedPoi}
 use Rattle.fetched.specs.declared.FetchedWay.{FetchedWay}
-use Rattle.fetch_poi.specs.FetchPoi.{empty_poi, poi_stored, buffer_only, PoiFetchIs}
-use Rattle.fetch_poi.specs.declared.PoiFetch.{PoiFetch}
-use Rattle.measured_way.specs.MeasuredWay.{empty_way, way_stored}
+use Rattle.fetch_poi.specs.FetchPoi.{poi_stored, buffer_only, PoiFetchIs}
+use Rattle.measured_way.specs.MeasuredWay.{way_stored}
 use Rattle.fetch_way.specs.FetchWay.{lent, WayFetchIs}
-use Rattle.fetch_way.specs.declared.WayFetch.{WayFetch}
-use Rattle.fetch.specs.Fetch.{Feature, a_poi, a_way, fetched_as, given_by, given, fetch_at, fetch_tile, feature_res, poi_in, way_in, FeatureIs, answer_at, of_poi, of_way, no_fetch, Place, point_at, way_at, place_res, listed_place, read_at, fetch_listed, FetchedAt, way_end, OtherAt}
+use Rattle.fetch.specs.declared.FeaturePlace.{FeaturePlace}
+use Rattle.fetch.specs.declared.FeaturePlace.TheVariants as place
+use Rattle.fetch.specs.Fetch.{fetched_as, given_by, given, fetch_at, fetch_tile, feature_res, FeatureIs, listed_place, read_at, fetch_listed}
 use Rattle.fetch.specs.Direct.{Direct, feature_bytes}
-use Rattle.fetched.specs.declared.FetchAnswer.{FetchAnswer}
-use Rattle.fetched.specs.declared.FetchAnswer.TheVariants as fetch-answer
-use Rattle.fetched.specs.declared.Fetch.{Fetch}
-
--- what is made of an answer
-pub refused-there : (a : FetchAnswer) (e : FetchEnd) (x : LentRefusal) → e ≡ fetch-end.Refused x → fetch-answer.Refused x ≡ answer_at a e
-refused-there a e x h = rw h
-
-pub kept_there : (a : FetchAnswer) (e : FetchEnd) (n : ℕ) → e ≡ fetch-end.At n → a ≡ answer_at a e
-kept_there a e n h = rw h
-
-pub poi-made : (g : PoiFetch) (a : FetchAnswer) (w : FetchedWay) → a ≡ answer_at fetch-answer.Point g.end → w ≡ empty_way → ◌≡◌ {A = Fetch} (record { answer = a; poi = g.poi; way = w }) (of_poi g)
-poi-made g a w h k = rw (h, k)
-
-pub way-made : (g : WayFetch) (a : FetchAnswer) (p : FetchedPoi) → a ≡ answer_at fetch-answer.Way g.end → p ≡ empty_poi → ◌≡◌ {A = Fetch} (record { answer = a; poi = p; way = g.way }) (of_way g)
-way-made g a p h k = rw (h, k)
-
-pub none_made : (x : Refusal) (p : FetchedPoi) (w : FetchedWay) → p ≡ empty_poi → w ≡ empty_way → ◌≡◌ {A = Fetch} (record { answer = fetch-answer.Refused (lent-refusal.Refused x); poi = p; way = w }) (no_fetch x)
-none_made x p w h k = rw (h, k)
 
 -- delivering a point or a way is delivering a feature
 delivered-as : {A : Type 0} (f : A → Feature) (stored : Res (Fetched A)) (l : FetchLists)
@@ -88,53 +63,20 @@ delivered-as f (ok x e) l = go (fits_all x.values l) refl
     go false h = rw h
 delivered-as f (no n v) l = refl
 
-module _ {A : Type 0} (f : A → Feature) (empty : A) (stored : Res (Fetched A)) (l left : FetchLists) (v : A) (g : FetchEnd) (q : FetchIs empty stored l v g left) where
-  replied : ◌≡◌ {A = FetchReply Feature} (record { answer = answered (map_res f (end_res v g)); lists = left }) (deliver_all (answered (map_res (fetched_as f) stored)) l)
-  replied = ap (λ (r : FetchReply A). record { answer = answered (map_res f r.answer); lists = r.lists }) q.reply ∙ delivered-as f stored l
+-- a point or a way that was fetched, as the feature
+abbrev shown_as : {A : Type 0} → (A → Feature) → Result (A × ℕ) LentRefusal → Result Feature LentRefusal
+shown_as f (Ok (v, n)) = Ok (f v)
+shown_as f (Err r) = Err r
 
-  answered-as : answered (map_res f (end_res v g)) ≡ (deliver_all (answered (map_res (fetched_as f) stored)) l).answer
-  answered-as = ap (λ (r : FetchReply Feature). r.answer) replied
-
-  value-is : v ≡ view_or (λ x. x) empty (end_res v g)
-  value-is = q.whole ∙ ap (λ (r : FetchReply A). view_or (λ x. x) empty r.answer) (sym q.reply)
-
-way-is : (stored : Res (Fetched FetchedWay)) (l left : FetchLists) (g : WayFetch) → WayFetchIs stored l g left → FeatureIs (answered (map_res (fetched_as a_way) stored)) l (of_way g) left
-way-is stored l left g q = record {
-  reply = ap (λ (a : Res Feature). record { answer = a; lists = left }) (same g.end) ∙ replied a_way empty_way stored l left g.way g.end q;
-  poi = none-there (end_res g.way g.end) ∙ ap poi_in (answered-as a_way empty_way stored l left g.way g.end q);
-  way = value-is a_way empty_way stored l left g.way g.end q ∙ it (end_res g.way g.end) ∙ ap way_in (answered-as a_way empty_way stored l left g.way g.end q);
-}
+feature-is : {A : Type 0} (f : A → Feature) (stored : Res (Fetched A)) (l left : FetchLists) (r : Result (A × ℕ) LentRefusal) → fetch_reply r left ≡ deliver_all stored l
+    → FeatureIs (answered (map_res (fetched_as f) stored)) l (shown_as f r) left
+feature-is {A} f stored l left r q =
+    ap (λ (a : Res Feature). record { answer = a; lists = left }) (same r)
+    ∙ ap (λ (a : FetchReply A). record { answer = answered (map_res f a.answer); lists = a.lists }) q ∙ delivered-as f stored l
   where
-    same : (e : FetchEnd) → feature_res (answer_at fetch-answer.Way e) empty_poi g.way ≡ answered (map_res a_way (end_res g.way e))
-    same (fetch-end.At n) = refl
-    same (fetch-end.Refused x) = refl
-
-    none-there : (r : Res FetchedWay) → empty_poi ≡ poi_in (answered (map_res a_way r))
-    none-there (ok w e) = refl
-    none-there (no n v) = refl
-
-    it : (r : Res FetchedWay) → view_or (λ x. x) empty_way r ≡ way_in (answered (map_res a_way r))
-    it (ok w e) = refl
-    it (no n v) = refl
-
-poi-is : (stored : Res (Fetched FetchedPoi)) (l left : FetchLists) (g : PoiFetch) → FetchIs empty_poi stored l g.poi g.end left → FeatureIs (answered (map_res (fetched_as a_poi) stored)) l (of_poi g) left
-poi-is stored l left g q = record {
-  reply = ap (λ (a : Res Feature). record { answer = a; lists = left }) (same g.end) ∙ replied a_poi empty_poi stored l left g.poi g.end q;
-  poi = value-is a_poi empty_poi stored l left g.poi g.end q ∙ it (end_res g.poi g.end) ∙ ap poi_in (answered-as a_poi empty_poi stored l left g.poi g.end q);
-  way = none-there (end_res g.poi g.end) ∙ ap way_in (answered-as a_poi empty_poi stored l left g.poi g.end q);
-}
-  where
-    same : (e : FetchEnd) → feature_res (answer_at fetch-answer.Point e) g.poi empty_way ≡ answered (map_res a_poi (end_res g.poi e))
-    same (fetch-end.At n) = refl
-    same (fetch-end.Refused x) = refl
-
-    none-there : (r : Res FetchedPoi) → empty_way ≡ way_in (answered (map_res a_poi r))
-    none-there (ok w e) = refl
-    none-there (no n v) = refl
-
-    it : (r : Res FetchedPoi) → view_or (λ x. x) empty_poi r ≡ poi_in (answered (map_res a_poi r))
-    it (ok w e) = refl
-    it (no n v) = refl
+    same : (r : Result (A × ℕ) LentRefusal) → feature_res (shown_as f r) ≡ answered (map_res f (fetched_res r))
+    same (Ok (v, n)) = refl
+    same (Err x) = refl
 
 -- a point's fetch leaves the lists alone
 module _ (debug : Bool) (starts letters : List ℕ) (t : TagRange) (m : List ℕ) (i : ℕ) (c : List ℕ) (la lo il io : List Float) where
@@ -159,41 +101,8 @@ module _ (debug : Bool) (starts letters : List ℕ) (t : TagRange) (m : List ℕ
       go (ok s e) = tested s e (leb (length (buffered (started_name starts t m) s.tagged.ids s.name s.house_number none)) (length b)) refl
       go (no n v) = refl
 
-  poi-wide : (b left : List ℕ) (g : PoiFetch) → PoiFetchIs (poi_stored debug starts letters t m i) b g left → FetchIs empty_poi (poi_stored debug starts letters t m i) (full b) g.poi g.end (full left)
-  poi-wide b left g q = record {
-    reply = ap (widened b) q.reply ∙ wide b;
-    whole = q.whole ∙ ap (λ (r : FetchReply FetchedPoi). view_or (λ x. x) empty_poi r.answer) (wide b);
-  }
-
--- where a way starts, if it is one
-pub a-way-there : (p : FeaturePlace) (i : ℕ) → p ≡ place.Way i → end.At i ≡ way_end p
-a-way-there p i h = rw h
-
-pub no-way-there : (p : FeaturePlace) (i : ℕ) → p ≡ place.Point i → end.Refused Source ≡ way_end p
-no-way-there p i h = rw h
-
-pub nothing-there : (p : FeaturePlace) (x : Refusal) → p ≡ place.Refused x → end.Refused Source ≡ way_end p
-nothing-there p x h = rw h
-
--- at a place that is no way's
-module _ (l : TileLayout) (starts letters : List ℕ) (p : FeaturePlace) (m b : List ℕ) (r : Fetch) where
-  pub at-point : (i : ℕ) (g : PoiFetch) (left : List ℕ) → p ≡ place.Point i → PoiFetchIs (poi_stored l.debug starts letters l.poi_tags m i) b g left → r ≡ of_poi g → OtherAt l starts letters p m b r left
-  at-point i g left h q e = record {
-    each = λ x w c la lo il io. rw (h, e) (poi-is (poi_stored l.debug starts letters l.poi_tags m i) (lent c la lo il io b) (lent c la lo il io left) g (poi-wide l.debug starts letters l.poi_tags m i c la lo il io b left g q));
-  }
-
-  pub at_none : (x : Refusal) → p ≡ place.Refused x → r ≡ no_fetch x → OtherAt l starts letters p m b r b
-  at_none x h e = record { each = λ y w c la lo il io. rw (h, e) (record { reply = refl; poi = refl; way = refl }) }
-
-  pub at-way : (i : ℕ) → p ≡ place.Way i → OtherAt l starts letters p m b r b
-  at-way i h = record { each = λ y w c la lo il io. absurd (never (sym (ap way_end h) ∙ w)) }
-    where
-      is_at : End → ℕ
-      is_at (end.At n) = 0
-      is_at (end.Refused x) = 1
-
-      never : {x : Refusal} → end.At i ≡ end.Refused x → ⊥
-      never e = let z = ap is_at e in omega arith
+  poi-wide : (b left : List ℕ) (r : Result (FetchedPoi × ℕ) LentRefusal) → PoiFetchIs (poi_stored debug starts letters t m i) b r left → fetch_reply r (full left) ≡ deliver_all (poi_stored debug starts letters t m i) (full b)
+  poi-wide b left r q = ap (widened b) q ∙ wide b
 
 -- In a tile that collects, a read from where feature k stands gives what the fetch gives, also on a map x that has the feature's bytes.
 module _ (l : TileLayout) (starts letters : List ℕ) (H : Parser TileHead) (m : List ℕ) (i : ℕ) (t : StoredTile (format_of (kinds_of l letters))) (z : ℕ) (c : collect H (format_of (kinds_of l letters)) m i ≡ ok t z) (e : TileHead → TileEnd) (k : ℕ) (x : List ℕ) where
@@ -247,7 +156,7 @@ module _ (l : TileLayout) (starts letters : List ℕ) (H : Parser TileHead) (m :
   alike p g at v n h a = g.near m x at v n (subst (λ (j : ℕ). Agree m x at j) (ap end_of h) a) h
 
   a_point : (lent : List ℕ) → k < length t.points → Agree m x (get_or starts-at k 0) (end_of (F.point m (get_or starts-at k 0)))
-      → answered (read_at l starts letters (point_at (get_or (front starts-at lent) k 0)) x) ≡ gives (collected.point_or (nth t.points k))
+      → answered (read_at l starts letters (place.Point (get_or (front starts-at lent) k 0)) x) ≡ gives (collected.point_or (nth t.points k))
   a_point lent b a =
       let s = stands F.point m (tile.collected H F m i t z c).points.chain k b in
       let q : get_or starts-at k 0 ≡ s.at = get_or-append point_places way_places 0 k (omega (arith, point-places, b)) ∙ s.listed in
@@ -255,7 +164,7 @@ module _ (l : TileLayout) (starts letters : List ℕ) (H : Parser TileHead) (m :
       rw (listed-so lent (omega (arith, b)), q, y, s.kth)
 
   a-way : (lent : List ℕ) → length t.points ≤ k → k - length t.points < length t.ways → Agree m x (get_or starts-at k 0) (end_of (way F m (get_or starts-at k 0)))
-      → answered (read_at l starts letters (way_at (get_or (front starts-at lent) k 0)) x) ≡ gives (collected.way_or (nth t.ways (k - length t.points)))
+      → answered (read_at l starts letters (place.Way (get_or (front starts-at lent) k 0)) x) ≡ gives (collected.way_or (nth t.ways (k - length t.points)))
   a-way lent h b a =
       let s = stands (way F) m (tile.collected H F m i t z c).ways.chain (k - length t.points) b in
       let j : length point_places + (k - length t.points) ≡ k = omega (arith, point-places) in
@@ -275,7 +184,7 @@ module _ (l : TileLayout) (starts letters : List ℕ) (H : Parser TileHead) (m :
 
       read : Bool → Bool → Res (Fetched Feature)
       read b d =
-          answered (and_then (cond d (answer (cond b (point_at (get_or (front starts-at lent) k 0)) (way_at (get_or (front starts-at lent) k 0)))) (no 17 [])) (λ p _. read_at l starts letters p x))
+          answered (and_then (cond d (answer (cond b (place.Point (get_or (front starts-at lent) k 0)) (place.Way (get_or (front starts-at lent) k 0)))) (no 17 [])) (λ p _. read_at l starts letters p x))
 
       inside : k < length t.points + length t.ways → (ltb k (length t.points + length t.ways) && ltb k (length (front starts-at lent))) ≡ true
       inside h =
@@ -322,7 +231,7 @@ module _ (places : List ℕ) (points ways k : ℕ) where
   pub past-list : length places ≤ k → refused InvalidFeature ≡ listed_place places points ways k
   past-list h = rw (le-ltb k (length places) h) (go (ltb k (points + ways)))
     where
-      go : (b : Bool) → refused {A = Place} InvalidFeature ≡ cond (b && false) (answer (cond (ltb k points) (point_at (get_or places k 0)) (way_at (get_or places k 0)))) (no 17 [])
+      go : (b : Bool) → refused {A = FeaturePlace} InvalidFeature ≡ cond (b && false) (answer (cond (ltb k points) (place.Point (get_or places k 0)) (place.Way (get_or places k 0)))) (no 17 [])
       go true = refl
       go false = refl
 
@@ -330,45 +239,46 @@ module _ (places : List ℕ) (points ways k : ℕ) where
   past-count h b = rw (le-ltb k (points + ways) (omega arith)) refl
 
   module _ (n : ℕ) (q : n ≡ get_or places k 0) (b : k < length places) where
-    pub point-listed : k < points → answer (point_at n) ≡ listed_place places points ways k
+    pub point-listed : k < points → answer (place.Point n) ≡ listed_place places points ways k
     point-listed h = rw (lt-ltb k (points + ways) (omega arith), lt-ltb k (length places) b, lt-ltb k points h, q) refl
 
-    pub way-listed : points ≤ k → k - points < ways → answer (way_at n) ≡ listed_place places points ways k
+    pub way-listed : points ≤ k → k - points < ways → answer (place.Way n) ≡ listed_place places points ways k
     way-listed h d = rw (lt-ltb k (points + ways) (omega arith), lt-ltb k (length places) b, le-ltb k points h, q) refl
 
 -- fetching is reading from there
-module _ (l : TileLayout) (starts letters places : List ℕ) (points ways k : ℕ) (m : List ℕ) (g : FeaturePlace) (r : Fetch) (q : place_res g ≡ listed_place places points ways k) (w : End) (f : w ≡ way_end g) (c : List ℕ) (la lo il io : List Float) (b : List ℕ) where
-  feature-is : (p : Res Place) (lists left : FetchLists) → p ≡ listed_place places points ways k → FetchedAt l starts letters p m lists r left → FeatureIs (fetch_listed l starts letters places points ways k m) lists r left
-  feature-is p lists left e f = subst (λ (x : Res Place). FetchedAt l starts letters x m lists r left) e f
+module _ (l : TileLayout) (starts letters places : List ℕ) (points ways k : ℕ) (m : List ℕ) (c : List ℕ) (la lo il io : List Float) (b : List ℕ) where
+  abbrev listed : Res (Fetched Feature)
+  listed = fetch_listed l starts letters places points ways k m
 
-  pub other-fetched : (x : Refusal) (left : List ℕ) → w ≡ end.Refused x → OtherAt l starts letters g m b r left → FeatureIs (fetch_listed l starts letters places points ways k m) (lent c la lo il io b) r (lent c la lo il io left)
-  other-fetched x left d o = feature-is (place_res g) (lent c la lo il io b) (lent c la lo il io left) q (o.each x (sym f ∙ d) c la lo il io)
+  abbrev full_lists : FetchLists
+  full_lists = lent c la lo il io b
 
-  pub way-fetched : (at : ℕ) (y : WayFetch) (left : FetchLists) → w ≡ end.At at → WayFetchIs (way_stored l.debug starts letters l.way_tags m at) (lent c la lo il io b) y left → r ≡ of_way y
-      → FeatureIs (fetch_listed l starts letters places points ways k m) (lent c la lo il io b) r left
-  way-fetched at y left d o v =
-      feature-is (answer (way_at at)) (lent c la lo il io b) left (sym (there g (sym f ∙ d)) ∙ q) (rw v (way-is (way_stored l.debug starts letters l.way_tags m at) (lent c la lo il io b) left y o))
-    where
-      is_at : End → ℕ
-      is_at (end.At n) = 0
-      is_at (end.Refused x) = 1
+  pub nowhere : (x : Refusal) → refused x ≡ listed_place places points ways k → FeatureIs listed full_lists (Err (Refused x)) full_lists
+  nowhere x q = subst (λ (p : Res FeaturePlace). FeatureIs (answered (and_then p (λ q _. read_at l starts letters q m))) full_lists (Err (Refused x)) full_lists) q refl
 
-      place_at : End → ℕ
-      place_at (end.At n) = n
-      place_at (end.Refused x) = 0
+  -- the place that was listed
+  module _ (p : FeaturePlace) (q : answer p ≡ listed_place places points ways k) (at : ℕ) where
+    there : (v : FeaturePlace) → p ≡ v → (r : Result Feature LentRefusal) (left : FetchLists) → FeatureIs (answered (read_at l starts letters v m)) full_lists r left → FeatureIs listed full_lists r left
+    there v h r left i = subst (λ (x : Res FeaturePlace). FeatureIs (answered (and_then x (λ y _. read_at l starts letters y m))) full_lists r left) (ap answer (sym h) ∙ q) i
 
-      there : (p : FeaturePlace) → way_end p ≡ end.At at → place_res p ≡ answer (way_at at)
-      there (place.Point n) d = let z = ap is_at d in absurd (omega arith)
-      there (place.Way n) d = ap (λ a. answer (way_at a)) (ap place_at d)
-      there (place.Refused x) d = let z = ap is_at d in absurd (omega arith)
+    pub point-fetched : p ≡ place.Point at → (r : Result (FetchedPoi × ℕ) LentRefusal) (left : List ℕ) → PoiFetchIs (poi_stored l.debug starts letters l.poi_tags m at) b r left
+        → FeatureIs listed full_lists (shown_as feature.Point r) (lent c la lo il io left)
+    point-fetched h r left i =
+        there (place.Point at) h (shown_as feature.Point r) (lent c la lo il io left)
+        (feature-is feature.Point (poi_stored l.debug starts letters l.poi_tags m at) full_lists (lent c la lo il io left) r
+        (poi-wide l.debug starts letters l.poi_tags m at c la lo il io b left r i))
+
+    pub way-fetched : p ≡ place.Way at → (r : Result (FetchedWay × ℕ) LentRefusal) (left : FetchLists) → WayFetchIs (way_stored l.debug starts letters l.way_tags m at) full_lists r left
+        → FeatureIs listed full_lists (shown_as feature.Way r) left
+    way-fetched h r left i = there (place.Way at) h (shown_as feature.Way r) left (feature-is feature.Way (way_stored l.debug starts letters l.way_tags m at) full_lists left r i)
 
 -- With the list and the counts that collecting gave, the fetch is the full one (specs/Direct.antt).
-pub direct : (l : TileLayout) (starts letters : List ℕ) (i : Maybe Interval) (grid : Grid) (number : ℕ) (m lent : List ℕ) (r : TileRead) (left : List ℕ) → TileIs (collect_tile (kinds_of l letters) i grid number m) (tile_places (kinds_of l letters) i grid number m) lent r left → r.answer ≡ tile-answer.Collected
-    → Direct l starts letters i grid number m r.tile.points r.tile.ways left
+pub direct : (l : TileLayout) (starts letters : List ℕ) (i : Maybe Interval) (grid : Grid) (number : ℕ) (m lent : List ℕ) (t : Tile) (left : List ℕ) → TileIs (collect_tile (kinds_of l letters) i grid number m) (tile_places (kinds_of l letters) i grid number m) lent (Ok t) left
+    → Direct l starts letters i grid number m t.points t.ways left
 unfolding collect_tile tile_places fetch_tile
-direct l starts letters i grid number m lent r left h q =
-    let k = is-collected _ _ lent r left h q in
-    record { same = λ n. rw k.list (located n (locate l.debug i grid number m) r.tile k.tile) }
+direct l starts letters i grid number m lent t left h =
+    let k = is-collected _ _ lent t left h in
+    record { same = λ n. rw k.list (located n (locate l.debug i grid number m) t k.tile) }
   where
     collects : (n : ℕ) (a : Located) (x : Res (StoredTile (format_of (kinds_of l letters)))) → collect (located_head l.debug a) (format_of (kinds_of l letters)) m (tile_at a) ≡ x → (t : Tile) → answered (map_res shown_tile x) ≡ answer t
         → fetch_listed l starts letters (front (list_of (map_res (feature_places (format_of (kinds_of l letters)) m) x)) lent) t.points t.ways n m ≡ and_then x (λ t _. given l starts letters m (collected.fetch (stored_tile t (tile_end 0 a.entry.water)) n))

@@ -7,41 +7,31 @@ use mathlib.Core.List.{List}
 use lib.ListN.{length, take}
 use lib.Seq.{take_all}
 use borrow.Author.Tests.{lt-ltb, le-leb, lt-leb}
+use Rattle.std.specs.Prelude.{Result, Ok, Err}
 use Rattle.parsing.specs.Parse.{Res, ok, no, map_res, none}
 use Rattle.parsing.specs.Good.{no_ok}
 use Rattle.error.specs.Refusals.{refused, lent_refused, short_buffer}
 use Rattle.error.specs.declared.LentRefusal.{LentRefusal}
-use Rattle.error.specs.declared.LentRefusal.TheVariants as lent-refusal
 use Rattle.error.specs.declared.Refusal.{Refusal}
 use Rattle.arithmetic.specs.Cut.{cut}
 use Rattle.arithmetic.proofs.CutLaws.{cut_fits}
 use Rattle.format.specs.Lent.{front}
 use Rattle.format.specs.Tile.{Point, point}
-use Rattle.types.specs.Types.{end_res, end_refusal, maybe_part}
-use Rattle.types.specs.declared.End.TheVariants as end
+use Rattle.types.specs.Types.{maybe_part}
 use Rattle.types.specs.declared.TagRange.{TagRange}
 use Rattle.tag_table.specs.Tables.{kinds_by}
 use Rattle.tagged.specs.TagIds.{tag_ids}
-use Rattle.poi.specs.Poi as poi
-use Rattle.poi.specs.Poi.{poi_of, PoiIs}
+use Rattle.poi.specs.Poi.{poi_of}
 use Rattle.poi.specs.declared.Poi.{Poi}
-use Rattle.poi.specs.declared.PoiRead.{PoiRead}
-use Rattle.fetched.specs.Fetched.{started_name, buffered, feature_texts, no_texts, fetched_point, FetchReply, deliver_all}
+use Rattle.fetched.specs.Fetched.{started_name, buffered, feature_texts, fetched_point, FetchReply, deliver_all}
 use Rattle.fetched.specs.declared.FeatureTexts.{FeatureTexts}
-use Rattle.fetched.specs.declared.FetchEnd.TheVariants as fetch-end
 use Rattle.fetched.specs.declared.FetchedPoi.{FetchedPoi}
-use Rattle.fetched.proofs.FetchLaws.{is-refused, is-done}
 use Rattle.feature_texts.specs.FeatureTexts.{texts_in, write_texts}
 use Rattle.feature_texts.specs.declared.TextParts.{TextParts}
 use Rattle.feature_texts.specs.Known.{PointTexts}
 use Rattle.feature_texts.proofs.ShortLaws.{Known, known_by, point-texts, none-stored, texts-short, ids-within, ids-counted, ids-are}
 use Rattle.feature_tags.specs.FeatureTags.{texts_of}
-use Rattle.fetch_poi.specs.FetchPoi.{poi_parts, poi_with, empty_poi, poi_stored, buffer_only, PoiFetchIs, PoiWritten}
-use Rattle.fetch_poi.specs.declared.PoiFetch.{PoiFetch}
-
--- where there is no point
-pub nothing : (t : FeatureTexts) → t ≡ no_texts → poi_with poi.empty_poi t ≡ empty_poi
-nothing t h = rw h
+use Rattle.fetch_poi.specs.FetchPoi.{poi_parts, poi_with, poi_stored, buffer_only, PoiFetchIs, PoiWritten}
 
 -- an answer
 abbrev Reply : Type 0
@@ -91,41 +81,41 @@ module _ (starts : List ℕ) (t : TagRange) (p : Poi) (ids : List ℕ) (next : �
         ∙ ap (λ c. record { answer = ok c next; lists = buffer_only (front bytes b) }) (a ∙ ap (λ c. poi_with c tx) e ∙ ap (poi_with (poi_of s)) (described tx d))
         ∙ rw (le-leb (length bytes) (length b) y)
 
-  pub poi-short : (r : PoiFetch) (x : LentRefusal) → length b < len → x ≡ short_buffer len → r.poi ≡ empty_poi → r.end ≡ fetch-end.Refused x → PoiWritten starts t p ids next m b r b
-  poi-short r x h d v c = record { each = λ s e i w. is-refused empty_poi _ (buffer_only b) r.poi r.end (short_buffer len) v (c ∙ ap fetch-end.Refused d) (short-reply s e i w h) }
+  pub poi-short : (x : LentRefusal) → length b < len → x ≡ short_buffer len → PoiWritten starts t p ids next m b (Err x) b
+  poi-short x h d = record { each = λ s e i w. ap (λ a. record { answer = lent_refused a; lists = buffer_only b }) d ∙ short-reply s e i w h }
 
   pub poi-done : (left : List ℕ) (tx : FeatureTexts) (v : FetchedPoi) → len ≤ length b → left ≡ write_texts (texts_in starts pr m ids) b → tx ≡ texts_of starts pr m ids → v ≡ poi_with p tx
-      → PoiWritten starts t p ids next m b (record { poi = v; end = fetch-end.At next }) left
-  poi-done left tx v h u d a = record { each = λ s e i w. is-done empty_poi _ (buffer_only b) v next (buffer_only left) (done-reply s e i w left tx v h u d a) }
+      → PoiWritten starts t p ids next m b (Ok (v, next)) left
+  poi-done left tx v h u d a = record { each = λ s e i w. done-reply s e i w left tx v h u d a }
 
 -- the point, read from its place
-module _ (debug : Bool) (starts letters : List ℕ) (t : TagRange) (m : List ℕ) (at : ℕ) (g : PoiRead) (q : PoiIs (point debug (kinds_by letters t) m at) g) where
+module _ (debug : Bool) (starts letters : List ℕ) (t : TagRange) (m : List ℕ) (at : ℕ) where
   abbrev stored : Res Point
   stored = point debug (kinds_by letters t) m at
 
-  pub fetch-no : (b : List ℕ) (r : PoiFetch) (x y : Refusal) → g.end ≡ end.Refused x → y ≡ end_refusal g.end → r.poi ≡ empty_poi → r.end ≡ fetch-end.Refused (lent-refusal.Refused y) → PoiFetchIs (poi_stored debug starts letters t m at) b r b
-  fetch-no b r x y h w v e = is-refused empty_poi (poi_stored debug starts letters t m at) (buffer_only b) r.poi r.end (lent-refusal.Refused x) v (e ∙ ap (λ a. fetch-end.Refused (lent-refusal.Refused a)) (w ∙ ap end_refusal h)) (go stored (ap (end_res g.poi) (sym h) ∙ q.answer))
+  pub fetch-no : (b : List ℕ) (x : Refusal) → refused x ≡ map_res poi_of stored → ◌≡◌ {A = Reply} (record { answer = refused x; lists = buffer_only b }) (deliver_all (poi_stored debug starts letters t m at) (buffer_only b))
+  fetch-no b x q = go stored q
     where
       go : (s : Res Point) → refused x ≡ map_res poi_of s → ◌≡◌ {A = Reply} (record { answer = refused x; lists = buffer_only b }) (deliver_all (map_res (fetched_point (started_name starts t m)) s) (buffer_only b))
       go (ok s e) d = no_ok d
       go (no n v) d = let i : refused {A = FetchedPoi} x ≡ no n v = cc in rw i
 
-  module _ (n : ℕ) (h : g.end ≡ end.At n) where
-    known : Known poi_of g.poi n stored
-    known = known_by poi_of g.poi n stored (ap (end_res g.poi) (sym h) ∙ q.answer)
+  module _ (p : Poi) (n : ℕ) (q : ok p n ≡ map_res poi_of stored) where
+    known : Known poi_of p n stored
+    known = known_by poi_of p n stored q
 
     facts : PointTexts m known.value
     facts = (point-texts m debug (kinds_by letters t)).holds at known.value n known.same
 
-    ids-told : g.poi.tag_ids ≡ tag_ids known.value.tagged.ids
+    ids-told : p.tag_ids ≡ tag_ids known.value.tagged.ids
     ids-told = ap (λ (x : Poi). x.tag_ids) known.shown
 
-    pub ids-in : g.poi.tag_ids.count ≤ length g.poi.tag_ids.ids
-    ids-in = ids-within g.poi.tag_ids known.value.tagged.ids ids-told
+    pub ids-in : p.tag_ids.count ≤ length p.tag_ids.ids
+    ids-in = ids-within p.tag_ids known.value.tagged.ids ids-told
 
-    pub ids-sized : g.poi.tag_ids.count ≡ length (take g.poi.tag_ids.count g.poi.tag_ids.ids)
-    ids-sized = ids-counted g.poi.tag_ids known.value.tagged.ids ids-told
+    pub ids-sized : p.tag_ids.count ≡ length (take p.tag_ids.count p.tag_ids.ids)
+    ids-sized = ids-counted p.tag_ids known.value.tagged.ids ids-told
 
-    pub fetch-on : (b left : List ℕ) (r : PoiFetch) → PoiWritten starts t g.poi (take g.poi.tag_ids.count g.poi.tag_ids.ids) n m b r left → PoiFetchIs (poi_stored debug starts letters t m at) b r left
+    pub fetch-on : (b left : List ℕ) (r : Result (FetchedPoi × ℕ) LentRefusal) → PoiWritten starts t p (take p.tag_ids.count p.tag_ids.ids) n m b r left → PoiFetchIs (poi_stored debug starts letters t m at) b r left
     fetch-on b left r w =
-        subst (λ (s : Res Point). PoiFetchIs (map_res (fetched_point (started_name starts t m)) s) b r left) (sym known.same) (w.each known.value known.shown (ids-are g.poi.tag_ids known.value.tagged.ids ids-told) facts)
+        subst (λ (s : Res Point). PoiFetchIs (map_res (fetched_point (started_name starts t m)) s) b r left) (sym known.same) (w.each known.value known.shown (ids-are p.tag_ids known.value.tagged.ids ids-told) facts)

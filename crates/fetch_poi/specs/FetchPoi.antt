@@ -1,19 +1,17 @@
 -- A point as it is fetched from its place (crate fetched), with the buffer that its texts go to.
-use Rattle.std.specs.Prelude.{ℕ, Bool, ◌≡◌, List, []}
+use Rattle.std.specs.Prelude.{ℕ, Bool, ◌≡◌, List, [], None, Result}
 use Rattle.parsing.specs.Parse.{Res, ok, map_res}
+use Rattle.error.specs.declared.LentRefusal.{LentRefusal}
 use Rattle.format.specs.Tile.{Point, point}
-use Rattle.types.specs.declared.OptionalSpan.TheVariants.{Absent}
 use Rattle.types.specs.declared.TagRange.{TagRange}
 use Rattle.tag_table.specs.Tables.{kinds_by}
-use Rattle.poi.specs.Poi as poi
 use Rattle.poi.specs.Poi.{poi_of}
 use Rattle.poi.specs.declared.Poi.{Poi}
-use Rattle.fetched.specs.Fetched.{started_name, no_texts, Fetched, fetched_point, FetchLists, FetchIs}
+use Rattle.fetched.specs.Fetched.{started_name, Fetched, fetched_point, FetchLists, fetch_reply, deliver_all}
 use Rattle.fetched.specs.declared.FeatureTexts.{FeatureTexts}
 use Rattle.fetched.specs.declared.FetchedPoi.{FetchedPoi}
 use Rattle.feature_texts.specs.declared.TextParts.{TextParts}
 use Rattle.feature_texts.specs.Known.{PointTexts}
-use Rattle.fetch_poi.specs.declared.PoiFetch.{PoiFetch}
 
 -- the point at a place
 abbrev pub poi_stored : Bool → (starts letters : List ℕ) → TagRange → List ℕ → ℕ → Res (Fetched FetchedPoi)
@@ -40,18 +38,14 @@ poi_with p t = record {
   plain = p.plain;
 }
 
--- where a fetch is refused
-abbrev pub empty_poi : FetchedPoi
-empty_poi = poi_with poi.empty_poi no_texts
-
 -- the answer to a call with a buffer, where the definition says `stored`
-abbrev pub PoiFetchIs : Res (Fetched FetchedPoi) → (buffer : List ℕ) → PoiFetch → (left : List ℕ) → Type 0
-PoiFetchIs stored buffer r left = FetchIs empty_poi stored (buffer_only buffer) r.poi r.end (buffer_only left)
+abbrev pub PoiFetchIs : Res (Fetched FetchedPoi) → (buffer : List ℕ) → Result (FetchedPoi × ℕ) LentRefusal → (left : List ℕ) → Type 0
+PoiFetchIs stored buffer r left = fetch_reply r (buffer_only left) ≡ deliver_all stored (buffer_only buffer)
 
 -- What private functions make, which need not be believed: what the texts of a point are made of
 abbrev pub poi_parts : Poi → TagRange → TextParts
-poi_parts p t = record { tags = t; name = p.name; house_number = p.house_number; reference = Absent }
+poi_parts p t = record { tags = t; name = p.name; house_number = p.house_number; reference = None }
 
 -- a point that was read, has these ids and ends at `next`, with its texts written
-pub record PoiWritten (starts : List ℕ) (t : TagRange) (p : Poi) (ids : List ℕ) (next : ℕ) (m buffer : List ℕ) (r : PoiFetch) (left : List ℕ) : Type 0 where
+pub record PoiWritten (starts : List ℕ) (t : TagRange) (p : Poi) (ids : List ℕ) (next : ℕ) (m buffer : List ℕ) (r : Result (FetchedPoi × ℕ) LentRefusal) (left : List ℕ) : Type 0 where
   pub each : (s : Point) → p ≡ poi_of s → ids ≡ s.tagged.ids → PointTexts m s → PoiFetchIs (ok (fetched_point (started_name starts t m) s) next) buffer r left

@@ -43,18 +43,12 @@ lists_of d counts lats lons initial_lats initial_lons buffer = record {
 
 -- the lists of a body that was read and has room, at the fronts of those that were lent
 module _ (m : List ℕ) (p : ListPlan) (c : List ℕ) (la lo il io : List Float) (c' : List ℕ) (la' lo' il' io' : List Float) (w : ListsWritten m p c la lo il io c' la' lo' il' io') where
-  pub nothing_written : (b : List ℕ) → p.present ≡ false → lent c' la' lo' il' io' b ≡ lent c la lo il io b
-  nothing_written b h =
-      ap (λ (l : LentLists). record { lists = l; initial_latitudes = il'; initial_longitudes = io'; buffer = b }) (w.nodes ∙ rw h)
-      ∙ ap (λ (l : List Float). record { lists = lists.lent c la lo; initial_latitudes = l; initial_longitudes = io'; buffer = b }) (w.latitudes ∙ rw h)
-      ∙ ap (λ (l : List Float). record { lists = lists.lent c la lo; initial_latitudes = il; initial_longitudes = l; buffer = b }) (w.longitudes ∙ rw h)
-
-  module _ (d : Body) (e : ℕ) (k : p.present ≡ true) (f : body m p.start ≡ ok d e) (n : p.blocks ≡ length (concat d.data_blocks)) (h : fits (body_lists d) (lists.lent c la lo) ≡ true) where
+  module _ (d : Body) (e : ℕ) (f : body m p.start ≡ ok d e) (n : p.blocks ≡ length (concat d.data_blocks)) (h : fits (body_lists d) (lists.lent c la lo) ≡ true) where
     abbrev all : List (List Node)
     all = concat d.data_blocks
 
     given : lists.lent c' la' lo' ≡ written (body_lists d) (lists.lent c la lo)
-    given = w.nodes ∙ rw k (ap (λ r. (deliver body_of body_lists r (lists.lent c la lo)).lists) f ∙ rw h)
+    given = w.nodes ∙ ap (λ r. (deliver body_of body_lists r (lists.lent c la lo)).lists) f ∙ rw h
 
     counts-are : take p.blocks c' ≡ node_counts all
     counts-are =
@@ -64,7 +58,7 @@ module _ (m : List ℕ) (p : ListPlan) (c : List ℕ) (la lo il io : List Float)
     lats-initial : p.blocks ≤ length il → il' ≡ front (initial_latitudes all) il
     lats-initial r =
         let z : length (node_counts all) ≤ length il = omega (arith, length-map all length) in
-        w.latitudes ∙ rw k (ap (λ (l : LentLists). write_initials (take p.blocks c') l.latitudes il) given)
+        w.latitudes ∙ ap (λ (l : LentLists). write_initials (take p.blocks c') l.latitudes il) given
         ∙ ap (λ y. write_initials y (front (latitudes (double_delta d.fields) all) la) il) counts-are
         ∙ rw (le-leb (length (node_counts all)) (length il) z)
         (ap (λ y. front y il) (initials-are (double_delta d.fields) latitude_of all (drop (length (latitudes (double_delta d.fields) all)) la)))
@@ -72,7 +66,7 @@ module _ (m : List ℕ) (p : ListPlan) (c : List ℕ) (la lo il io : List Float)
     lons-initial : p.blocks ≤ length io → io' ≡ front (initial_longitudes all) io
     lons-initial r =
         let z : length (node_counts all) ≤ length io = omega (arith, length-map all length) in
-        w.longitudes ∙ rw k (ap (λ (l : LentLists). write_initials (take p.blocks c') l.longitudes io) given)
+        w.longitudes ∙ ap (λ (l : LentLists). write_initials (take p.blocks c') l.longitudes io) given
         ∙ ap (λ y. write_initials y (front (longitudes (double_delta d.fields) all) lo) io) counts-are
         ∙ rw (le-leb (length (node_counts all)) (length io) z)
         (ap (λ y. front y io) (initials-are (double_delta d.fields) longitude_of all (drop (length (longitudes (double_delta d.fields) all)) lo)))

@@ -1,15 +1,13 @@
 -- A way as it is fetched from its place (crates fetched and measured_way), with the lists and the buffer that it is lent.
-use Rattle.std.specs.Prelude.{ℕ, List, Float, length, take}
+use Rattle.std.specs.Prelude.{ℕ, ◌≡◌, List, Float, length, take, Result}
 use Rattle.parsing.specs.Parse.{Res}
 use Rattle.error.specs.declared.Lengths.{Lengths}
+use Rattle.error.specs.declared.LentRefusal.{LentRefusal}
 use Rattle.way_data.specs.Reply as lists
-use Rattle.fetched.specs.Fetched.{Fetched, FetchLists, FetchIs}
+use Rattle.fetched.specs.Fetched.{Fetched, FetchLists, fetch_reply, deliver_all}
 use Rattle.fetched.specs.declared.FetchedWay.{FetchedWay}
 use Rattle.feature_texts.specs.FeatureTexts.{texts_in, write_texts}
-use Rattle.measured_way.specs.MeasuredWay.{empty_way}
-use Rattle.measured_way.specs.declared.MeasuredWay.{MeasuredWay}
 use Rattle.measured_way.specs.declared.TextPlan.{TextPlan}
-use Rattle.fetch_way.specs.declared.WayFetch.{WayFetch}
 
 -- the lists in the order in which a fetch takes them, and the buffer
 abbrev pub lent : List ℕ → List Float → List Float → List Float → List Float → List ℕ → FetchLists
@@ -21,10 +19,10 @@ lent counts lats lons initial_lats initial_lons buffer = record {
 }
 
 -- the answer to a call, where the definition says `stored`
-abbrev pub WayFetchIs : Res (Fetched FetchedWay) → (lent : FetchLists) → WayFetch → (left : FetchLists) → Type 0
-WayFetchIs stored l r left = FetchIs empty_way stored l r.way r.end left
+abbrev pub WayFetchIs : Res (Fetched FetchedWay) → (lent : FetchLists) → Result (FetchedWay × ℕ) LentRefusal → (left : FetchLists) → Type 0
+WayFetchIs stored l r left = fetch_reply r left ≡ deliver_all stored l
 
--- What private functions are asked and leave, which need not be believed: the lengths of the lists, the answer, and the buffer
+-- What private functions are asked and leave, which need not be believed: the lengths of the lists, and the buffer
 abbrev pub room_of : FetchLists → Lengths
 room_of l = record {
   list1 = length l.lists.counts;
@@ -34,9 +32,6 @@ room_of l = record {
   list5 = length l.initial_longitudes;
   buffer = length l.buffer;
 }
-
-abbrev pub answer_of : MeasuredWay → WayFetch
-answer_of g = record { way = g.way; end = g.end }
 
 abbrev pub texts_written : (starts m : List ℕ) → TextPlan → List ℕ → List ℕ
 texts_written starts m p buffer = write_texts (texts_in starts p.parts m (take p.tag_ids.count p.tag_ids.ids)) buffer

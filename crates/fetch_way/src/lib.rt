@@ -3,38 +3,21 @@
 
 ghost use Rattle.std.specs.Prelude.{◌≡◌, ◌≤◌, length};
 ghost use Rattle.measured_way.specs.MeasuredWay.{way_stored};
-ghost use Rattle.fetch_way.specs.FetchWay.{lent, WayFetchIs, answer_of, texts_written};
+ghost use Rattle.fetch_way.specs.FetchWay.{lent, WayFetchIs, texts_written};
 
-use error::Lengths;
-use fetched::{FetchEnd, FetchedWay};
-use measured_way::{MeasuredWay, TextPlan};
+use error::{Lengths, LentRefusal};
+use fetched::FetchedWay;
+use measured_way::TextPlan;
 use types::TagRange;
-
-// Where the fetch is refused, the way is empty.
-#[derive(Clone, Copy)]
-pub struct WayFetch {
-    pub way: FetchedWay,
-    pub end: FetchEnd,
-}
-
-fn answer_of(got: MeasuredWay) -> WayFetch
-    ensures { result ≡ answer_of got }
-{
-    let way = got.way;
-    let end = got.end;
-    WayFetch { way, end }
-}
 
 // The planned texts in the buffer.
 fn write_texts(map: &[u8], starts: &[u64], plan: TextPlan, buffer: &mut [u8])
     requires { plan.tag_ids.count ≤ length plan.tag_ids.ids }
     ensures { buffer.new ≡ texts_written starts.now map.now plan buffer.old }
 {
-    let tag_ids = plan.tag_ids;
-    let ids = tag_ids.ids;
-    let count = tag_ids.count;
-    let parts = plan.parts;
-    feature_texts::write_texts(map, starts, &ids[..count], parts, buffer);
+    let ids = plan.tag_ids.ids;
+    let count = plan.tag_ids.count;
+    feature_texts::write_texts(map, starts, &ids[..count], plan.parts, buffer);
 }
 
 // The way at a place. Refused as it is read; then 15 with every length needed if a list or the buffer is too short.
@@ -51,7 +34,7 @@ pub fn fetch_way(
     initial_latitudes: &mut [f64],
     initial_longitudes: &mut [f64],
     buffer: &mut [u8],
-) -> WayFetch
+) -> Result<(FetchedWay, usize), LentRefusal>
     ensures { WayFetchIs (way_stored debug starts.now letters.now tags map.now at) (lent node_counts.old latitudes.old longitudes.old initial_latitudes.old initial_longitudes.old buffer.old) result (lent node_counts.new latitudes.new longitudes.new initial_latitudes.new initial_longitudes.new buffer.new) }
 {
     let room = Lengths {
@@ -62,18 +45,16 @@ pub fn fetch_way(
         list5: initial_longitudes.len() as u64,
         buffer: buffer.len() as u64,
     };
-    let got = measured_way::measure_way(map, at, debug, starts, letters, tags, room);
-    let lists = got.lists;
+    let (measured, next) = measured_way::measure_way(map, at, debug, starts, letters, tags, room)?;
     way_lists::write_lists(
         map,
-        lists,
+        measured.lists,
         node_counts,
         latitudes,
         longitudes,
         initial_latitudes,
         initial_longitudes,
     );
-    let texts = got.texts;
-    write_texts(map, starts, texts, buffer);
-    answer_of(got)
+    write_texts(map, starts, measured.texts, buffer);
+    Ok((measured.way, next))
 }

@@ -1,2 +1,1 @@
-pub mod FetchLaws
 pub mod Examples

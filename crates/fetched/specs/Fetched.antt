@@ -2,9 +2,10 @@
 -- `addr:housenumber` and `ref`, for the texts it has") and "The stream and the collected tile" (texts one behind the other in a
 -- buffer, each maximal ill-formed part replaced; keys, values and hashes over the replaced text; a way's blocks and their initial
 -- positions). `name_of` gives the stored bytes of a tag's name by its id.
-use Rattle.std.specs.Prelude.{ℕ, ◌≡◌, Bool, ◌&&◌, List, [], ◌++◌, map, leb, Float, length, replicate}
+use Rattle.std.specs.Prelude.{ℕ, Bool, ◌&&◌, List, [], ◌++◌, map, leb, Float, length, replicate, Option, Some, None, Result, Ok, Err}
 use Rattle.parsing.specs.Parse.{Res, ok, no, Part, Maybe, none, some, nth}
 use Rattle.error.specs.Refusals.{lent_refused, lengths}
+use Rattle.error.specs.declared.LentRefusal.{LentRefusal}
 use Rattle.arithmetic.specs.Cut.{cut}
 use Rattle.text.specs.Utf8.{replaced}
 use Rattle.tag.specs.Tag.{new_tag, tag_of, key_bytes}
@@ -18,15 +19,10 @@ use Rattle.format.specs.TagLists.{listed_text}
 use Rattle.format.specs.Tile.{Point, Head, Body, double_delta}
 use Rattle.types.specs.declared.TagRange.{TagRange}
 use Rattle.types.specs.Types.{optional_span, node_position, optional_position}
-use Rattle.types.specs.Beside.{view_or}
 use Rattle.tagged.specs.TagIds.{tag_ids}
 use Rattle.poi.specs.Poi.{optional_elevation}
 use Rattle.fetched.specs.declared.TagText.{TagText}
-use Rattle.fetched.specs.declared.OptionalText.{OptionalText}
-use Rattle.fetched.specs.declared.OptionalText.TheVariants.{Absent, At}
 use Rattle.fetched.specs.declared.FeatureTexts.{FeatureTexts}
-use Rattle.fetched.specs.declared.FetchEnd.{FetchEnd}
-use Rattle.fetched.specs.declared.FetchEnd.TheVariants as end
 use Rattle.fetched.specs.declared.FetchedPoi.{FetchedPoi}
 use Rattle.fetched.specs.declared.FetchedWay.{FetchedWay}
 
@@ -64,11 +60,11 @@ abbrev pub tag_string : List ℕ → TagText
 tag_string s = record { len = cut (length (replaced s)); tag = tag_of s }
 
 -- a feature's own text, and the tag that is made of it
-abbrev pub keyed : TextKey → Maybe Part → OptionalText
-keyed key none = Absent
-keyed key (some p) = At (record { len = cut (length (replaced p.bytes)); tag = new_tag (key_bytes key) (replaced p.bytes) })
+abbrev pub keyed : TextKey → Maybe Part → Option TagText
+keyed key none = None
+keyed key (some p) = Some (record { len = cut (length (replaced p.bytes)); tag = new_tag (key_bytes key) (replaced p.bytes) })
 
--- what stands behind the last tag, and where there is no feature
+-- what stands behind the last tag
 abbrev pub no_text : TagText
 no_text = record { len = 0; tag = record { key_len = 0; value_len = 0; key_code = 0; value_code = 0 } }
 
@@ -82,9 +78,6 @@ feature_texts name_of ids n h r = record {
   house_number = keyed HouseNumber h;
   reference = keyed Ref r;
 }
-
-abbrev pub no_texts : FeatureTexts
-no_texts = record { tags = replicate 15 no_text; name = Absent; house_number = Absent; reference = Absent }
 
 -- what a fetch is lent, and what goes there: a way's node counts, latitudes and longitudes, its blocks' initial latitudes and
 -- longitudes, and the texts
@@ -177,13 +170,11 @@ FetchReply A = Replied FetchLists (Res A)
 abbrev pub deliver_all : {A : Type 0} → Res (Fetched A) → (lent : FetchLists) → FetchReply A
 deliver_all r l = deliver_to (record { room = fits_all; put = written_all; need = needed_all }) (λ f. f.value) (λ f. f.values) r l
 
--- a value that stands beside the place where its feature ends
-abbrev pub end_res : {A : Type 0} → A → FetchEnd → Res A
-end_res a (end.At n) = ok a n
-end_res a (end.Refused r) = lent_refused r
+-- an answer of the code: a feature with the place behind it, or why there is none
+abbrev pub fetched_res : {A : Type 0} → Result (A × ℕ) LentRefusal → Res A
+fetched_res (Ok (v, n)) = ok v n
+fetched_res (Err r) = lent_refused r
 
--- the answer to a call, where the definition says `stored`: the value beside its end (an enum holds no array), and what the lists hold
--- then; where the call is refused, the value is `empty`
-pub record FetchIs {A : Type 0} (empty : A) (stored : Res (Fetched A)) (lent : FetchLists) (value : A) (end : FetchEnd) (left : FetchLists) : Type 0 where
-  pub reply : ◌≡◌ {A = FetchReply A} (record { answer = end_res value end; lists = left }) (deliver_all stored lent)
-  pub whole : value ≡ view_or (λ v. v) empty (deliver_all stored lent).answer
+-- with what the lists hold after the call
+abbrev pub fetch_reply : {A : Type 0} → Result (A × ℕ) LentRefusal → (left : FetchLists) → FetchReply A
+fetch_reply r left = record { answer = fetched_res r; lists = left }

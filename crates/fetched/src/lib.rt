@@ -1,11 +1,10 @@
 // What is handed out of a fetched feature: records, and their definitions in specs/. No code.
 #![tactic(auto)]
 
-use error::LentRefusal;
-use poi::OptionalElevation;
+use byte_source::Span;
 use tag::Tag;
 use tagged::TagIds;
-use types::{OptionalPosition, OptionalSpan, Position};
+use types::Position;
 
 // A text in the lent buffer: its length there, and the tag that is made of it.
 #[derive(Clone, Copy)]
@@ -14,30 +13,24 @@ pub struct TagText {
     pub tag: Tag,
 }
 
-#[derive(Clone, Copy)]
-pub enum OptionalText {
-    Absent,
-    At(TagText),
-}
-
 // The texts of a feature in the order of the buffer: one for each tag id, from the front, empty ones behind them; then the others. A
 // text that is absent takes no room.
 #[derive(Clone, Copy)]
 pub struct FeatureTexts {
     pub tags: [TagText; 15],
-    pub name: OptionalText,
-    pub house_number: OptionalText,
-    pub reference: OptionalText,
+    pub name: Option<TagText>,
+    pub house_number: Option<TagText>,
+    pub reference: Option<TagText>,
 }
 
 // A fetched point. Its signature is a raw part of the map. `plain`: whether every number of it was.
 #[derive(Clone, Copy)]
 pub struct FetchedPoi {
-    pub signature: OptionalSpan,
+    pub signature: Option<Span>,
     pub position: Position,
     pub tag_ids: TagIds,
     pub texts: FeatureTexts,
-    pub elevation: OptionalElevation,
+    pub elevation: Option<i32>,
     pub layer: i8,
     pub plain: bool,
 }
@@ -46,10 +39,10 @@ pub struct FetchedPoi {
 // head, as a stream's next says.
 #[derive(Clone, Copy)]
 pub struct FetchedWay {
-    pub signature: OptionalSpan,
+    pub signature: Option<Span>,
     pub tag_ids: TagIds,
     pub texts: FeatureTexts,
-    pub label_position: OptionalPosition,
+    pub label_position: Option<Position>,
     pub blocks: u64,
     pub nodes: u64,
     pub bitmap: u16,
@@ -59,24 +52,9 @@ pub struct FetchedWay {
     pub head_plain: bool,
 }
 
-// Where a feature that is fetched ends, or why there is none.
+// A feature that is fetched by its number in a tile.
 #[derive(Clone, Copy)]
-pub enum FetchEnd {
-    At(usize),
-    Refused(LentRefusal),
-}
-
-#[derive(Clone, Copy)]
-pub enum FetchAnswer {
-    Point,
-    Way,
-    Refused(LentRefusal),
-}
-
-// The point and the way stand beside the answer; each is empty where it is not the answer.
-#[derive(Clone, Copy)]
-pub struct Fetch {
-    pub answer: FetchAnswer,
-    pub poi: FetchedPoi,
-    pub way: FetchedWay,
+pub enum Feature {
+    Point(FetchedPoi),
+    Way(FetchedWay),
 }

@@ -12,7 +12,7 @@ use Rattle.utils.specs.Vbe.{noted, noted_unsigned, noted_text, text}
 use Rattle.format.specs.Streamed.{streamed_maybe}
 use Rattle.format.specs.Tile.{maybe_value}
 use Rattle.types.specs.Types.{optional_span}
-use Rattle.types.specs.declared.OptionalSpan.TheVariants.{At}
+use Rattle.std.specs.Prelude.{Some}
 use Rattle.fields.specs.Fields.{streamed_span}
 
 -- what a success on the map m gives
@@ -82,4 +82,4 @@ optional-within m false = gives-return m none _ absent
 pub streamed-view : (m : List ℕ) (q : Maybe Part) → Within m q → streamed_span m (optional_span q) ≡ optional_span (streamed_maybe q)
 streamed-view m none absent = refl
 streamed-view m (some p) (stored h) =
-    ap (λ (b : List ℕ). At (record { start = p.start; size = cond (valid b) p.size 0 })) (sym h.bytes)
+    ap (λ (b : List ℕ). Some (record { start = p.start; size = cond (valid b) p.size 0 })) (sym h.bytes)

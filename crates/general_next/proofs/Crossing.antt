@@ -5,9 +5,8 @@ use mathlib.Core.List.{List}
 use Rattle.agreement.specs.Stream.{on_next}
 use Rattle.tile_layout.specs.TileLayout.{kinds_of, format_of}
 use Rattle.tile_layout.specs.declared.TileLayout.{TileLayout}
-use Rattle.visit.specs.Visit.{state_of, shown_step, NextIs}
+use Rattle.visit.specs.Visit.{state_of, shown_step, NextIs, NextStep}
 use Rattle.visit.specs.declared.Stream.{Stream}
-use Rattle.visit.specs.declared.NextStep.{NextStep}
 use Rattle.wire.specs.Wire.{Wire, Crosses}
 use Rattle.stream_wire.specs.Streams.{next_wire}
 

@@ -1,24 +1,21 @@
 -- How the other program reads the header's words, and that nothing is lost on the way, whatever words it lent.
-use Rattle.std.specs.Prelude.{ℕ, ◌≡◌, refl, [], ◌∷◌}
-use Rattle.types.specs.declared.OptionalSpan.{OptionalSpan}
-use Rattle.types.specs.declared.OptionalByte.{OptionalByte}
-use Rattle.types.specs.declared.OptionalByte.TheVariants as byte
-use Rattle.types.specs.declared.OptionalPosition.{OptionalPosition}
+use Rattle.std.specs.Prelude.{ℕ, ◌≡◌, refl, [], ◌∷◌, Option, Some, None, Result, Ok, Err}
+use Rattle.byte_source.specs.declared.Span.{Span}
+use Rattle.error.specs.declared.LentRefusal.{LentRefusal}
+use Rattle.types.specs.declared.Position.{Position}
 use Rattle.types.specs.declared.HeaderFields.{HeaderFields}
-use Rattle.opening.specs.declared.ListedRead.{ListedRead}
-use Rattle.opening.specs.declared.ListedRead.TheVariants as listed
 use Rattle.wire.specs.Wire.{Wire, Lent, Codec, word, there}
 use Rattle.wire.specs.Codecs.{settle_lent, settled-lent, span_in, span-back, place_in, place-back, degree}
 use Rattle.wire.specs.Spread.{spread_wire, spread-out}
 use Rattle.header_wire.specs.Header.{header_wire, byte_words}
 
 -- a byte that may be absent
-abbrev pub byte_in : (present value : ℕ) → OptionalByte
-byte_in p b = there p byte.Absent (byte.At b)
+abbrev pub byte_in : (present value : ℕ) → Option ℕ
+byte_in p b = there p None (Some b)
 
-pub byte-back : (b : OptionalByte) → byte_in (byte_words b).present (byte_words b).value ≡ b
-byte-back byte.Absent = refl
-byte-back (byte.At b) = refl
+pub byte-back : (b : Option ℕ) → byte_in (byte_words b).present (byte_words b).value ≡ b
+byte-back None = refl
+byte-back (Some b) = refl
 
 -- the header
 abbrev pub fields_in : Wire → HeaderFields
@@ -42,10 +39,13 @@ fields_in w = record {
   num_zoom_intervals = word w 0 33;
 }
 
-abbrev pub header_in : Wire → ListedRead
-header_in w = settle_lent listed.Refused (listed.Value (fields_in w) (word w 0 6)) w
+abbrev Listed : Type 0
+Listed = Result (HeaderFields × ℕ) LentRefusal
 
-abbrev header_part : OptionalPosition → OptionalByte → (language comment created_by : OptionalSpan) → HeaderFields → HeaderFields
+abbrev pub header_in : Wire → Listed
+header_in w = settle_lent Err (Ok (fields_in w, word w 0 6)) w
+
+abbrev header_part : Option Position → Option ℕ → (language comment created_by : Option Span) → HeaderFields → HeaderFields
 header_part p z a b d h = record {
   magic = h.magic;
   header_size = h.header_size;
@@ -66,18 +66,18 @@ header_part p z a b d h = record {
   num_zoom_intervals = h.num_zoom_intervals;
 }
 
-header-with : (h : HeaderFields) (e : ℕ) (p p' : OptionalPosition) (z z' : OptionalByte) (a a' b b' d d' : OptionalSpan) → p ≡ p' → z ≡ z' → a ≡ a' → b ≡ b' → d ≡ d' → listed.Value (header_part p z a b d h) e ≡ listed.Value (header_part p' z' a' b' d' h) e
+header-with : (h : HeaderFields) (e : ℕ) (p p' : Option Position) (z z' : Option ℕ) (a a' b b' d d' : Option Span) → p ≡ p' → z ≡ z' → a ≡ a' → b ≡ b' → d ≡ d' → ◌≡◌ {A = Listed} (Ok (header_part p z a b d h, e)) (Ok (header_part p' z' a' b' d' h, e))
 header-with h e p p' z z' a a' b b' d d' q1 q2 q3 q4 q5 = rw (q1, q2, q3, q4, q5) refl
 
 abbrev pub HeaderLent : Wire → Type 0
 HeaderLent = Lent (34 ∷ 7 ∷ []) 0 6
 
-pub header-back : (w : Wire) → HeaderLent w → (r : ListedRead) → header_in (header_wire w r) ≡ r
+pub header-back : (w : Wire) → HeaderLent w → (r : Listed) → header_in (header_wire w r) ≡ r
 header-back w k r = spread-out (34 ∷ 7 ∷ []) 0 6 w k (λ v. header_in (header_wire v r) ≡ r) (go r)
   where
-    go : (r : ListedRead) → header_in (header_wire (spread_wire (34 ∷ 7 ∷ []) 0 6 w) r) ≡ r
-    go (listed.Value h e) = header-with h e _ _ _ _ _ _ _ _ _ _ (place-back h.map_start_position) (byte-back h.start_zoom_level) (span-back h.language_preference) (span-back h.comment) (span-back h.created_by)
-    go (listed.Refused r) = settled-lent listed.Refused _ _ _ _ _ _ _ _ r
+    go : (r : Listed) → header_in (header_wire (spread_wire (34 ∷ 7 ∷ []) 0 6 w) r) ≡ r
+    go (Ok (h, e)) = header-with h e _ _ _ _ _ _ _ _ _ _ (place-back h.map_start_position) (byte-back h.start_zoom_level) (span-back h.language_preference) (span-back h.comment) (span-back h.created_by)
+    go (Err r) = settled-lent {A = Listed} Err _ _ _ _ _ _ _ _ r
 
 abbrev pub header_codec : (w : Wire) → HeaderLent w → Codec (header_wire w)
 header_codec w h = record { decode = header_in; back = header-back w h }

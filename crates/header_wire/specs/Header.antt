@@ -1,23 +1,20 @@
 -- The header but for its zoom intervals, the place behind it, and what tiles and sub files need of it, as words.
-use Rattle.std.specs.Prelude.{ℕ, ◌%◌, cond, List, [], ◌∷◌, Float, get_or}
+use Rattle.std.specs.Prelude.{ℕ, ◌%◌, cond, List, [], ◌∷◌, Float, get_or, Option, Some, None, Result, Ok, Err}
+use Rattle.byte_source.specs.declared.Span.{Span}
+use Rattle.error.specs.declared.LentRefusal.{LentRefusal}
 use Rattle.format.specs.Header.{bit}
 use Rattle.types.specs.declared.HeaderFields.{HeaderFields}
 use Rattle.types.specs.declared.IntervalTable.{IntervalTable}
-use Rattle.types.specs.declared.OptionalByte.{OptionalByte}
-use Rattle.types.specs.declared.OptionalByte.TheVariants as byte
-use Rattle.types.specs.declared.OptionalSpan.{OptionalSpan}
 use Rattle.zoom_intervals.specs.Rows.{table_before}
-use Rattle.opening.specs.declared.ListedRead.{ListedRead}
-use Rattle.opening.specs.declared.ListedRead.TheVariants as listed
 use Rattle.tile_layout.specs.declared.TileLayout.{TileLayout}
 use Rattle.wire.specs.Wire.{Wire, put, put_degrees, numbered, put_lent_refusal, truth}
 use Rattle.wire.specs.Verdicts.{span_words, place_words}
 use Rattle.header_wire.specs.declared.ByteWords.{ByteWords}
 
 -- a byte that may be absent
-abbrev pub byte_words : OptionalByte → ByteWords
-byte_words byte.Absent = record { present = 0; value = 0 }
-byte_words (byte.At b) = record { present = 1; value = b }
+abbrev pub byte_words : Option ℕ → ByteWords
+byte_words None = record { present = 0; value = 0 }
+byte_words (Some b) = record { present = 1; value = b }
 
 -- words from 6 on, from 17 on and from 29 on
 abbrev pub field_words : HeaderFields → (end : ℕ) → List ℕ
@@ -25,7 +22,7 @@ field_words h e =
     e ∷ h.header_size ∷ h.file_version ∷ h.file_size ∷ h.creation_date ∷ h.tile_size ∷ h.flags ∷
     h.magic.start ∷ h.magic.size ∷ h.projection.start ∷ h.projection.size ∷ []
 
-abbrev pub span_list : OptionalSpan → List ℕ → List ℕ
+abbrev pub span_list : Option Span → List ℕ → List ℕ
 span_list s l = (span_words s).present ∷ (span_words s).start ∷ (span_words s).size ∷ l
 
 abbrev pub option_words : HeaderFields → List ℕ
@@ -59,7 +56,7 @@ layout_in w = record {
 abbrev pub intervals_in : List ℕ → IntervalTable
 intervals_in w = record { start = get_or w 5 0; count = get_or w 6 0 % 256 }
 
-abbrev pub header_wire : (before : Wire) → ListedRead → Wire
-header_wire w (listed.Value h e) =
+abbrev pub header_wire : (before : Wire) → Result (HeaderFields × ℕ) LentRefusal → Wire
+header_wire w (Ok (h, e)) =
     numbered 0 (put 0 17 (option_words h) (put 0 29 (table_words h) (put 0 6 (field_words h e) (put 1 0 (layout_words h e) (put_degrees 0 (degrees_of h) w)))))
-header_wire w (listed.Refused r) = put_lent_refusal r w
+header_wire w (Err r) = put_lent_refusal r w

@@ -3,12 +3,13 @@
 
 ghost use Rattle.std.specs.Prelude.{◌≡◌};
 ghost use Rattle.header_words.specs.Fields.{text_pushed, optional_text_pushed, position_pushed, box_pushed, optional_position_pushed, optional_byte_pushed, tag_mixed, interval_mixed};
-ghost use Rattle.header_words.specs.Index.{sub_file_words, count_words, index_words, entry_words};
+ghost use Rattle.header_words.specs.Index.{number_words, answer_words, entry_words};
 
 use byte_source::Span;
-use index::{CountRead, EntryRead, IndexRead, SubFile};
+use error::Refusal;
+use index::TileIndexEntry;
 use report::Words;
-use types::{BoundingBox, OptionalByte, OptionalPosition, OptionalSpan, Position, ZoomInterval};
+use types::{BoundingBox, Position, ZoomInterval};
 
 // The length of the replaced text, and its digest.
 pub fn push_text(words: Words, map: &[u8], span: Span) -> Words
@@ -20,12 +21,12 @@ pub fn push_text(words: Words, map: &[u8], span: Span) -> Words
 }
 
 // 0 for what is absent, and 1 in front of what is there.
-pub fn push_optional_text(words: Words, map: &[u8], text: OptionalSpan) -> Words
+pub fn push_optional_text(words: Words, map: &[u8], text: Option<Span>) -> Words
     ensures { result ≡ optional_text_pushed words map.now text }
 {
     match text {
-        OptionalSpan::Absent => report::push(words, 0),
-        OptionalSpan::At(span) => push_text(report::push(words, 1), map, span),
+        None => report::push(words, 0),
+        Some(span) => push_text(report::push(words, 1), map, span),
     }
 }
 
@@ -42,21 +43,21 @@ pub fn push_box(words: Words, bounds: BoundingBox) -> Words
     push_position(push_position(words, bounds.min), bounds.max)
 }
 
-pub fn push_optional_position(words: Words, p: OptionalPosition) -> Words
+pub fn push_optional_position(words: Words, p: Option<Position>) -> Words
     ensures { result ≡ optional_position_pushed words p }
 {
     match p {
-        OptionalPosition::Absent => report::push(words, 0),
-        OptionalPosition::At(at) => push_position(report::push(words, 1), at),
+        None => report::push(words, 0),
+        Some(at) => push_position(report::push(words, 1), at),
     }
 }
 
-pub fn push_optional_byte(words: Words, b: OptionalByte) -> Words
+pub fn push_optional_byte(words: Words, b: Option<u8>) -> Words
     ensures { result ≡ optional_byte_pushed words b }
 {
     match b {
-        OptionalByte::Absent => report::push(words, 0),
-        OptionalByte::At(v) => report::push(report::push(words, 1), v as u64),
+        None => report::push(words, 0),
+        Some(v) => report::push(report::push(words, 1), u64::from(v)),
     }
 }
 
@@ -71,53 +72,56 @@ pub fn mix_tag(digest: u64, map: &[u8], span: Span) -> u64
 pub fn mix_interval(digest: u64, z: ZoomInterval) -> u64
     ensures { result ≡ interval_mixed digest z }
 {
-    let out = report::mix(digest, z.base_zoom_level as u64);
-    let out = report::mix(out, z.min_zoom_level as u64);
-    let out = report::mix(out, z.max_zoom_level as u64);
+    let out = report::mix(digest, u64::from(z.base_zoom_level));
+    let out = report::mix(out, u64::from(z.min_zoom_level));
+    let out = report::mix(out, u64::from(z.max_zoom_level));
     let out = report::mix(out, z.sub_file_start);
     report::mix(out, z.sub_file_size)
 }
 
-pub fn sub_file_words(got: SubFile) -> Words
-    ensures { result ≡ sub_file_words got }
+// 0 for none, and 1 in front of a number.
+fn number_words(number: Option<u64>) -> Words
+    ensures { result ≡ number_words number }
 {
-    match got {
-        SubFile::Absent => questions::one(0),
-        SubFile::At(k) => questions::two(1, k as u64),
+    match number {
+        None => questions::one(0),
+        Some(n) => questions::two(1, n),
     }
 }
 
-pub fn count_words(got: CountRead) -> Words
-    ensures { result ≡ count_words got }
+pub fn sub_file_words(got: Option<usize>) -> Words
+    ensures { result ≡ number_words got }
+{
+    number_words(got.map(|k| k as u64))
+}
+
+pub fn count_words(got: Result<Option<u32>, Refusal>) -> Words
+    ensures { result ≡ answer_words got }
 {
     match got {
-        CountRead::Absent => questions::one(0),
-        CountRead::Count(n) => questions::two(1, n as u64),
-        CountRead::Refused(r) => questions::refusal_words(r),
+        Ok(count) => number_words(count.map(u64::from)),
+        Err(r) => questions::refusal_words(r),
     }
 }
 
-pub fn index_words(got: IndexRead) -> Words
-    ensures { result ≡ index_words got }
+pub fn index_words(got: Result<Option<usize>, Refusal>) -> Words
+    ensures { result ≡ answer_words got }
 {
     match got {
-        IndexRead::Absent => questions::one(0),
-        IndexRead::At(n) => questions::two(1, n as u64),
-        IndexRead::Refused(r) => questions::refusal_words(r),
+        Ok(index) => number_words(index.map(|n| n as u64)),
+        Err(r) => questions::refusal_words(r),
     }
 }
 
-pub fn entry_words(got: EntryRead) -> Words
+pub fn entry_words(got: Result<TileIndexEntry, Refusal>) -> Words
     ensures { result ≡ entry_words got }
 {
     match got {
-        EntryRead::Entry(entry) => {
-            questions::three(
-                questions::flag(entry.is_water),
-                entry.offset,
-                entry.offset_abs,
-            )
-        }
-        EntryRead::Refused(r) => questions::refusal_words(r),
+        Ok(entry) => questions::three(
+            questions::flag(entry.is_water),
+            entry.offset,
+            entry.offset_abs,
+        ),
+        Err(r) => questions::refusal_words(r),
     }
 }

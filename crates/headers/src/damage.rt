@@ -1,12 +1,13 @@
 // Cut and damaged copies of the base map, opened.
 use crate::opened;
+use crate::opened::EMPTY;
 use report::Words;
 
 fn cut_words(map: &[u8], size: usize) -> Words {
-    if map.len() < size {
-        return report::no_words();
+    match map.get(..size) {
+        Some(cut) => opened::open_words(cut),
+        None => report::no_words(),
     }
-    opened::open_words(&map[..size])
 }
 
 pub(crate) fn one_cut(map: &[u8], question: &[u8]) -> Words {
@@ -15,11 +16,9 @@ pub(crate) fn one_cut(map: &[u8], question: &[u8]) -> Words {
 
 // Every length below the map's own.
 pub(crate) fn all_cuts(map: &[u8]) -> Words {
-    let mut digest = 14695981039346656037;
-    let mut size = 0;
-    while size < map.len() {
+    let mut digest = EMPTY;
+    for size in 0..map.len() {
         digest = report::mix_words(digest, cut_words(map, size));
-        size += 1;
     }
     questions::one(digest)
 }
@@ -28,7 +27,7 @@ pub(crate) fn one_damage(map: &[u8], question: &[u8]) -> Words {
     let mut copy = report::large();
     copies::put_front(&mut copy, map);
     let at = questions::word_at(question, 0) as usize;
-    if 1100000 <= at {
+    if copy.len() <= at {
         return report::no_words();
     }
     copy[at] = questions::byte_at(question, 4);
@@ -38,16 +37,11 @@ pub(crate) fn one_damage(map: &[u8], question: &[u8]) -> Words {
 // Three damages of each of the first 1500 bytes, one at a time; each is taken back.
 fn damages_of(copy: &mut [u8], map: &[u8]) -> u64 {
     copies::put_front(copy, map);
-    let mut digest = 14695981039346656037;
-    let mut n = 0;
-    while n < 4500 {
-        if map.len() <= n / 3 {
-            return digest;
-        }
+    let mut digest = EMPTY;
+    for n in 0..3 * map.len().min(1500) {
         copies::damage(copy, n);
         digest = report::mix_words(digest, cut_words(copy, map.len()));
         copies::damage(copy, n);
-        n += 1;
     }
     digest
 }

@@ -6,7 +6,7 @@ mod damage;
 mod opened;
 
 use byte_source::Span;
-use report::{RecordRead, Words};
+use report::{Record, Words};
 use std::io;
 use std::io::{BufWriter, Read, Write};
 
@@ -23,18 +23,13 @@ fn answer(letter: u8, map: &[u8], question: &[u8]) -> Words {
 }
 
 // The question is answered; the base map of the next one, which an M changes.
-fn next_base<W: Write>(
-    to: &mut W,
-    input: &[u8],
-    base: Span,
-    letter: u8,
-    span: Span,
-) -> io::Result<Span> {
-    let question = byte_source::span_bytes(input, span);
+// `indexes` has this function and the next too: a shared one were public, and had to state what it prints (tools/audit).
+fn next_base<W: Write>(to: &mut W, input: &[u8], base: Span, asked: Record) -> io::Result<Span> {
+    let question = byte_source::span_bytes(input, asked.question);
     let map = byte_source::span_bytes(input, base);
-    report::print_line(to, letter, answer(letter, map, question))?;
-    if letter == b'M' {
-        return Ok(span);
+    report::print_line(to, asked.letter, answer(asked.letter, map, question))?;
+    if asked.letter == b'M' {
+        return Ok(asked.question);
     }
     Ok(base)
 }
@@ -44,10 +39,10 @@ fn answer_all<W: Write>(to: &mut W, input: &[u8]) -> io::Result<()> {
     let mut base = Span { start: 0, size: 0 };
     let mut at = 0;
     for _ in 0..100000u32 {
-        let RecordRead::Asked(letter, span, next) = report::read_record(input, at) else {
+        let Ok((asked, next)) = report::read_record(input, at) else {
             return Ok(());
         };
-        base = next_base(to, input, base, letter, span)?;
+        base = next_base(to, input, base, asked)?;
         at = next;
     }
     Ok(())

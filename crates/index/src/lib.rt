@@ -9,45 +9,10 @@ ghost use Rattle.format.specs.Header.{between};
 ghost use Rattle.format.specs.Index.{holds_zoom, sub_file_for_zoom, width, grid_tiles, tile_count, in_grid, row_major, grid_index, tile_index_of, entry, entry_at, entry_asked, tile_index_entry};
 ghost use Rattle.types.specs.Types.{interval_of, intervals_of, grid_of};
 ghost use Rattle.index.specs.Asked.{Ordered, Inside};
-ghost use Rattle.index.specs.Answers.{sub_file_number, interval_found, grid_res, grid_refusal, count_res, index_res, held_res, entry_res, entry_refusal};
+ghost use Rattle.index.specs.Answers.{maybe, interval_found, answer_by, answer_res, held_res};
 
-use byte_source::NumberRead;
 use error::Refusal;
 use types::{Grid, MapHeader, ZoomInterval};
-
-// The number of a sub file, counted from 0.
-#[derive(Clone, Copy)]
-pub enum SubFile {
-    Absent,
-    At(usize),
-}
-
-#[derive(Clone, Copy)]
-pub enum IntervalRead {
-    Absent,
-    At(ZoomInterval),
-}
-
-// The number of a grid's tiles.
-#[derive(Clone, Copy)]
-pub enum GridRead {
-    Tiles(u64),
-    Refused(Refusal),
-}
-
-#[derive(Clone, Copy)]
-pub enum CountRead {
-    Absent,
-    Count(u32),
-    Refused(Refusal),
-}
-
-#[derive(Clone, Copy)]
-pub enum IndexRead {
-    Absent,
-    At(usize),
-    Refused(Refusal),
-}
 
 // An entry of the tile index: where the tile stands, from its sub file's start and from the map's (2^64 - 1 for any larger place).
 #[derive(Clone, Copy)]
@@ -57,64 +22,34 @@ pub struct TileIndexEntry {
     pub is_water: bool,
 }
 
-#[derive(Clone, Copy)]
-pub enum EntryRead {
-    Entry(TileIndexEntry),
-    Refused(Refusal),
-}
-
-// The refusal of an answer that is one (of any other, `Source`).
-pub fn grid_refusal(got: GridRead) -> Refusal
-    ensures { result ≡ grid_refusal got }
-{
-    match got {
-        GridRead::Refused(r) => r,
-        GridRead::Tiles(_) => Refusal::Source,
-    }
-}
-
-pub fn entry_refusal(got: EntryRead) -> Refusal
-    ensures { result ≡ entry_refusal got }
-{
-    match got {
-        EntryRead::Refused(r) => r,
-        EntryRead::Entry(_) => Refusal::Source,
-    }
-}
-
 // The zoom interval of a sub file: all that the calls below need to know of it.
-pub fn interval_of(header: MapHeader, sub_file: usize) -> IntervalRead
+pub fn interval_of(header: MapHeader, sub_file: usize) -> Option<ZoomInterval>
     ensures { interval_found result ≡ nth (intervals_of header) sub_file }
 {
     if header.num_zoom_intervals as usize <= sub_file {
-        return IntervalRead::Absent;
+        return None;
     }
-    IntervalRead::At(header.zoom_interval_configuration[sub_file])
+    Some(header.zoom_interval_configuration[sub_file])
 }
 
 // Whether a sub file has the zoom, by its interval.
 pub fn holds_zoom(interval: ZoomInterval, zoom: u8) -> bool
     ensures { result ≡ holds_zoom (interval_of interval) zoom }
 {
-    if zoom < interval.min_zoom_level {
-        return false;
-    }
-    zoom <= interval.max_zoom_level
+    interval.min_zoom_level <= zoom && zoom <= interval.max_zoom_level
 }
 
-// The first sub file whose interval holds the zoom.
-pub fn sub_file_for_zoom(header: MapHeader, zoom: u8) -> SubFile
-    ensures { sub_file_number result ≡ sub_file_for_zoom (intervals_of header) zoom }
+// The number of the first sub file whose interval holds the zoom.
+pub fn sub_file_for_zoom(header: MapHeader, zoom: u8) -> Option<usize>
+    ensures { maybe result ≡ sub_file_for_zoom (intervals_of header) zoom }
 {
     let n = header.num_zoom_intervals as usize;
-    let mut i: usize = 0;
-    while i < n {
+    for i in 0..n {
         if holds_zoom(header.zoom_interval_configuration[i], zoom) {
-            return SubFile::At(i);
+            return Some(i);
         }
-        i += 1;
     }
-    SubFile::Absent
+    None
 }
 
 fn at_most(a: i32, b: i32) -> bool
@@ -142,53 +77,45 @@ fn width_of(low: i32, high: i32) -> u64
 }
 
 // How many tiles a grid has. The product of two widths may pass 64 bits, so it is tested before it is made.
-pub fn grid_tiles(grid: Grid) -> GridRead
-    ensures { grid_res result ≡ grid_tiles (grid_of grid) }
+pub fn grid_tiles(grid: Grid) -> Result<u64, Refusal>
+    ensures { answer_res result ≡ grid_tiles (grid_of grid) }
 {
     let columns = width_of(grid.x_min, grid.x_max);
     let rows = width_of(grid.y_min, grid.y_max);
     if columns < 1 {
-        return GridRead::Refused(Refusal::InvalidGrid);
+        return Err(Refusal::InvalidGrid);
     }
     if rows < 1 {
-        return GridRead::Refused(Refusal::InvalidGrid);
+        return Err(Refusal::InvalidGrid);
     }
     if 4294967295 / columns < rows {
-        return GridRead::Refused(Refusal::InvalidGrid);
+        return Err(Refusal::InvalidGrid);
     }
-    GridRead::Tiles(columns * rows)
+    Ok(columns * rows)
 }
 
 // How many tiles, and so index entries, a sub file has.
-pub fn tile_count(found: IntervalRead, grid: Grid) -> CountRead
-    ensures { count_res result ≡ tile_count (interval_found found) (grid_of grid) }
+#[tactic(auto, using(crate::proofs::AnswerLaws::reads), unfolding(format::specs::Index::tile_count))]
+pub fn tile_count(found: Option<ZoomInterval>, grid: Grid) -> Result<Option<u32>, Refusal>
+    ensures { answer_by maybe result ≡ tile_count (interval_found found) (grid_of grid) }
 {
-    let IntervalRead::At(_) = found else {
-        return CountRead::Absent;
+    let Some(_) = found else {
+        return Ok(None);
     };
-    let got = grid_tiles(grid);
-    let GridRead::Tiles(tiles) = got else {
-        return CountRead::Refused(grid_refusal(got));
-    };
-    CountRead::Count(tiles as u32)
+    let tiles = grid_tiles(grid)?;
+    Ok(Some(tiles as u32))
 }
 
 fn in_range(low: i32, v: i32, high: i32) -> bool
     ensures { result ≡ between low high v }
 {
-    if !at_most(low, v) {
-        return false;
-    }
-    at_most(v, high)
+    at_most(low, v) && at_most(v, high)
 }
 
 fn in_grid(grid: Grid, x: i32, y: i32) -> bool
     ensures { result ≡ in_grid (grid_of grid) x y }
 {
-    if !in_range(grid.x_min, x, grid.x_max) {
-        return false;
-    }
-    in_range(grid.y_min, y, grid.y_max)
+    in_range(grid.x_min, x, grid.x_max) && in_range(grid.y_min, y, grid.y_max)
 }
 
 // Of a tile in the grid.
@@ -202,25 +129,29 @@ fn row_major(grid: Grid, x: i32, y: i32) -> usize
 }
 
 // The number of a tile in its grid, row by row.
-fn grid_index(grid: Grid, x: i32, y: i32) -> IndexRead
-    ensures { index_res result ≡ grid_index (grid_of grid) x y }
+#[tactic(auto, using(crate::proofs::AnswerLaws::reads), unfolding(format::specs::Index::grid_index))]
+fn grid_index(grid: Grid, x: i32, y: i32) -> Result<Option<usize>, Refusal>
+    ensures { answer_by maybe result ≡ grid_index (grid_of grid) x y }
 {
-    let got = grid_tiles(grid);
-    let GridRead::Tiles(_) = got else {
-        return IndexRead::Refused(grid_refusal(got));
-    };
+    grid_tiles(grid)?;
     if !in_grid(grid, x, y) {
-        return IndexRead::Absent;
+        return Ok(None);
     }
-    IndexRead::At(row_major(grid, x, y))
+    Ok(Some(row_major(grid, x, y)))
 }
 
 // The number of the tile x, y in its sub file.
-pub fn tile_index_of(found: IntervalRead, grid: Grid, x: i32, y: i32) -> IndexRead
-    ensures { index_res result ≡ tile_index_of (interval_found found) (grid_of grid) x y }
+#[tactic(auto, using(crate::proofs::AnswerLaws::reads), unfolding(format::specs::Index::tile_index_of))]
+pub fn tile_index_of(
+    found: Option<ZoomInterval>,
+    grid: Grid,
+    x: i32,
+    y: i32,
+) -> Result<Option<usize>, Refusal>
+    ensures { answer_by maybe result ≡ tile_index_of (interval_found found) (grid_of grid) x y }
 {
-    let IntervalRead::At(_) = found else {
-        return IndexRead::Absent;
+    let Some(_) = found else {
+        return Ok(None);
     };
     grid_index(grid, x, y)
 }
@@ -245,16 +176,13 @@ fn entry_place(debug: bool, start: u64, tile: usize) -> usize
 }
 
 // The top bit is water, the other 39 bits are the offset.
-fn read_entry(map: &[u8], start: u64, at: usize) -> EntryRead
-    ensures { entry_res result ≡ held_res (entry start map.now at) }
+fn read_entry(map: &[u8], start: u64, at: usize) -> Result<TileIndexEntry, Refusal>
+    ensures { answer_res result ≡ held_res (entry start map.now at) }
 {
-    let got = byte_source::read_u40_be(map, at);
-    let NumberRead::Value(n, _) = got else {
-        return EntryRead::Refused(error::in_index(byte_source::number_refusal(got), at as u64));
-    };
+    let (n, _) = byte_source::read_u40_be(map, at).map_err(|r| error::in_index(r, at as u64))?;
     let offset = n % 549755813888;
     let absolute = arithmetic::saturating_add_usize(start as usize, offset as usize);
-    EntryRead::Entry(TileIndexEntry {
+    Ok(TileIndexEntry {
         is_water: 549755813888 <= n,
         offset,
         offset_abs: absolute as u64,
@@ -262,38 +190,43 @@ fn read_entry(map: &[u8], start: u64, at: usize) -> EntryRead
 }
 
 // The entry with this number in the sub file with this start, whatever tiles there are.
-pub fn entry_at(map: &[u8], debug: bool, start: u64, tile: u32) -> EntryRead
-    ensures { entry_res result ≡ held_res (entry start map.now (entry_at debug start tile)) }
+pub fn entry_at(map: &[u8], debug: bool, start: u64, tile: u32) -> Result<TileIndexEntry, Refusal>
+    ensures { answer_res result ≡ held_res (entry start map.now (entry_at debug start tile)) }
 {
     read_entry(map, start, entry_place(debug, start, tile as usize))
 }
 
 // The entry of a tile of the sub file with this start.
-pub fn entry_in(map: &[u8], debug: bool, start: u64, grid: Grid, tile: usize) -> EntryRead
-    ensures { entry_res result ≡ held_res (entry_asked debug start (grid_of grid) tile map.now) }
+#[tactic(auto, using(crate::proofs::AnswerLaws::reads), unfolding(format::specs::Index::entry_asked))]
+pub fn entry_in(
+    map: &[u8],
+    debug: bool,
+    start: u64,
+    grid: Grid,
+    tile: usize,
+) -> Result<TileIndexEntry, Refusal>
+    ensures { answer_res result ≡ held_res (entry_asked debug start (grid_of grid) tile map.now) }
 {
-    let got = grid_tiles(grid);
-    let GridRead::Tiles(tiles) = got else {
-        return EntryRead::Refused(grid_refusal(got));
-    };
+    let tiles = grid_tiles(grid)?;
     if tiles <= tile as u64 {
-        return EntryRead::Refused(Refusal::InvalidTileIndex);
+        return Err(Refusal::InvalidTileIndex);
     }
     entry_at(map, debug, start, tile as u32)
 }
 
 // The entry of a tile. Refused in this order: sub file (8), grid (14), tile (8), the map's end (19).
+#[tactic(auto, using(crate::proofs::AnswerLaws::reads), unfolding(format::specs::Index::tile_index_entry))]
 pub fn tile_index_entry(
     map: &[u8],
     debug: bool,
-    found: IntervalRead,
+    found: Option<ZoomInterval>,
     grid: Grid,
     tile: usize,
-) -> EntryRead
-    ensures { entry_res result ≡ held_res (tile_index_entry debug (interval_found found) (grid_of grid) tile map.now) }
+) -> Result<TileIndexEntry, Refusal>
+    ensures { answer_res result ≡ held_res (tile_index_entry debug (interval_found found) (grid_of grid) tile map.now) }
 {
-    let IntervalRead::At(interval) = found else {
-        return EntryRead::Refused(Refusal::InvalidTileIndex);
+    let Some(interval) = found else {
+        return Err(Refusal::InvalidTileIndex);
     };
     entry_in(map, debug, interval.sub_file_start, grid, tile)
 }

@@ -4,17 +4,15 @@
 
 ghost use Rattle.std.specs.Prelude.{◌≡◌, [], ◌∷◌};
 ghost use Rattle.wire.specs.Wire.{wire, lending};
-ghost use Rattle.index_wire.specs.Index.{put_found, put_absent, count_wire, index_wire, sub_file_wire, interval_wire, interval_in, entry_wire, kind_word, tag_wire, text_wire, column_wire, longitude_wire, put_sizes, way_data_wire, data_written_wire};
+ghost use Rattle.index_wire.specs.Index.{put_found, put_absent, number_wire, interval_wire, interval_in, entry_wire, kind_word, tag_wire, text_wire, column_wire, longitude_wire, put_sizes, way_data_wire, data_written_wire};
 
-use byte_source::SpanRead;
-use column::{ColumnRead, LongitudeRead};
-use index::{CountRead, EntryRead, IndexRead, IntervalRead};
+use byte_source::{Read, Span};
+use error::{LentRefusal, Refusal};
+use index::TileIndexEntry;
 use tag::Kind;
-use text::Written;
 use types::ZoomInterval;
-use way_data::WayDataWritten;
-use way_measure::{Sizes, WayDataRead};
-use zoom_intervals::{IntervalAnswer, SubFileAnswer};
+use utils::Degrees;
+use way_measure::Sizes;
 
 // A number that may be absent: 1 and the number,
 fn put_found(number: u64, words: &mut [u64; 8]) -> u64
@@ -33,46 +31,47 @@ fn put_absent(words: &mut [u64; 8]) -> u64
     0
 }
 
-pub fn put_count(got: CountRead, words: &mut [u64; 8]) -> u64
-    ensures { wire result (words.new ∷ []) [] [] ≡ count_wire (lending (words.old ∷ []) [] []) got }
+// Beside put_index: of u32 and usize no conversion to words is common that a generic function could call.
+pub fn put_count(got: Result<Option<u32>, Refusal>, words: &mut [u64; 8]) -> u64
+    ensures { wire result (words.new ∷ []) [] [] ≡ number_wire (lending (words.old ∷ []) [] []) got }
 {
     match got {
-        CountRead::Absent => put_absent(words),
-        CountRead::Count(n) => put_found(n as u64, words),
-        CountRead::Refused(r) => wire::put_refusal(r, words),
+        Ok(None) => put_absent(words),
+        Ok(Some(n)) => put_found(u64::from(n), words),
+        Err(r) => wire::put_refusal(r, words),
     }
 }
 
-pub fn put_index(got: IndexRead, words: &mut [u64; 8]) -> u64
-    ensures { wire result (words.new ∷ []) [] [] ≡ index_wire (lending (words.old ∷ []) [] []) got }
+pub fn put_index(got: Result<Option<usize>, Refusal>, words: &mut [u64; 8]) -> u64
+    ensures { wire result (words.new ∷ []) [] [] ≡ number_wire (lending (words.old ∷ []) [] []) got }
 {
     match got {
-        IndexRead::Absent => put_absent(words),
-        IndexRead::At(n) => put_found(n as u64, words),
-        IndexRead::Refused(r) => wire::put_refusal(r, words),
+        Ok(None) => put_absent(words),
+        Ok(Some(n)) => put_found(n as u64, words),
+        Err(r) => wire::put_refusal(r, words),
     }
 }
 
-pub fn put_sub_file(got: SubFileAnswer, words: &mut [u64; 8]) -> u64
-    ensures { wire result (words.new ∷ []) [] [] ≡ sub_file_wire (lending (words.old ∷ []) [] []) got }
+pub fn put_sub_file(got: Result<Option<usize>, Refusal>, words: &mut [u64; 8]) -> u64
+    ensures { wire result (words.new ∷ []) [] [] ≡ number_wire (lending (words.old ∷ []) [] []) got }
 {
-    match got {
-        SubFileAnswer::Absent => put_absent(words),
-        SubFileAnswer::At(n) => put_found(n as u64, words),
-        SubFileAnswer::Refused(r) => wire::put_refusal(r, words),
-    }
+    put_index(got, words)
 }
 
 // A sub file's interval, as other calls take it; of a missing one only the mark that there is none.
-pub fn put_interval(got: IntervalAnswer, words: &mut [u64; 6], interval: &mut [u64; 6]) -> u64
+pub fn put_interval(
+    got: Result<Option<ZoomInterval>, Refusal>,
+    words: &mut [u64; 6],
+    interval: &mut [u64; 6],
+) -> u64
     ensures { wire result (words.new ∷ interval.new ∷ []) [] [] ≡ interval_wire (lending (words.old ∷ interval.old ∷ []) [] []) got }
 {
     match got {
-        IntervalAnswer::Absent => {
+        Ok(None) => {
             interval[0] = 0;
             0
         }
-        IntervalAnswer::At(z) => {
+        Ok(Some(z)) => {
             interval[0] = 1;
             interval[1] = z.base_zoom_level as u64;
             interval[2] = z.min_zoom_level as u64;
@@ -81,15 +80,15 @@ pub fn put_interval(got: IntervalAnswer, words: &mut [u64; 6], interval: &mut [u
             interval[5] = z.sub_file_size;
             0
         }
-        IntervalAnswer::Refused(r) => wire::put_refusal(r, words),
+        Err(r) => wire::put_refusal(r, words),
     }
 }
 
-pub fn interval_in(words: [u64; 6]) -> IntervalRead
+pub fn interval_in(words: [u64; 6]) -> Option<ZoomInterval>
     ensures { result ≡ interval_in words }
 {
     if 0 < words[0] {
-        return IntervalRead::At(ZoomInterval {
+        return Some(ZoomInterval {
             base_zoom_level: (words[1] % 256) as u8,
             min_zoom_level: (words[2] % 256) as u8,
             max_zoom_level: (words[3] % 256) as u8,
@@ -97,22 +96,22 @@ pub fn interval_in(words: [u64; 6]) -> IntervalRead
             sub_file_size: words[5],
         });
     }
-    IntervalRead::Absent
+    None
 }
 
 // Whether a tile is water, and where it stands, from the sub file's start and from the map's.
-pub fn put_entry(got: EntryRead, words: &mut [u64; 9]) -> u64
+pub fn put_entry(got: Result<TileIndexEntry, Refusal>, words: &mut [u64; 9]) -> u64
     ensures { wire result (words.new ∷ []) [] [] ≡ entry_wire (lending (words.old ∷ []) [] []) got }
 {
     match got {
-        EntryRead::Entry(e) => {
+        Ok(e) => {
             let water = wire::bit(e.is_water);
             words[6] = water;
             words[7] = e.offset;
             words[8] = e.offset_abs;
             0
         }
-        EntryRead::Refused(r) => wire::put_refusal(r, words),
+        Err(r) => wire::put_refusal(r, words),
     }
 }
 
@@ -131,11 +130,11 @@ fn kind_word(kind: Kind) -> u64
 }
 
 // Where a tag's text stands, the place behind it, and the kind of its inline value; without a text there is no kind to tell.
-pub fn put_tag(got: SpanRead, kind: Kind, words: &mut [u64; 10]) -> u64
+pub fn put_tag(got: Read<Span>, kind: Kind, words: &mut [u64; 10]) -> u64
     ensures { wire result (words.new ∷ []) [] [] ≡ tag_wire (lending (words.old ∷ []) [] []) (record { text = got; kind = kind }) }
 {
     match got {
-        SpanRead::Value(span, end) => {
+        Ok((span, end)) => {
             let letter = kind_word(kind);
             words[6] = span.start as u64;
             words[7] = span.size as u64;
@@ -143,45 +142,49 @@ pub fn put_tag(got: SpanRead, kind: Kind, words: &mut [u64; 10]) -> u64
             words[9] = letter;
             0
         }
-        SpanRead::Refused(r) => wire::put_refusal(r, words),
+        Err(r) => wire::put_refusal(r, words),
     }
 }
 
 // How many bytes of a text were written.
-pub fn put_text(got: Written, words: &mut [u64; 7]) -> u64
+pub fn put_text(got: Result<usize, LentRefusal>, words: &mut [u64; 7]) -> u64
     ensures { wire result (words.new ∷ []) [] [] ≡ text_wire (lending (words.old ∷ []) [] []) got }
 {
     match got {
-        Written::Upto(n) => {
+        Ok(n) => {
             words[6] = n as u64;
             0
         }
-        Written::Refused(r) => wire::put_lent_refusal(r, words),
+        Err(r) => wire::put_lent_refusal(r, words),
     }
 }
 
-pub fn put_column(got: ColumnRead, words: &mut [u64; 6], column: &mut [i64; 1]) -> u64
+pub fn put_column(got: Result<i32, Refusal>, words: &mut [u64; 6], column: &mut [i64; 1]) -> u64
     ensures { wire result (words.new ∷ []) column.new [] ≡ column_wire (lending (words.old ∷ []) column.old []) got }
 {
     match got {
-        ColumnRead::Value(x) => {
+        Ok(x) => {
             let found = wire::wide_i32(x);
             column[0] = found;
             0
         }
-        ColumnRead::Refused(r) => wire::put_refusal(r, words),
+        Err(r) => wire::put_refusal(r, words),
     }
 }
 
-pub fn put_longitude(got: LongitudeRead, words: &mut [u64; 6], longitude: &mut [f64; 1]) -> u64
+pub fn put_longitude(
+    got: Result<Degrees, Refusal>,
+    words: &mut [u64; 6],
+    longitude: &mut [f64; 1],
+) -> u64
     ensures { wire result (words.new ∷ []) [] longitude.new ≡ longitude_wire (lending (words.old ∷ []) [] longitude.old) got }
 {
     match got {
-        LongitudeRead::Value(d) => {
+        Ok(d) => {
             longitude[0] = d.0;
             0
         }
-        LongitudeRead::Refused(r) => wire::put_refusal(r, words),
+        Err(r) => wire::put_refusal(r, words),
     }
 }
 
@@ -197,21 +200,21 @@ fn put_sizes(sizes: Sizes, end: usize, words: &mut [u64; 10]) -> u64
     0
 }
 
-pub fn put_way_data(got: WayDataRead, words: &mut [u64; 10]) -> u64
+pub fn put_way_data(got: Read<Sizes>, words: &mut [u64; 10]) -> u64
     ensures { wire result (words.new ∷ []) [] [] ≡ way_data_wire (lending (words.old ∷ []) [] []) got }
 {
     match got {
-        WayDataRead::Value(s, end) => put_sizes(s, end, words),
-        WayDataRead::Refused(r) => wire::put_refusal(r, words),
+        Ok((s, end)) => put_sizes(s, end, words),
+        Err(r) => wire::put_refusal(r, words),
     }
 }
 
 // The same of data that was written.
-pub fn put_data_written(got: WayDataWritten, words: &mut [u64; 10]) -> u64
+pub fn put_data_written(got: Result<(Sizes, usize), LentRefusal>, words: &mut [u64; 10]) -> u64
     ensures { wire result (words.new ∷ []) [] [] ≡ data_written_wire (lending (words.old ∷ []) [] []) got }
 {
     match got {
-        WayDataWritten::Value(s, end) => put_sizes(s, end, words),
-        WayDataWritten::Refused(r) => wire::put_lent_refusal(r, words),
+        Ok((s, end)) => put_sizes(s, end, words),
+        Err(r) => wire::put_lent_refusal(r, words),
     }
 }

@@ -1,8 +1,7 @@
 // The index of the base map.
-use byte_source::SpanRead;
-use index::IntervalRead;
+use byte_source::Span;
 use report::Words;
-use types::{Grid, MapHeader, TagTable};
+use types::{Grid, MapHeader, TagTable, ZoomInterval};
 
 fn grid_at(question: &[u8]) -> Grid {
     Grid {
@@ -18,18 +17,27 @@ fn tag_number(question: &[u8]) -> usize {
     questions::byte_at(question, 0) as usize * 256 + questions::byte_at(question, 1) as usize
 }
 
-fn tag_words(map: &[u8], table: TagTable, k: usize) -> Words {
-    let got = tag_table::tag_text(map, table, k);
-    let SpanRead::Value(span, _) = got else {
-        return questions::refusal_words(byte_source::span_refusal(got));
-    };
+fn text_words(map: &[u8], span: Span) -> Words {
     let words = header_words::push_text(questions::zero(), map, span);
     let kind = tag::inline_value_kind(byte_source::span_bytes(map, span));
     report::push(words, questions::letter_of(kind))
 }
 
+fn tag_words(map: &[u8], table: TagTable, k: usize) -> Words {
+    match tag_table::tag_text(map, table, k) {
+        Ok((span, _)) => text_words(map, span),
+        Err(r) => questions::refusal_words(r),
+    }
+}
+
 // Of a sub file with this interval.
-fn grid_answer(letter: u8, map: &[u8], debug: bool, found: IntervalRead, question: &[u8]) -> Words {
+fn grid_answer(
+    letter: u8,
+    map: &[u8],
+    debug: bool,
+    found: Option<ZoomInterval>,
+    question: &[u8],
+) -> Words {
     let grid = grid_at(question);
     match letter {
         b'n' => header_words::count_words(index::tile_count(found, grid)),

@@ -1,10 +1,9 @@
 // Columns and longitudes.
-use column::{ColumnRead, LongitudeRead};
 use report::Words;
 use utils::Degrees;
 
 fn signed_words(x: i32) -> Words {
-    let v = x as i64;
+    let v = i64::from(x);
     questions::two(report::sign(v), report::magnitude(v))
 }
 
@@ -12,8 +11,8 @@ fn signed_words(x: i32) -> Words {
 pub(crate) fn column_words(question: &[u8]) -> Words {
     let degrees = Degrees(report::float_of(questions::number_at(question, 0)));
     match column::tile_column(degrees, questions::byte_at(question, 8)) {
-        ColumnRead::Value(x) => signed_words(x),
-        ColumnRead::Refused(r) => questions::refusal_words(r),
+        Ok(x) => signed_words(x),
+        Err(r) => questions::refusal_words(r),
     }
 }
 
@@ -22,7 +21,7 @@ pub(crate) fn longitude_words(question: &[u8]) -> Words {
         questions::word_at(question, 0),
         questions::byte_at(question, 4),
     ) {
-        LongitudeRead::Value(degrees) => questions::one(report::float_bits(degrees.0)),
-        LongitudeRead::Refused(r) => questions::refusal_words(r),
+        Ok(degrees) => questions::one(report::float_bits(degrees.0)),
+        Err(r) => questions::refusal_words(r),
     }
 }

@@ -7,15 +7,11 @@ use std::alloc::Global;
 use std::fs::File;
 use std::io::{BufWriter, Read, Write};
 use std::{env, io};
-use types::End;
 
 fn show_map<W: Write>(to: &mut W, map: &[u8]) -> io::Result<()> {
-    let opened = opening::from_source(map);
-    let end = opened.end;
-    let header = opened.header;
-    match end {
-        End::At(at) => show::header(to, map, header, at),
-        End::Refused(r) => show::refusal(to, r),
+    match opening::from_source(map) {
+        Ok((header, at)) => show::header(to, map, header, at),
+        Err(r) => show::refusal(to, r),
     }
 }
 

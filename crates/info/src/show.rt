@@ -1,12 +1,9 @@
 // A header in words, a line for each field.
-use byte_source::{Span, SpanRead};
+use byte_source::Span;
 use error::Refusal;
 use std::io;
 use std::io::Write;
-use types::{
-    BoundingBox, MapHeader, OptionalByte, OptionalPosition, OptionalSpan, Position, TagTable,
-    ZoomInterval,
-};
+use types::{BoundingBox, MapHeader, Position, TagTable, ZoomInterval};
 
 // How a header reads is for its reader to judge, so none of these functions has a contract.
 fn number<W: Write>(to: &mut W, label: &str, value: u64) -> io::Result<()> {
@@ -32,9 +29,9 @@ fn optional_text<W: Write>(
     to: &mut W,
     label: &str,
     map: &[u8],
-    value: OptionalSpan,
+    value: Option<Span>,
 ) -> io::Result<()> {
-    if let OptionalSpan::At(span) = value {
+    if let Some(span) = value {
         text(to, label, map, span)?;
     }
     Ok(())
@@ -62,10 +59,8 @@ fn degrees<W: Write>(to: &mut W, x: f64) -> io::Result<()> {
 
 fn size<W: Write>(to: &mut W, x: f64) -> io::Result<()> {
     let micro = x * 1000000.0 + 0.5;
-    if micro > -1.0 {
-        if micro < 18446744073709551616.0 {
-            return microdegrees(to, std::num::truncating_f64_to_u64(micro));
-        }
+    if micro > -1.0 && micro < 18446744073709551616.0 {
+        return microdegrees(to, std::num::truncating_f64_to_u64(micro));
     }
     Ok(())
 }
@@ -78,16 +73,16 @@ fn position<W: Write>(to: &mut W, label: &str, p: Position) -> io::Result<()> {
     to.write_all(b"\n")
 }
 
-fn optional_position<W: Write>(to: &mut W, label: &str, value: OptionalPosition) -> io::Result<()> {
-    if let OptionalPosition::At(p) = value {
+fn optional_position<W: Write>(to: &mut W, label: &str, value: Option<Position>) -> io::Result<()> {
+    if let Some(p) = value {
         position(to, label, p)?;
     }
     Ok(())
 }
 
-fn optional_byte<W: Write>(to: &mut W, label: &str, value: OptionalByte) -> io::Result<()> {
-    if let OptionalByte::At(b) = value {
-        number(to, label, b as u64)?;
+fn optional_byte<W: Write>(to: &mut W, label: &str, value: Option<u8>) -> io::Result<()> {
+    if let Some(b) = value {
+        number(to, label, u64::from(b))?;
     }
     Ok(())
 }
@@ -97,7 +92,7 @@ fn tags<W: Write>(to: &mut W, label: &str, map: &[u8], table: TagTable) -> io::R
     number(to, label, table.count as u64)?;
     let mut at = table.start;
     for i in 0..table.count {
-        let SpanRead::Value(span, next) = utils::read_vbe_u(map, at) else {
+        let Ok((span, next)) = utils::read_vbe_u(map, at) else {
             return Ok(());
         };
         write!(to, "  {i}")?;
@@ -121,8 +116,8 @@ fn interval<W: Write>(to: &mut W, k: usize, z: ZoomInterval) -> io::Result<()> {
 
 fn intervals<W: Write>(to: &mut W, h: MapHeader) -> io::Result<()> {
     let count = h.num_zoom_intervals as usize;
-    for i in 0..count {
-        interval(to, i, h.zoom_interval_configuration[i])?;
+    for (k, &z) in h.zoom_interval_configuration[..count].iter().enumerate() {
+        interval(to, k, z)?;
     }
     Ok(())
 }
@@ -133,26 +128,21 @@ fn bounds<W: Write>(to: &mut W, b: BoundingBox) -> io::Result<()> {
 }
 
 fn front<W: Write>(to: &mut W, map: &[u8], h: MapHeader) -> io::Result<()> {
-    number(to, "version: ", h.file_version as u64)?;
+    number(to, "version: ", u64::from(h.file_version))?;
     number(to, "file size: ", h.file_size)?;
     number(to, "created, in milliseconds since 1970: ", h.creation_date)?;
     bounds(to, h.bounding_box)?;
-    number(to, "tile size: ", h.tile_size as u64)?;
+    number(to, "tile size: ", u64::from(h.tile_size))?;
     text(to, "projection: ", map, h.projection)?;
-    number(to, "flags: ", h.flags as u64)
+    number(to, "flags: ", u64::from(h.flags))
 }
 
 fn options<W: Write>(to: &mut W, map: &[u8], h: MapHeader) -> io::Result<()> {
-    let start = h.map_start_position;
-    let zoom = h.start_zoom_level;
-    let language = h.language_preference;
-    let comment = h.comment;
-    let author = h.created_by;
-    optional_position(to, "start position: ", start)?;
-    optional_byte(to, "start zoom: ", zoom)?;
-    optional_text(to, "language: ", map, language)?;
-    optional_text(to, "comment: ", map, comment)?;
-    optional_text(to, "created by: ", map, author)
+    optional_position(to, "start position: ", h.map_start_position)?;
+    optional_byte(to, "start zoom: ", h.start_zoom_level)?;
+    optional_text(to, "language: ", map, h.language_preference)?;
+    optional_text(to, "comment: ", map, h.comment)?;
+    optional_text(to, "created by: ", map, h.created_by)
 }
 
 // The whole header, which ends at `end`.

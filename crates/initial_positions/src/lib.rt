@@ -1,30 +1,17 @@
 // way.rs: the initial positions of a way's blocks, from the node counts and the coordinates that were read.
 #![tactic(auto)]
 
-ghost use Rattle.std.specs.Prelude.{◌≡◌, ◌+◌, ◌≤◌, min, drop};
+ghost use Rattle.std.specs.Prelude.{◌≡◌, drop};
 ghost use Rattle.initial_positions.specs.Initial.{first_of, write_initials};
 
 // The first of the n values from pos on.
 fn first_of(values: &[f64], pos: usize, n: u64) -> f64
     ensures { result ≡ first_of n (drop pos values.now) }
 {
-    if n < 1 {
-        return 0.0;
-    }
-    if values.len() <= pos {
+    if n < 1 || values.len() <= pos {
         return 0.0;
     }
     values[pos]
-}
-
-fn past(pos: usize, n: u64, len: usize) -> usize
-    requires { pos ≤ len }
-    ensures { result ≡ min (pos + n) len }
-{
-    if ((len - pos) as u64) < n {
-        return len;
-    }
-    pos + n as usize
 }
 
 // Writes the first coordinate of each block to the front of a list, if it is long enough for all.
@@ -34,12 +21,9 @@ pub fn write_initials(node_counts: &[u64], values: &[f64], initials: &mut [f64])
     if initials.len() < node_counts.len() {
         return;
     }
-    let mut i = 0;
     let mut pos = 0;
-    while i < node_counts.len() {
-        let n = node_counts[i];
+    for (i, &n) in node_counts.iter().enumerate() {
         initials[i] = first_of(values, pos, n);
-        pos = past(pos, n, values.len());
-        i += 1;
+        pos += (n as usize).min(values.len() - pos);
     }
 }

@@ -1,63 +1,37 @@
 // The answer of each leaf as words.
-use byte_source::{ByteRead, IntRead, NumberRead, ShortRead, Span, SpanRead, WordRead};
+use byte_source::{Read, Span};
+use error::Refusal;
 use report::Words;
 use tag::{Kind, Tag};
-use utils::{MicroRead, SignedRead, TextRead};
 
-fn byte(got: ByteRead) -> Words {
-    match got {
-        ByteRead::Value(v, at) => questions::two(v as u64, at as u64),
-        ByteRead::Refused(r) => questions::refusal_words(r),
-    }
+// A digest of nothing.
+pub(crate) const EMPTY: u64 = 14695981039346656037;
+
+// A number, and the place behind it.
+fn number<T: Into<u64>>(got: Read<T>) -> Result<Words, Refusal> {
+    let (v, at) = got?;
+    Ok(questions::two(v.into(), at as u64))
 }
 
-fn short(got: ShortRead) -> Words {
-    match got {
-        ShortRead::Value(v, at) => questions::two(v as u64, at as u64),
-        ShortRead::Refused(r) => questions::refusal_words(r),
-    }
-}
-
-fn word(got: WordRead) -> Words {
-    match got {
-        WordRead::Value(v, at) => questions::two(v as u64, at as u64),
-        WordRead::Refused(r) => questions::refusal_words(r),
-    }
-}
-
-fn number(got: NumberRead) -> Words {
-    match got {
-        NumberRead::Value(v, at) => questions::two(v, at as u64),
-        NumberRead::Refused(r) => questions::refusal_words(r),
-    }
-}
-
-// 1 if it is negative, and its magnitude.
+// 1 if it is negative, its magnitude, and the place behind it.
 fn with_sign(v: i64, at: usize) -> Words {
     questions::three(report::sign(v), report::magnitude(v), at as u64)
 }
 
-fn int(got: IntRead) -> Words {
-    match got {
-        IntRead::Value(v, at) => with_sign(v as i64, at),
-        IntRead::Refused(r) => questions::refusal_words(r),
-    }
+fn int(map: &[u8]) -> Result<Words, Refusal> {
+    let (v, at) = byte_source::read_i32_be(map, 0)?;
+    Ok(with_sign(i64::from(v), at))
 }
 
-fn signed(got: SignedRead) -> Words {
-    match got {
-        SignedRead::Value(v, at) => with_sign(v.value, at),
-        SignedRead::Refused(r) => questions::refusal_words(r),
-    }
+fn signed(map: &[u8]) -> Result<Words, Refusal> {
+    let (v, at) = utils::read_vbe_s_int(map, 0)?;
+    Ok(with_sign(v.value, at))
 }
 
-fn micro(got: MicroRead) -> Words {
-    let MicroRead::Value(coordinate, at) = got else {
-        return questions::refusal_words(utils::micro_refusal(got));
-    };
-    let m = coordinate.value;
-    let degrees = utils::microdegrees_to_degrees(m);
-    questions::two(report::float_bits(degrees.0), at as u64)
+fn micro(map: &[u8]) -> Result<Words, Refusal> {
+    let (coordinate, at) = utils::read_microdegrees(map, 0)?;
+    let degrees = utils::microdegrees_to_degrees(coordinate.value);
+    Ok(questions::two(report::float_bits(degrees.0), at as u64))
 }
 
 fn stored_text(map: &[u8], span: Span, at: usize) -> Words {
@@ -68,16 +42,13 @@ fn stored_text(map: &[u8], span: Span, at: usize) -> Words {
         questions::flag(text::utf8_valid(bytes)),
     );
     let words = report::push(words, text::replaced_len(bytes) as u64);
-    let words = report::push(words, report::mix_text(14695981039346656037, bytes));
+    let words = report::push(words, report::mix_text(EMPTY, bytes));
     report::push(words, at as u64)
 }
 
-pub(crate) fn text_at_start(map: &[u8]) -> Words {
-    let got = utils::read_vbe_u(map, 0);
-    let SpanRead::Value(span, at) = got else {
-        return questions::refusal_words(byte_source::span_refusal(got));
-    };
-    stored_text(map, span, at)
+fn text_at_start(map: &[u8]) -> Result<Words, Refusal> {
+    let (span, at) = utils::read_vbe_u(map, 0)?;
+    Ok(stored_text(map, span, at))
 }
 
 fn parsed(t: Tag) -> Words {
@@ -87,51 +58,47 @@ fn parsed(t: Tag) -> Words {
 
 fn kind_of(letter: u8) -> Kind {
     match letter {
-        98 => Kind::Byte,
-        104 => Kind::Short,
-        105 => Kind::Int,
-        102 => Kind::Float,
-        115 => Kind::Text,
+        b'b' => Kind::Byte,
+        b'h' => Kind::Short,
+        b'i' => Kind::Int,
+        b'f' => Kind::Float,
+        b's' => Kind::Text,
         _ => Kind::Nothing,
     }
 }
 
 // The first byte of the input is the letter, and the rest is the map.
-fn value(input: &[u8]) -> Words {
-    if input.len() < 1 {
-        return report::no_words();
-    }
-    let letter = input[0];
-    let got = tag::skip_inline_value(&input[1..], 0, kind_of(letter));
-    let TextRead::Value(stored, at) = got else {
-        return questions::refusal_words(utils::text_refusal(got));
+fn value(input: &[u8]) -> Result<Words, Refusal> {
+    let Some((&letter, map)) = input.split_first() else {
+        return Ok(report::no_words());
     };
-    let span = stored.span;
-    questions::three(span.start as u64, span.size as u64, at as u64)
+    let (stored, at) = tag::skip_inline_value(map, 0, kind_of(letter))?;
+    let span = stored.value;
+    Ok(questions::three(span.start as u64, span.size as u64, at as u64))
 }
 
-fn text_answer(letter: u8, input: &[u8]) -> Words {
+fn read(letter: u8, input: &[u8]) -> Result<Words, Refusal> {
     match letter {
+        b'a' => number(byte_source::read_u8(input, 0)),
+        b'b' => number(byte_source::read_u16_be(input, 0)),
+        b'c' => int(input),
+        b'd' => number(byte_source::read_u32_be(input, 0)),
+        b'e' => number(byte_source::read_u64_be(input, 0)),
+        b'u' => number(utils::read_number(input, 0)),
+        b's' => signed(input),
+        b'm' => micro(input),
         b't' => text_at_start(input),
-        b'h' => questions::one(text::hash_tag_parameter(input)),
-        b'g' => parsed(tag::parse_tag(input)),
-        b'k' => questions::one(questions::letter_of(tag::inline_value_kind(input))),
         b'v' => value(input),
-        _ => report::no_words(),
+        _ => Ok(report::no_words()),
     }
 }
 
 // The answer to a letter, for a map that is the input, read at its start.
 pub(crate) fn answer(letter: u8, input: &[u8]) -> Words {
     match letter {
-        b'a' => byte(byte_source::read_u8(input, 0)),
-        b'b' => short(byte_source::read_u16_be(input, 0)),
-        b'c' => int(byte_source::read_i32_be(input, 0)),
-        b'd' => word(byte_source::read_u32_be(input, 0)),
-        b'e' => number(byte_source::read_u64_be(input, 0)),
-        b'u' => number(utils::read_number(input, 0)),
-        b's' => signed(utils::read_vbe_s_int(input, 0)),
-        b'm' => micro(utils::read_microdegrees(input, 0)),
-        _ => text_answer(letter, input),
+        b'h' => questions::one(text::hash_tag_parameter(input)),
+        b'g' => parsed(tag::parse_tag(input)),
+        b'k' => questions::one(questions::letter_of(tag::inline_value_kind(input))),
+        _ => read(letter, input).unwrap_or_else(questions::refusal_words),
     }
 }

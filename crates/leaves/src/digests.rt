@@ -1,17 +1,18 @@
 // Digests of the answers to every short input, a line for each first byte.
 use crate::answers;
+use crate::answers::EMPTY;
 use std::io;
 use std::io::Write;
 
 fn print_digest<W: Write>(to: &mut W, letter: u8, first: u8, digest: u64) -> io::Result<()> {
-    let words = report::push(report::no_words(), first as u64);
+    let words = report::push(report::no_words(), u64::from(first));
     report::print_line(to, letter, report::push(words, digest))
 }
 
 // The input of one byte, and then all of two bytes, that start with `first`.
 fn inputs_from(letter: u8, first: u8) -> u64 {
     let one = [first];
-    let mut digest = report::mix_words(14695981039346656037, answers::answer(letter, &one));
+    let mut digest = report::mix_words(EMPTY, answers::answer(letter, &one));
     for second in 0..=255u8 {
         let two = [first, second];
         digest = report::mix_words(digest, answers::answer(letter, &two));
@@ -21,10 +22,9 @@ fn inputs_from(letter: u8, first: u8) -> u64 {
 
 // Every input of one and of two bytes, for the letter that the input names.
 pub(crate) fn short_inputs<W: Write>(to: &mut W, input: &[u8]) -> io::Result<()> {
-    if input.len() < 1 {
+    let Some(&letter) = input.first() else {
         return Ok(());
-    }
-    let letter = input[0];
+    };
     for first in 0..=255u8 {
         print_digest(to, letter, first, inputs_from(letter, first))?;
     }
@@ -51,7 +51,7 @@ fn texts_from_two(digest: u64, first: u8, second: u8) -> u64 {
 }
 
 fn texts_from(first: u8) -> u64 {
-    let mut digest = 14695981039346656037;
+    let mut digest = EMPTY;
     for second in 0..=255u8 {
         digest = texts_from_two(digest, first, second);
     }

@@ -6,7 +6,6 @@ mod answers;
 mod digests;
 mod fills;
 
-use report::RecordRead;
 use std::io;
 use std::io::{BufWriter, Read, Write};
 
@@ -24,10 +23,11 @@ fn answer_record<W: Write>(to: &mut W, letter: u8, input: &[u8]) -> io::Result<(
 fn answer_all<W: Write>(to: &mut W, input: &[u8]) -> io::Result<()> {
     let mut at = 0;
     for _ in 0..100000u32 {
-        let RecordRead::Asked(letter, span, next) = report::read_record(input, at) else {
+        let Ok((asked, next)) = report::read_record(input, at) else {
             return Ok(());
         };
-        answer_record(to, letter, byte_source::span_bytes(input, span))?;
+        let question = byte_source::span_bytes(input, asked.question);
+        answer_record(to, asked.letter, question)?;
         at = next;
     }
     Ok(())

@@ -2,41 +2,34 @@
 // blocks to the Rust, all their nodes included; here the lists are too short on purpose.
 #![tactic(auto)]
 
+use error::LentRefusal;
 use report::Words;
 use std::io;
-use way_data::WayDataWritten;
-use way_measure::WayDataRead;
+use way_measure::Sizes;
 
 fn room() -> [u8; 2200000] {
     [0; 2200000]
 }
 
-fn words_of(got: WayDataRead) -> Words {
+fn words_of(got: Result<(Sizes, usize), LentRefusal>) -> Words {
     match got {
-        WayDataRead::Value(s, end) => questions::three(s.blocks, s.nodes, end as u64),
-        WayDataRead::Refused(r) => questions::refusal_words(r),
-    }
-}
-
-fn written_words(got: WayDataWritten) -> Words {
-    match got {
-        WayDataWritten::Value(s, end) => questions::three(s.blocks, s.nodes, end as u64),
-        WayDataWritten::Refused(r) => questions::lent_refusal_words(r),
+        Ok((s, end)) => questions::three(s.blocks, s.nodes, end as u64),
+        Err(r) => questions::lent_refusal_words(r),
     }
 }
 
 fn measured(map: &[u8], size: usize) -> Words {
-    if map.len() < size {
+    let Some(map) = map.get(..size) else {
         return report::no_words();
-    }
-    words_of(way_measure::measure_way_data(&map[..size], 0, 1))
+    };
+    words_of(way_measure::measure_way_data(map, 0, 1).map_err(LentRefusal::Refused))
 }
 
 fn read(map: &[u8]) -> Words {
     let mut counts = [0u64; 4];
     let mut latitudes = [0.0; 1000];
     let mut longitudes = [0.0; 1000];
-    written_words(way_data::read_way_data(
+    words_of(way_data::read_way_data(
         map,
         0,
         1,

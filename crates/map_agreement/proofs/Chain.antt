@@ -6,10 +6,10 @@ use Rattle.format.specs.Lent.{Reply}
 use Rattle.format.specs.Tile.{Point, Head, Body}
 use Rattle.way_data.specs.Reply.{lent}
 use Rattle.tile_layout.specs.TileLayout.{TileKinds, format_of}
-use Rattle.agreement.specs.Calls.{Answer, Call, next, accept, decline, Step, run, plain}
+use Rattle.agreement.specs.Calls.{Answer, Call, next, accept, decline, Step, run}
 use Rattle.agreement.specs.Stream.{stream}
 use Rattle.agreement.specs.TileFormat as tile
-use Rattle.visit.specs.Visit.{TileState, state_of, ShownAnswer, shown, shown_step, next_answer, accept_step, decline_step}
+use Rattle.visit.specs.Visit.{TileState, state_of, ShownAnswer, shown, shown_step, next_step, accept_step, decline_step}
 use Rattle.visit.specs.declared.Stream.{Stream}
 use Rattle.map_agreement.specs.Called.{Called, no_call, call_next, call-accept, call-decline}
 
@@ -32,7 +32,7 @@ joined m l ds qs x y e q =
 pub called-run : (m : List ℕ) (l : TileKinds) (s : Stream) (cs : List Call) (rs : List (Reply ShownAnswer)) → Called m l s cs rs → rs ≡ shown_replies (run (stream (format_of l) m) (state_of s) cs)
 called-run m l s cs rs no_call = refl
 called-run m l s cs rs (call_next r {cs = ds} {rs = qs} k c) =
-    joined m l ds qs (stream (format_of l) m (state_of s) next) (plain (next_answer r.answer r.poi r.head) (state_of r.stream)) k.answer
+    joined m l ds qs (stream (format_of l) m (state_of s) next) (next_step r) k
     (called-run m l r.stream ds qs c)
 called-run m l s cs rs (call-accept r c₀ c la₀ lo₀ la lo {cs = ds} {rs = qs} k d) =
     joined m l ds qs (stream (format_of l) m (state_of s) (accept (lent c₀ la₀ lo₀))) (accept_step r c la lo) k

@@ -22,7 +22,9 @@ use Rattle.fetched.specs.Fetched.{part_bytes, found_bytes, listed_name, started_
 use Rattle.fetched.specs.declared.TagText.{TagText}
 use Rattle.fetched.specs.declared.FetchedPoi.{FetchedPoi}
 use Rattle.fetched.specs.declared.FetchedWay.{FetchedWay}
-use Rattle.fetch.specs.Fetch.{Feature, a_poi, a_way, fetched_as, given_by}
+use Rattle.fetched.specs.declared.Feature.{Feature}
+use Rattle.fetched.specs.declared.Feature.TheVariants as feature
+use Rattle.fetch.specs.Fetch.{fetched_as, given_by}
 use Rattle.map_agreement.specs.TileView.{tile_view, fetch_gives}
 
 -- the names
@@ -107,12 +109,12 @@ module _ (debug : Bool) (p w : List Kind) (poi_names way_names : List Part) (poi
 
   a_point : (l : List Point) (k : ℕ) → gives (collected.point_or (nth l k)) ≡ fetch_gives (collected.point_or (nth (map S.collected_point l) k))
   a_point [] k = refl
-  a_point (x ∷ l) zero = ap (λ y. answer (fetched_as a_poi y)) (point-same poi_name (listed_name poi_names) a x)
+  a_point (x ∷ l) zero = ap (λ y. answer (fetched_as feature.Point y)) (point-same poi_name (listed_name poi_names) a x)
   a_point (x ∷ l) (suc k) = a_point l k
 
   a-way : (l : List (Way (tile_format debug p w))) (k : ℕ) → gives (collected.way_or (nth l k)) ≡ fetch_gives (collected.way_or (nth (map S.collected_way l) k))
   a-way [] k = refl
-  a-way (x ∷ l) zero = ap (λ y. answer (fetched_as a_way y)) (way_same way_name (listed_name way_names) b x.head x.body)
+  a-way (x ∷ l) zero = ap (λ y. answer (fetched_as feature.Way y)) (way_same way_name (listed_name way_names) b x.head x.body)
   a-way (x ∷ l) (suc k) = a-way l k
 
   pub fetch-gives : (t : StoredTile (tile_format debug p w)) (z : TileHead → TileEnd) (k : ℕ) → gives (fetch (stored_tile t z) k) ≡ fetch_gives (fetch (collected_tile S t z) k)

@@ -5,7 +5,7 @@ use mathlib.Core.Bool.{Bool, true, false, cond}
 use mathlib.Core.List.{List, [], ◌∷◌, map}
 use Rattle.parsing.specs.Parse.{Res, ok, no, and_then}
 use Rattle.parsing.specs.Good.{split}
-use Rattle.format.specs.Header.{Interval, Header, intervals, header, signature, signatures, opened, debug}
+use Rattle.format.specs.Header.{Interval, Header, header, signature, signatures, opened, debug}
 use Rattle.agreement.specs.MapLayout as layout
 use Rattle.agreement.specs.MapLayout.{open_map}
 use Rattle.format.specs.Index.{Grid}

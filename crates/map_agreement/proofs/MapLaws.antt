@@ -6,8 +6,7 @@ use mathlib.Core.List.{List, []}
 use Rattle.parsing.specs.Parse.{no, Maybe, none, some}
 use Rattle.parsing.specs.Good.{Good}
 use Rattle.parsing.proofs.GoodLaws.{goods}
-use Rattle.format.specs.Header.{Interval, header-good, signature-good, signature, debug}
-use Rattle.format.specs.Header as header
+use Rattle.format.specs.Header.{Interval, header-good, signature-good, debug}
 use Rattle.format.specs.Index.{in_sub_file, answered, Grid, entry_at, Located, located, locate_in, located-good}
 use Rattle.format.specs.Rows.{marked_head-good}
 use Rattle.agreement.specs.MapLayout.{MapLaws}

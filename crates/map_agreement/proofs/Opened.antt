@@ -1,5 +1,8 @@
 -- Any map that opens with the stored header h: what locating, opening and collecting a tile read of it, by the header's value;
 -- and what a program sees of such a map, where the machine's replies are the book's.
+use Rattle.std.specs.Prelude.{Result, Ok, Err}
+use Rattle.std.proofs.lemmas.Result.{IfOk-at_ok}
+use Rattle.error.specs.declared.Refusal.{Refusal}
 use Prim.Native.Nat.{ℕ}
 use mathlib.Core.Path.{◌≡◌, refl, sym, ap, ◌∙◌, subst}
 use mathlib.Core.Bool.{Bool, true, cond}
@@ -7,7 +10,7 @@ use mathlib.Core.List.{List, [], ◌∷◌, map}
 use lib.ListN.{length}
 use Rattle.parsing.specs.Parse.{Res, ok, no, and_then, map_res, list_of, Part, Maybe, none, some, nth}
 use Rattle.parsing.specs.Good.{split, ok-val, ok_at, no_ok}
-use Rattle.format.specs.Header.{Interval, Header, header, opened, debug}
+use Rattle.format.specs.Header.{Interval, Header, opened, debug}
 use Rattle.format.specs.Index.{answer, answered, Grid, Located, located, locate, locate_in, in_sub_file}
 use Rattle.format.specs.Index as index
 use Rattle.format.specs.Kinds.{kind_of_text}
@@ -15,15 +18,11 @@ use Rattle.format.specs.TagLists.{TagLists, tag_lists, lists_fit, lists_written,
 use Rattle.format.proofs.ListLaws.{ListedKinds, kinds-listed}
 use Rattle.format.specs.Lent.{Replied, Reply}
 use Rattle.format.specs.Rows.{rows_upto}
-use Rattle.format.specs.Tile.{tile_head, Point, Head, Body}
+use Rattle.format.specs.Tile.{Point, Head, Body}
 use Rattle.tag.specs.declared.Kind.{Kind}
 use Rattle.types.specs.Types.{intervals_of}
-use Rattle.header.specs.HeaderView.{map_header, empty_header}
-use Rattle.types.specs.Beside.{view_or}
-use Rattle.opening.specs.Opening.{open_end_res, OpenIs}
-use Rattle.opening.specs.declared.MapRead.{MapRead}
-use Rattle.opening.specs.declared.OpenEnd.{OpenEnd}
-use Rattle.opening.specs.declared.OpenEnd.TheVariants as end
+use Rattle.header.specs.HeaderView.{map_header}
+use Rattle.opening.specs.Opening.{lent_res, OpenIs}
 use Rattle.header.proofs.HeaderLaws.{intervals-back}
 use Rattle.tile_layout.specs.TileLayout.{layout_of, kinds_of}
 use Rattle.tile_layout.specs.declared.TileLayout.{TileLayout}
@@ -39,20 +38,16 @@ use Rattle.agreement.specs.TileFormat.{TileEnd, tile_format}
 use Rattle.agreement.specs.Demand3.{MapAgrees, fresh_tile}
 use Rattle.visit.specs.Visit.{TileState, state_of, open_tile, open_res, ShownAnswer, shown}
 use Rattle.visit.specs.declared.Stream.{Stream}
-use Rattle.visit.specs.declared.OpenRead.{OpenRead}
-use Rattle.visit.specs.declared.OpenRead.TheVariants as open-read
 use Rattle.tile.specs.Tile.{shown_tile, feature_places, collect_tile, tile_places}
 use Rattle.tile.specs.declared.Tile.{Tile}
 use Rattle.map_agreement.specs.TileView.{tile_view}
-use Rattle.map_agreement.specs.MapsforgeMap.{of_interval, interval, lowest, highest, mapsforge}
-use Rattle.map_agreement.specs.BookSays.{Opens, opens, book_at, SeesBook}
+use Rattle.map_agreement.specs.MapsforgeMap.{of_interval, lowest, highest, mapsforge}
+use Rattle.map_agreement.specs.BookSays.{MapRead, Opens, opens, book_at, SeesBook}
 use Rattle.map_agreement.proofs.Chain.{shown_replies, called-run}
 use Rattle.map_agreement.proofs.MapLaws.{located-at}
 use Rattle.types.specs.declared.MapHeader.{MapHeader}
-use Rattle.index.specs.Answers.{held_entry, held_res, entry_res}
+use Rattle.index.specs.Answers.{held_entry, held_res, answer_res}
 use Rattle.index.specs.declared.TileIndexEntry.{TileIndexEntry}
-use Rattle.index.specs.declared.EntryRead.{EntryRead}
-use Rattle.index.specs.declared.EntryRead.TheVariants as entry_read
 use Rattle.map_agreement.specs.Texts.{texts_found, texts_stored}
 use Rattle.map_agreement.proofs.TextLaws.{texts-found}
 
@@ -76,19 +71,21 @@ entry-held d (some z) g number m l q =
     let e : a.val.entry ≡ l.entry = ap (λ (y : Located). y.entry) (ok-val a.second) in
     rw (f.counted, f.inside, f.own, e)
 
-entry-answer : (r : EntryRead) {a : TileIndexEntry} → entry_res r ≡ answer a → r ≡ entry_read.Entry a
-entry-answer (entry_read.Entry b) q = ap entry_read.Entry (ok-val q)
-entry-answer (entry_read.Refused r) q = no_ok q
+entry-answer : (r : Result TileIndexEntry Refusal) {a : TileIndexEntry} → answer_res r ≡ answer a → r ≡ Ok a
+entry-answer (Ok b) q = ap Ok (ok-val q)
+entry-answer (Err r) q = no_ok q
 
 -- `open_map` has one answer
-ended_at : (v : MapHeader) (x : OpenEnd) {w : MapHeader} {e : ℕ} → open_end_res v x ≡ ok w e → x ≡ end.At e
-ended_at v (end.At n) q = ap end.At (ok_at q)
-ended_at v (end.Refused r) q = no_ok q
+read-at : (x : MapRead) {w : MapHeader} {e : ℕ} → lent_res x ≡ ok w e → x ≡ Ok (w, e)
+read-at (Ok (v, n)) q = both (ok-val q) (ok_at q)
+  where
+    both : {a b : MapHeader} {k l : ℕ} → a ≡ b → k ≡ l → ◌≡◌ {A = MapRead} (Ok (a, k)) (Ok (b, l))
+    both p q = rw (p, q) refl
+read-at (Err r) q = no_ok q
 
 -- where the lists have room: the header, where it ends, and the tags listed
 pub record Listed (h : Header) (e : ℕ) (lent : TagLists) (b : MapRead) (t : TagLists) : Type 0 where
-  pub header : b.header ≡ map_header h
-  pub ends : b.end ≡ end.At e
+  pub header : b ≡ Ok (map_header h, e)
   pub tags : t ≡ lists_written (tag_lists h) lent
 
 module _ (h : Header) (e : ℕ) (lent : TagLists) (b : MapRead) (t : TagLists) (i : OpenIs (ok h e) lent b t) where
@@ -103,22 +100,19 @@ module _ (h : Header) (e : ℕ) (lent : TagLists) (b : MapRead) (t : TagLists) (
 
   pub listed_by : room ≡ true → Listed h e lent b t
   listed_by r =
-      let q = i.answer ∙ ap (λ c. viewed (replied c)) r in
+      let q = i ∙ ap (λ c. viewed (replied c)) r in
       record {
-        header = i.whole ∙ ap (λ c. view_or map_header empty_header (replied c).answer) r;
-        ends = ended_at b.header b.end (ap (λ (x : Replied TagLists (Res MapHeader)). x.answer) q);
+        header = read-at b (ap (λ (x : Replied TagLists (Res MapHeader)). x.answer) q);
         tags = ap (λ (x : Replied TagLists (Res MapHeader)). x.lists) q;
       }
 
 open-same : (h : Header) (e : ℕ) (lent : TagLists) (a b : MapRead) (s t : TagLists) → Listed h e lent a s → Listed h e lent b t → a ≡ b
-open-same h e lent a b s t p q =
-    ap (λ v. record { header = v; end = a.end }) (p.header ∙ sym q.header)
-    ∙ ap (λ x. record { header = b.header; end = x }) (p.ends ∙ sym q.ends)
+open-same h e lent a b s t p q = p.header ∙ sym q.header
 
 -- a stream that opens is not refused
-pub never-refused : (q : OpenRead) {a : TileState} → open_res q ≡ answer a → Opens q
-never-refused (open-read.Stream st) d = opens st
-never-refused (open-read.Refused r) d = no_ok d
+pub never-refused : (q : Result Stream Refusal) {a : TileState} → open_res q ≡ answer a → Opens q
+never-refused (Ok st) d = opens st
+never-refused (Err r) d = no_ok d
 
 module _ (s : ℕ) (grid : Grid) (number : ℕ) (h : Header) (lent : TagLists) where
   abbrev C : MapLayout
@@ -195,7 +189,7 @@ module _ (s : ℕ) (grid : Grid) (number : ℕ) (h : Header) (lent : TagLists) w
           ∙ ap (λ r. answered (and_then {B = TileState} r (λ n _. open_stream (C.tile_head h n) (rows_at C h zoom) (C.end h n) m (C.tile_at h n)))) (sym en)
 
       -- the entry's water mark, as `tile_index_entry` answers it
-      pub entry-is : (r : EntryRead) → entry_res r ≡ held_res (index.tile_index_entry lay.debug found grid number m) → r ≡ entry_read.Entry (held_entry l.entry)
+      pub entry-is : (r : Result TileIndexEntry Refusal) → answer_res r ≡ held_res (index.tile_index_entry lay.debug found grid number m) → r ≡ Ok (held_entry l.entry)
       entry-is r q = entry-answer r (q ∙ entry-held lay.debug found grid number m l (located-as ∙ ap answered en))
 
     -- where the machine's replies are the book's
@@ -213,7 +207,7 @@ module _ (s : ℕ) (grid : Grid) (number : ℕ) (h : Header) (lent : TagLists) w
       sees-book r b d = record {
         answers = λ h' t' l' i' k.
             let f = listed_by h e lent h' t' (subst (λ x. OpenIs x lent h' t') o k.header) r in
-            (open-same h e lent h' b t' tags f d, f.tags, k.layout ∙ ap layout_of f.header, k.interval ∙ ap (λ x. nth (intervals_of x) s) f.header);
+            (open-same h e lent h' b t' tags f d, f.tags, IfOk-at_ok _ f.header k.layout, IfOk-at_ok _ f.header k.interval);
         streams = λ q r. never-refused q (r ∙ fresh-opens);
         replies = λ st r rs k.
             called-run m (kinds_of lay tags.letters) st cs rs k

@@ -1,4 +1,10 @@
 -- Demand 3 from the functions' contracts (specs/BookSays.antt).
+use Rattle.std.specs.Prelude.{Option}
+use Rattle.std.specs.Prelude.{Result, Ok}
+use Rattle.std.proofs.lemmas.Result.{IfOk-at_ok}
+use Rattle.types.specs.declared.MapHeader.{MapHeader}
+use Rattle.error.specs.declared.LentRefusal.{LentRefusal}
+use Rattle.types.specs.declared.ZoomInterval.{ZoomInterval}
 use Prim.Native.Nat.{ℕ, ◌+◌, ◌^◌, ◌≤◌, ◌<◌}
 use mathlib.Core.Path.{◌≡◌, refl, sym, ap, ◌∙◌, subst}
 use mathlib.Core.Bool.{true}
@@ -14,13 +20,10 @@ use Rattle.format.specs.Lent.{front}
 use Rattle.format.proofs.ListLaws.{names-listed}
 use Rattle.tag.specs.declared.Kind.{Kind}
 use Rattle.types.specs.Types.{intervals_of}
-use Rattle.opening.specs.Opening.{open_end_res, OpenIs}
-use Rattle.opening.specs.declared.MapRead.{MapRead}
+use Rattle.opening.specs.Opening.{OpenIs}
 use Rattle.opening.proofs.OpenedLaws.{OpenedWith, opened_with}
-use Rattle.opening.specs.declared.OpenEnd.TheVariants as end
 use Rattle.header.specs.HeaderView.{map_header}
 use Rattle.index.specs.Answers.{interval_found}
-use Rattle.index.specs.declared.IntervalRead.{IntervalRead}
 use Rattle.tile_layout.specs.TileLayout.{layout_of, kinds_of, format_of}
 use Rattle.tile_layout.specs.declared.TileLayout.{TileLayout}
 use Rattle.agreement.specs.Collected.{StoredTile, all_exact, collect}
@@ -30,17 +33,16 @@ use Rattle.agreement.proofs.Agreement.{demand-3, open-near}
 use Rattle.tile.specs.Tile.{shown_tile, feature_places, collect_tile, tile_places, TileIs}
 use Rattle.tile.proofs.PlaceLaws.{places_count}
 use Rattle.tile.proofs.CollectLaws.{is-collected, long-enough}
-use Rattle.tile.specs.declared.TileAnswer.TheVariants as tile-answer
 use Rattle.tile.specs.declared.Tile.{Tile}
-use Rattle.tile.specs.declared.TileRead.{TileRead}
 use Rattle.agreement.specs.Collected as collected
 use Rattle.fetched.specs.Fetched.{started_name, Fetched}
+use Rattle.fetched.specs.declared.Feature.{Feature}
 use Rattle.fetch.specs.Fetch as fetch
 use Rattle.fetch.proofs.FetchLaws.{gives-by}
 use Rattle.map_agreement.specs.TileView.{fetch_gives}
 use Rattle.map_agreement.proofs.FetchGives.{name-is, fetch-gives}
 use Rattle.map_agreement.specs.MapsforgeMap.{mapsforge}
-use Rattle.map_agreement.specs.BookSays.{Answers, Collected, BookSays, fed_tile, book_at, Unread, FetchesAlone}
+use Rattle.map_agreement.specs.BookSays.{MapRead, Answers, Collected, BookSays, fed_tile, book_at, Unread, FetchesAlone}
 use Rattle.map_agreement.proofs.MapLaws.{mapsforge-laws}
 use Rattle.map_agreement.proofs.HeaderFacts.{opened-is, header_of}
 use Rattle.agreement.specs.Calls.{Call}
@@ -50,8 +52,8 @@ use Rattle.map_agreement.specs.Texts.{texts_found}
 use Rattle.map_agreement.proofs.Opened.{Listed, kinds, located-as, collected-as, listed-as, entry-is, sees-book}
 
 -- the stored header of a map that was opened, with lists that have room
-stored : (m : List ℕ) (lent : TagLists) (b : MapRead) (t : TagLists) (e : ℕ) → OpenIs (opened m) lent b t → b.end ≡ end.At e → OpenedWith map_header (opened m) lent b.header e t
-stored m lent b t e i q = opened_with map_header (opened m) lent b.header e t (ap (λ x. record { answer = open_end_res b.header x; lists = t }) (sym q) ∙ i.answer)
+stored : (m : List ℕ) (lent : TagLists) (b : MapRead) (t : TagLists) (v : MapHeader) (e : ℕ) → OpenIs (opened m) lent b t → b ≡ Ok (v, e) → OpenedWith map_header (opened m) lent v e t
+stored m lent b t v e i q = opened_with map_header (opened m) lent v e t (subst (λ x. OpenIs (opened m) lent x t) q i)
 
 -- the map m, in which the tile collects; `b` is what `open_map` answered
 module _ (m : List ℕ) (small : length m < 2 ^ 64) (s : ℕ) (grid : Grid) (number : ℕ) (h : Header) (e : ℕ) (o : opened m ≡ ok h e) (lent : TagLists) (room : lists_fit (tag_lists h) lent ≡ true) (b : MapRead) (d : Listed h e lent b (lists_written (tag_lists h) lent)) where
@@ -94,12 +96,12 @@ module _ (m : List ℕ) (small : length m < 2 ^ 64) (s : ℕ) (grid : Grid) (num
       places-are : tile_places (kinds_of lay tags.letters) found grid number m ≡ feature_places (C.format h) m t
       places-are = listed-as s grid number h lent m e o l x en ∙ ap (λ r. list_of (map_res (feature_places (C.format h) m) r)) c
 
-      shows : (r : TileRead) (list left : List ℕ) → length t.points + length t.ways ≤ length list
+      shows : (r : Result Tile LentRefusal) (list left : List ℕ) → length t.points + length t.ways ≤ length list
           → TileIs (collect_tile (kinds_of lay tags.letters) found grid number m) (tile_places (kinds_of lay tags.letters) found grid number m) list r left
-          → (r.answer ≡ tile-answer.Collected) × (r.tile ≡ shown_tile t) × (left ≡ front (feature_places (C.format h) m t) list)
+          → (r ≡ Ok (shown_tile t)) × (left ≡ front (feature_places (C.format h) m t) list)
       shows r list left k i =
           let q = long-enough _ (shown_tile t) _ list r left shown-is (subst (λ (x : List ℕ). length x ≤ length list) (sym places-are) (subst (λ n. n ≤ length list) (sym (places_count (C.format h) m t)) k)) i in
-          (q.0, q.1, q.2 ∙ ap (λ (x : List ℕ). front x list) places-are)
+          (q.0, q.1 ∙ ap (λ (x : List ℕ). front x list) places-are)
 
       -- what the fetches give is what the book is fed
       fetched-is : (list : List ℕ) (k : ℕ) (m' : List ℕ) → DifferOnly m m' (Unread s grid number h l t m k)
@@ -154,7 +156,7 @@ module _ (m : List ℕ) (small : length m < 2 ^ 64) (s : ℕ) (grid : Grid) (num
           demand-3 = D;
           shows = shows;
           entry = entry-is s grid number h lent m e o l x en;
-          fetches = λ list k m' a lists left r f. subst (λ (x : Res (Fetched fetch.Feature)). fetch.FeatureIs x lists r left) (fetched-is list k m' a) f;
+          fetches = λ list k m' a lists left r f. subst (λ (x : Res (Fetched Feature)). fetch.FeatureIs x lists r left) (fetched-is list k m' a) f;
           sees = λ zoom cs. sees-book s grid number h lent m e o l t zoom cs (D.agrees zoom cs) room b d;
           altered = λ zoom cs m' a.
               sees-book s grid number h lent m' e (opens-too m' a.long (λ j k. decided _ _ (λ q. (a.only j q).only.opened k))) l t zoom cs (D.altered zoom cs m' a) room b d;
@@ -182,44 +184,44 @@ module _ (m : List ℕ) (small : length m < 2 ^ 64) (s : ℕ) (grid : Grid) (num
   from-exact v f q = from-map Says v (λ l x en t past c d. says l x en t past c (ap (λ (a : Tile). a.exact) (sym d) ∙ f)) q
 
 -- Demand 3, from the contracts
-pub book-says : (m : List ℕ) (sub_file : ℕ) (grid : Grid) (number : ℕ) (lent : TagLists) (h : MapRead) (tags : TagLists) (l : TileLayout) (i : IntervalRead) (t : TileRead)
+pub book-says : (m : List ℕ) (sub_file : ℕ) (grid : Grid) (number : ℕ) (lent : TagLists) (h : MapRead) (tags : TagLists) (l : TileLayout) (i : Option ZoomInterval) (t : Result Tile LentRefusal)
     → Collected m sub_file grid number lent h tags l i t → BookSays m sub_file grid number lent h tags l (interval_found i)
 book-says m s grid number lent h tags l i t c =
     let n = c.answers in
-    let k = stored m lent h tags c.header_end n.header c.opens in
+    let k = stored m lent h tags c.header c.header_end n.header c.opens in
     let filled = lists_written (tag_lists k.header) lent in
     let lay = layout_of (map_header k.header) in
     let found = nth (intervals_of (map_header k.header)) s in
     let g : tags ≡ filled = k.lists in
-    let a : l ≡ lay = n.layout ∙ ap layout_of k.shown in
-    let b : interval_found i ≡ found = n.interval ∙ ap (λ x. nth (intervals_of x) s) k.shown in
-    let q : answer t.tile ≡ collect_tile (kinds_of l tags.letters) (interval_found i) grid number m = sym (is-collected _ _ c.room t c.places c.tile c.collects).tile in
+    let a : l ≡ lay = IfOk-at_ok _ c.opens n.layout ∙ ap layout_of k.shown in
+    let b : interval_found i ≡ found = IfOk-at_ok _ c.opens n.interval ∙ ap (λ x. nth (intervals_of x) s) k.shown in
+    let q : answer c.whole ≡ collect_tile (kinds_of l tags.letters) (interval_found i) grid number m = sym (is-collected _ _ c.room c.whole c.places (subst (λ x. TileIs (collect_tile (kinds_of l tags.letters) (interval_found i) grid number m) (tile_places (kinds_of l tags.letters) (interval_found i) grid number m) c.room x c.places) c.collects c.tile)).tile in
     subst (λ x. BookSays m s grid number lent h x l (interval_found i)) (sym g)
     (subst (λ x. BookSays m s grid number lent h filled x (interval_found i)) (sym a)
     (subst (λ x. BookSays m s grid number lent h filled lay x) (sym b)
-    (from-exact m c.small s grid number k.header c.header_end k.read lent k.fits h (record { header = k.shown; ends = c.opens; tags = refl }) t.tile c.exact
+    (from-exact m c.small s grid number k.header c.header_end k.read lent k.fits h (record { header = c.opens ∙ ap (λ y. Ok (y, c.header_end)) k.shown; tags = refl }) c.whole c.exact
     (q ∙ ap (λ (x : TagLists). collect_tile (kinds_of l x.letters) (interval_found i) grid number m) g
     ∙ ap (λ x. collect_tile (kinds_of x filled.letters) (interval_found i) grid number m) a
     ∙ ap (λ x. collect_tile (kinds_of lay filled.letters) x grid number m) b))))
 
 -- Request 8, from the contracts, of every tile that collects
-pub fetches-alone : (m : List ℕ) → length m < 2 ^ 64 → (sub_file : ℕ) (grid : Grid) (number : ℕ) (lent : TagLists) (h : MapRead) (tags : TagLists) (l : TileLayout) (i : IntervalRead) (e : ℕ) (t : TileRead) (room left : List ℕ)
-    → Answers m sub_file lent h tags l (interval_found i) → h.end ≡ end.At e
-    → TileIs (collect_tile (kinds_of l tags.letters) (interval_found i) grid number m) (tile_places (kinds_of l tags.letters) (interval_found i) grid number m) room t left → t.answer ≡ tile-answer.Collected
-    → FetchesAlone m sub_file grid number tags l t.tile.points t.tile.ways left
-fetches-alone m small s grid number lent h tags lays i e t room left n opens is collects =
-    let k = stored m lent h tags e n.header opens in
+pub fetches-alone : (m : List ℕ) → length m < 2 ^ 64 → (sub_file : ℕ) (grid : Grid) (number : ℕ) (lent : TagLists) (h : MapRead) (tags : TagLists) (l : TileLayout) (i : Option ZoomInterval) (v : MapHeader) (e : ℕ) (t : Tile) (room left : List ℕ)
+    → Answers m sub_file lent h tags l (interval_found i) → h ≡ Ok (v, e)
+    → TileIs (collect_tile (kinds_of l tags.letters) (interval_found i) grid number m) (tile_places (kinds_of l tags.letters) (interval_found i) grid number m) room (Ok t) left
+    → FetchesAlone m sub_file grid number tags l t.points t.ways left
+fetches-alone m small s grid number lent h tags lays i v e t room left n opens is =
+    let k = stored m lent h tags v e n.header opens in
     let filled = lists_written (tag_lists k.header) lent in
     let lay = layout_of (map_header k.header) in
     let found = nth (intervals_of (map_header k.header)) s in
     let g : tags ≡ filled = k.lists in
-    let a : lays ≡ lay = n.layout ∙ ap layout_of k.shown in
-    let b : interval_found i ≡ found = n.interval ∙ ap (λ x. nth (intervals_of x) s) k.shown in
-    let c = is-collected _ _ room t left is collects in
-    subst (λ x. FetchesAlone m s grid number x lays t.tile.points t.tile.ways left) (sym g)
-    (subst (λ x. FetchesAlone m s grid number filled x t.tile.points t.tile.ways left) (sym a)
-    (from-map m small s grid number k.header e k.read lent k.fits h (record { header = k.shown; ends = opens; tags = refl }) (FetchesAlone m s grid number filled lay t.tile.points t.tile.ways left) t.tile
-    (λ l x en y past f d. alone m small s grid number k.header e k.read lent k.fits h (record { header = k.shown; ends = opens; tags = refl }) l x en y past f t.tile room left d
+    let a : lays ≡ lay = IfOk-at_ok _ opens n.layout ∙ ap layout_of k.shown in
+    let b : interval_found i ≡ found = IfOk-at_ok _ opens n.interval ∙ ap (λ x. nth (intervals_of x) s) k.shown in
+    let c = is-collected _ _ room t left is in
+    subst (λ x. FetchesAlone m s grid number x lays t.points t.ways left) (sym g)
+    (subst (λ x. FetchesAlone m s grid number filled x t.points t.ways left) (sym a)
+    (from-map m small s grid number k.header e k.read lent k.fits h (record { header = opens ∙ ap (λ y. Ok (y, e)) k.shown; tags = refl }) (FetchesAlone m s grid number filled lay t.points t.ways left) t
+    (λ l x en y past f d. alone m small s grid number k.header e k.read lent k.fits h (record { header = opens ∙ ap (λ y. Ok (y, e)) k.shown; tags = refl }) l x en y past f t room left d
     (c.list
     ∙ ap (λ (x : TagLists). front (tile_places (kinds_of lays x.letters) (interval_found i) grid number m) room) g
     ∙ ap (λ x. front (tile_places (kinds_of x filled.letters) (interval_found i) grid number m) room) a

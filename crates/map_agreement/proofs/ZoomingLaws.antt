@@ -1,4 +1,5 @@
 -- Zooming in only adds, from the contracts (specs/ZoomingIn.antt): what was seen is a stream of the machine that ends well, and back.
+use Rattle.std.specs.Prelude.{Ok}
 use Prim.Native.Nat.{ℕ, zero, suc, ◌≤◌}
 use native.Mathlib.Omega.{arith}
 use mathlib.Core.Path.{◌≡◌, refl, sym, ap, ◌∙◌, subst}
@@ -27,8 +28,6 @@ use Rattle.zooming.proofs.Zooming.{zooming-in}
 use Rattle.zooming.specs.TileEnds.{PlainToo}
 use Rattle.zooming.proofs.TileZooming.{tile-advances, tile-grows, lower-zoom}
 use Rattle.visit.specs.Visit.{TileState, state_of, open_tile, open_res, shown_point, shown_head, shown_body, ShownAnswer, shown}
-use Rattle.visit.specs.declared.Stream.{Stream}
-use Rattle.visit.specs.declared.OpenRead.TheVariants as open-read
 use Rattle.visit.specs.declared.StreamedHead.{StreamedHead}
 use Rattle.visit.specs.declared.StreamedBody.{StreamedBody}
 use Rattle.map_agreement.specs.ZoomingIn.{SeenWay, calls_of, calls_of_ways, replies_of, replies_of_ways, Decides, no_way, declines, accepts, Saw, WillSee, ZoomingIn}
@@ -293,7 +292,7 @@ module _ (m : List ℕ) (l : TileLayout) (letters : List ℕ) (i : Maybe Interva
   zooming-says = go (locate l.debug i grid number m) refl saw.opens
     where
       go : (r : Res Located) → locate l.debug i grid number m ≡ r
-          → open_res (open-read.Stream saw.stream) ≡ and_then {B = TileState} r (λ a _. answered (open_stream (located_head l.debug a) (rows_upto a.interval.min a.interval.max zoom) (tile_end sub_file a.entry.water) m (tile_at a)))
+          → open_res (Ok saw.stream) ≡ and_then {B = TileState} r (λ a _. answered (open_stream (located_head l.debug a) (rows_upto a.interval.min a.interval.max zoom) (tile_end sub_file a.entry.water) m (tile_at a)))
           → ZoomingIn m l letters i sub_file grid number zoom rule lists points ways z
       go (ok a e) f q = from_place a e f
       go (no k v) f q = no_ok (sym q)

@@ -1,19 +1,20 @@
 -- Demand 3, from the functions' contracts: what a program that opened a map, collected a tile and opened its stream knows, and what then
 -- holds of every list of calls, on that map and on one that is altered in ways declined untried.
-use Rattle.std.specs.Prelude.{ℕ, ◌+◌, ◌^◌, ◌≤◌, ◌<◌, ◌≡◌, true, List, [], ◌∷◌, length}
+use Rattle.error.specs.declared.LentRefusal.{LentRefusal}
+use Rattle.error.specs.declared.Refusal.{Refusal}
+use Rattle.tile.specs.declared.Tile.{Tile}
+use Rattle.index.specs.declared.TileIndexEntry.{TileIndexEntry}
+use Rattle.types.specs.declared.ZoomInterval.{ZoomInterval}
+use Rattle.std.specs.Prelude.{Option, Result, Ok, IfOk, ℕ, ◌+◌, ◌^◌, ◌≤◌, ◌<◌, ◌≡◌, true, List, [], ◌∷◌, length}
 use Rattle.parsing.specs.Parse.{ok, Part, Maybe, nth}
 use Rattle.format.specs.Header.{Interval, Header, header, opened}
 use Rattle.format.specs.Index.{Grid, Located, tile_index_entry}
 use Rattle.format.specs.Lent.{front, Reply}
 use Rattle.format.specs.TagLists.{TagLists}
 use Rattle.types.specs.Types.{intervals_of}
+use Rattle.types.specs.declared.MapHeader.{MapHeader}
 use Rattle.opening.specs.Opening.{OpenIs}
-use Rattle.opening.specs.declared.MapRead.{MapRead}
-use Rattle.opening.specs.declared.OpenEnd.TheVariants as end
-use Rattle.index.specs.Answers.{interval_found, held_entry, held_res, entry_res}
-use Rattle.index.specs.declared.IntervalRead.{IntervalRead}
-use Rattle.index.specs.declared.EntryRead.{EntryRead}
-use Rattle.index.specs.declared.EntryRead.TheVariants as entry_read
+use Rattle.index.specs.Answers.{interval_found, held_entry, held_res, answer_res}
 use Rattle.tile_layout.specs.TileLayout.{layout_of, kinds_of}
 use Rattle.tile_layout.specs.declared.TileLayout.{TileLayout}
 use Rattle.agreement.specs.Calls.{Call}
@@ -26,50 +27,52 @@ use Rattle.agreement.specs.View.{collected_tile}
 use Rattle.agreement.specs.Demand3.{Demand3, MapCollects, map_replies, WaysBehind, OnlyDeclined, MapAlterable}
 use Rattle.visit.specs.Visit.{open_tile, open_res, ShownAnswer}
 use Rattle.visit.specs.declared.Stream.{Stream}
-use Rattle.visit.specs.declared.OpenRead.{OpenRead}
-use Rattle.visit.specs.declared.OpenRead.TheVariants as open-read
 use Rattle.tile.specs.Tile.{shown_tile, feature_places, collect_tile, tile_places, TileIs}
-use Rattle.tile.specs.declared.TileAnswer.TheVariants as tile-answer
-use Rattle.tile.specs.declared.TileRead.{TileRead}
 use Rattle.fetched.specs.Fetched.{FetchLists}
 use Rattle.fetch.specs.Fetch.{fetch_listed, FeatureIs}
 use Rattle.fetch.specs.Direct.{feature_bytes}
-use Rattle.fetched.specs.declared.Fetch.{Fetch}
+use Rattle.fetched.specs.declared.Feature.{Feature}
 use Rattle.map_agreement.specs.TileView.{tile_collection, fetch_gives}
 use Rattle.map_agreement.specs.MapsforgeMap.{mapsforge}
 use Rattle.map_agreement.specs.Called.{Called}
 use Rattle.map_agreement.specs.Texts.{texts_found, texts_stored}
 
+-- what `open_map` answers: the header with the place behind it, or why there is none
+abbrev pub MapRead : Type 0
+MapRead = Result (MapHeader × ℕ) LentRefusal
+
 -- the contracts of `open_map`, `layout_of` and `interval_of`: what they answer of a map, and what opening leaves of the lists that it was lent
 pub record Answers (m : List ℕ) (sub_file : ℕ) (lent : TagLists) (h : MapRead) (t : TagLists) (l : TileLayout) (i : Maybe Interval) : Type 0 where
   pub header : OpenIs (opened m) lent h t
-  pub layout : l ≡ layout_of h.header
-  pub interval : i ≡ nth (intervals_of h.header) sub_file
+  pub layout : IfOk h (λ a. l ≡ layout_of a.0)
+  pub interval : IfOk h (λ a. i ≡ nth (intervals_of a.0) sub_file)
 
 -- and that of `read_tile`: the map opened, the tile collected, with a list that is long enough, and collecting said that every stored size is
 -- the decoded length. The tags are those that opening listed, and nobody has written the lists since. (No lent map has 2 ^ 64 bytes.)
-pub record Collected (m : List ℕ) (sub_file : ℕ) (grid : Grid) (number : ℕ) (lent : TagLists) (h : MapRead) (tags : TagLists) (l : TileLayout) (i : IntervalRead) (t : TileRead) : Type 0 where
+pub record Collected (m : List ℕ) (sub_file : ℕ) (grid : Grid) (number : ℕ) (lent : TagLists) (h : MapRead) (tags : TagLists) (l : TileLayout) (i : Option ZoomInterval) (t : Result Tile LentRefusal) : Type 0 where
   pub small : length m < 2 ^ 64
   pub answers : Answers m sub_file lent h tags l (interval_found i)
+  pub header : MapHeader
   pub header_end : ℕ
-  pub opens : h.end ≡ end.At header_end
+  pub opens : h ≡ Ok (header, header_end)
   pub room : List ℕ
   pub places : List ℕ
   pub tile : TileIs (collect_tile (kinds_of l tags.letters) (interval_found i) grid number m) (tile_places (kinds_of l tags.letters) (interval_found i) grid number m) room t places
-  pub collects : t.answer ≡ tile-answer.Collected
-  pub exact : t.tile.exact ≡ true
+  pub whole : Tile
+  pub collects : t ≡ Ok whole
+  pub exact : whole.exact ≡ true
 
 -- a stream opens
-pub data Opens : OpenRead → Type 0 where
-  opens : (s : Stream) → Opens (open-read.Stream s)
+pub data Opens : Result Stream Refusal → Type 0 where
+  opens : (s : Stream) → Opens (Ok s)
 
 -- What a program sees of a map at a zoom, when it makes the calls cs. However it opens the map, with the same lent lists, it is answered h,
 -- l and i, and the lists are left as t. The tile's stream opens; the calls get these replies, in answers and lent lists; and where the replies give texts, these stand in the map.
 pub record Sees (m : List ℕ) (sub_file : ℕ) (grid : Grid) (number zoom : ℕ) (lent : TagLists) (h : MapRead) (t : TagLists) (l : TileLayout) (i : Maybe Interval) (cs : List Call)
     (replied : List (Reply ShownAnswer)) (spelled : List (List (Maybe Part))) : Type 0 where
   pub answers : (h' : MapRead) (t' : TagLists) (l' : TileLayout) (i' : Maybe Interval) → Answers m sub_file lent h' t' l' i' → (h' ≡ h) × (t' ≡ t) × (l' ≡ l) × (i' ≡ i)
-  pub streams : (o : OpenRead) → open_res o ≡ open_tile l i sub_file grid number zoom m → Opens o
-  pub replies : (s : Stream) → open_res (open-read.Stream s) ≡ open_tile l i sub_file grid number zoom m
+  pub streams : (o : Result Stream Refusal) → open_res o ≡ open_tile l i sub_file grid number zoom m → Opens o
+  pub replies : (s : Stream) → open_res (Ok s) ≡ open_tile l i sub_file grid number zoom m
       → (rs : List (Reply ShownAnswer)) → Called m (kinds_of l t.letters) s cs rs → rs ≡ replied
   pub texts : texts_found m replied ≡ spelled
 
@@ -109,11 +112,11 @@ pub record BookSays (m : List ℕ) (sub_file : ℕ) (grid : Grid) (number : ℕ)
   pub tile : StoredTile ((mapsforge sub_file grid number).format stored)
   pub collects : MapCollects (mapsforge sub_file grid number) m stored place tile
   pub demand-3 : Demand3 (mapsforge sub_file grid number) m stored place tile
-  pub shows : (t : TileRead) (room left : List ℕ) → length tile.points + length tile.ways ≤ length room
+  pub shows : (t : Result Tile LentRefusal) (room left : List ℕ) → length tile.points + length tile.ways ≤ length room
       → TileIs (collect_tile (kinds_of l tags.letters) i grid number m) (tile_places (kinds_of l tags.letters) i grid number m) room t left
-      → (t.answer ≡ tile-answer.Collected) × (t.tile ≡ shown_tile tile) × (left ≡ listed_in sub_file grid number stored place tile m room)
-  pub entry : (r : EntryRead) → entry_res r ≡ held_res (tile_index_entry l.debug i grid number m) → r ≡ entry_read.Entry (held_entry place.entry)
-  pub fetches : (room : List ℕ) (k : ℕ) (m' : List ℕ) → DifferOnly m m' (Unread sub_file grid number stored place tile m k) → (lists left : FetchLists) (r : Fetch)
+      → (t ≡ Ok (shown_tile tile)) × (left ≡ listed_in sub_file grid number stored place tile m room)
+  pub entry : (r : Result TileIndexEntry Refusal) → answer_res r ≡ held_res (tile_index_entry l.debug i grid number m) → r ≡ Ok (held_entry place.entry)
+  pub fetches : (room : List ℕ) (k : ℕ) (m' : List ℕ) → DifferOnly m m' (Unread sub_file grid number stored place tile m k) → (lists left : FetchLists) (r : Result Feature LentRefusal)
       → FeatureIs (fetch_listed l tags.starts tags.letters (listed_in sub_file grid number stored place tile m room) (length tile.points) (length tile.ways) k m') lists r left
       → FeatureIs (fetch_gives (fetch (fed_tile sub_file grid number stored place tile) k)) lists r left
   pub sees : (zoom : ℕ) (cs : List Call) → SeesBook sub_file grid number stored place tile m lent h tags l i zoom cs

@@ -10,11 +10,8 @@ use Rattle.tile_layout.specs.TileLayout.{TileKinds, format_of}
 use Rattle.agreement.specs.Calls.{Call, next, accept, decline, no_lists}
 use Rattle.agreement.specs.Stream.{on_next, on_accept, on_decline}
 use Rattle.agreement.specs.TileFormat.{whole_body, note_body}
-use Rattle.visit.specs.Visit.{state_of, ShownAnswer, shown_step, next_answer, NextIs, accept_answer, accept_step, decline_answer, decline_step}
+use Rattle.visit.specs.Visit.{state_of, ShownAnswer, shown_step, next_answer, NextIs, accept_answer, accept_step, decline_answer, decline_step, NextStep, Accepted, Declined}
 use Rattle.visit.specs.declared.Stream.{Stream}
-use Rattle.visit.specs.declared.NextStep.{NextStep}
-use Rattle.visit.specs.declared.Accepted.{Accepted}
-use Rattle.visit.specs.declared.Declined.{Declined}
 
 -- calls on the map m from stream s on, with one layout and one list of letters, and the replies that the program saw
 pub data Called (m : List ℕ) (l : TileKinds) : Stream → List Call → List (Reply ShownAnswer) → Type 0 where
@@ -22,7 +19,7 @@ pub data Called (m : List ℕ) (l : TileKinds) : Stream → List Call → List (
   call_next : (r : NextStep) {s : Stream} {cs : List Call} {rs : List (Reply ShownAnswer)}
       → NextIs (shown_step (on_next (format_of l) m (state_of s))) r
       → Called m l r.stream cs rs
-      → Called m l s (next ∷ cs) (record { answer = next_answer r.answer r.poi r.head; lists = no_lists } ∷ rs)
+      → Called m l s (next ∷ cs) (record { answer = next_answer r.answer; lists = no_lists } ∷ rs)
   call-accept : (r : Accepted) (c₀ c : List ℕ) (la₀ lo₀ la lo : List Float) {s : Stream} {cs : List Call} {rs : List (Reply ShownAnswer)}
       → accept_step r c la lo ≡ shown_step (on_accept body body_lists whole_body note_body m (state_of s) (lent c₀ la₀ lo₀))
       → Called m l r.stream cs rs

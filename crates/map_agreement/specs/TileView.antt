@@ -1,15 +1,17 @@
 -- What the book of demand 3 is fed of a Mapsforge tile: each feature as it is fetched, together with its texts as stored; and what the
 -- book says of it, which are the fetched fields but for those that a streamed feature lacks (document 01, "The book of demand 3").
+use Rattle.std.specs.Prelude.{None}
 use Rattle.std.specs.Prelude.{Bool, List, []}
 use Rattle.parsing.specs.Parse.{Res, no, Part, Maybe}
 use Rattle.format.specs.Index.{answer}
 use Rattle.fetched.specs.Fetched.{listed_name, Fetched, fetched_point, fetched_way}
 use Rattle.fetched.specs.declared.FetchedPoi.{FetchedPoi}
 use Rattle.fetched.specs.declared.FetchedWay.{FetchedWay}
-use Rattle.fetch.specs.Fetch as fetch
+use Rattle.fetched.specs.declared.Feature as fetched
+use Rattle.fetched.specs.declared.Feature.TheVariants as feature
+use Rattle.fetch.specs.Fetch.{fetched_as}
 use Rattle.format.specs.Streamed.{streamed_maybe}
 use Rattle.types.specs.Types.{optional_span}
-use Rattle.types.specs.declared.OptionalSpan.TheVariants as span
 use Rattle.tag.specs.declared.Kind.{Kind}
 use Rattle.poi.specs.declared.Poi.{Poi}
 use Rattle.visit.specs.Visit.{shown_point, shown_head, shown_body}
@@ -33,7 +35,7 @@ pub record CollectedWay : Type 0 where
 -- a text is its stored bytes, or empty if they are not valid UTF-8
 abbrev pub book_point : CollectedPoint → Poi
 book_point p = record {
-  signature = span.Absent;
+  signature = None;
   position = p.fetched.value.position;
   layer = p.fetched.value.layer;
   tag_ids = p.fetched.value.tag_ids;
@@ -97,7 +99,7 @@ tile_view debug poi_kinds way_kinds poi_names way_names = record {
 }
 
 -- what a fetch gives of a feature of the collected tile
-abbrev pub fetch_gives : Feature tile_collection → Res (Fetched fetch.Feature)
-fetch_gives (a_point p) = answer (fetch.fetched_as fetch.a_poi p.fetched)
-fetch_gives (a_way w) = answer (fetch.fetched_as fetch.a_way w.fetched)
+abbrev pub fetch_gives : Feature tile_collection → Res (Fetched fetched.Feature)
+fetch_gives (a_point p) = answer (fetched_as feature.Point p.fetched)
+fetch_gives (a_way w) = answer (fetched_as feature.Way w.fetched)
 fetch_gives missing = no 17 []

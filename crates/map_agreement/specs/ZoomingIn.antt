@@ -1,6 +1,8 @@
 -- Zooming in only adds (request 12, document 02), from the functions' contracts: what a program saw of a tile's stream at one zoom tells
 -- what it will see at every lower one. Nothing is supposed of collecting or of stored sizes, nor that layout, interval
 -- and letters are the map's own.
+use Rattle.std.specs.Prelude.{Result, Ok}
+use Rattle.error.specs.declared.Refusal.{Refusal}
 use Rattle.std.specs.Prelude.{ℕ, ◌^◌, ◌≤◌, ◌<◌, ◌≡◌, Bool, true, false, List, [], ◌∷◌, length, take}
 use Rattle.parsing.specs.Parse.{ok, Maybe}
 use Rattle.format.specs.Header.{Interval}
@@ -19,8 +21,6 @@ use Rattle.zooming.specs.Zooming.{Delivered, by_head, whole}
 use Rattle.zooming.specs.TileEnds.{PlainToo}
 use Rattle.visit.specs.Visit.{open_tile, open_res, ShownAnswer}
 use Rattle.visit.specs.declared.Stream.{Stream}
-use Rattle.visit.specs.declared.OpenRead.{OpenRead}
-use Rattle.visit.specs.declared.OpenRead.TheVariants as open-read
 use Rattle.visit.specs.declared.StreamedHead.{StreamedHead}
 use Rattle.visit.specs.declared.StreamedBody.{StreamedBody}
 use Rattle.map_agreement.specs.Called.{Called}
@@ -67,7 +67,7 @@ pub data Decides (rule : (bitmap : ℕ) → TagIds → Bool) : (lists : List Len
 pub record Saw (m : List ℕ) (l : TileLayout) (letters : List ℕ) (i : Maybe Interval) (sub_file : ℕ) (grid : Grid) (number zoom : ℕ) (rule : (bitmap : ℕ) → TagIds → Bool) (lists : List LentLists) (points : List Poi) (ways : List SeenWay) (z : TileEnd) : Type 0 where
   pub small : length m < 2 ^ 64
   pub stream : Stream
-  pub opens : open_res (open-read.Stream stream) ≡ open_tile l i sub_file grid number zoom m
+  pub opens : open_res (Ok stream) ≡ open_tile l i sub_file grid number zoom m
   pub decides : Decides rule lists ways
   pub calls : Called m (kinds_of l letters) stream (calls_of points ways) (replies_of points ways z)
 
@@ -76,11 +76,11 @@ pub record Saw (m : List ℕ) (l : TileLayout) (letters : List ℕ) (i : Maybe I
 -- first ways, field for field and list for list, and an end of the same sub file and water mark, which says that all was plain if the
 -- richer one does. There are as many of them as are counted.
 pub record WillSee (m : List ℕ) (l : TileLayout) (letters : List ℕ) (i : Maybe Interval) (sub_file : ℕ) (grid : Grid) (number zoom point_count way_count : ℕ) (rule : (bitmap : ℕ) → TagIds → Bool) (lists : List LentLists) (points : List Poi) (ways : List SeenWay) (z : TileEnd) : Type 0 where
-  pub opens : (o : OpenRead) → open_res o ≡ open_tile l i sub_file grid number zoom m → Opens o
+  pub opens : (o : Result Stream Refusal) → open_res o ≡ open_tile l i sub_file grid number zoom m → Opens o
   pub decides : Decides rule lists (take way_count ways)
   pub said : TileEnd
   pub plain-too : PlainToo said z
-  pub replies : (s : Stream) → open_res (open-read.Stream s) ≡ open_tile l i sub_file grid number zoom m
+  pub replies : (s : Stream) → open_res (Ok s) ≡ open_tile l i sub_file grid number zoom m
       → (rs : List (Reply ShownAnswer)) → Called m (kinds_of l letters) s (calls_of (take point_count points) (take way_count ways)) rs
       → rs ≡ replies_of (take point_count points) (take way_count ways) said
   pub point-count : length (take point_count points) ≡ point_count

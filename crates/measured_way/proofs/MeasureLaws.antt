@@ -4,92 +4,40 @@ use native.Mathlib.Omega.{arith}
 use mathlib.Core.Path.{◌≡◌, refl, sym, ap, ◌∙◌, subst}
 use mathlib.Core.Bool.{Bool, true, false, not}
 use mathlib.Core.List.{List}
-use lib.Dec.{leb, ltb}
 use lib.ListN.{length, take, length-map}
 use lib.Seq.{take_all}
-use borrow.Author.Tests.{leb-true, leb-false, not-true, not-false, lt-ltb, le-ltb, le-leb, lt-leb}
+use borrow.Author.Tests.{not-true, not-false}
+use Rattle.std.specs.Prelude.{Result, Ok, Err}
 use Rattle.parsing.specs.Parse.{Res, ok, no, and_then, map_res}
 use Rattle.parsing.specs.Good.{ok-val, ok_at, no_ok}
 use Rattle.error.specs.Refusals.{refused, lent_refused, lengths}
 use Rattle.error.specs.declared.Lengths.{Lengths}
 use Rattle.error.specs.declared.LentRefusal.{LentRefusal}
-use Rattle.error.specs.declared.LentRefusal.TheVariants as lent-refusal
+use Rattle.error.specs.declared.LentRefusal.TheVariants.{Refused}
 use Rattle.error.specs.declared.Refusal.{Refusal}
 use Rattle.arithmetic.specs.Cut.{cut}
 use Rattle.arithmetic.proofs.CutLaws.{cut_fits}
 use Rattle.format.specs.WayData.{Node, concat, node_count}
 use Rattle.format.specs.Nodes.{latitude_of, longitude_of, node_counts, latitudes, longitudes, initial_latitudes, initial_longitudes}
 use Rattle.format.specs.Tile.{Head, head, Body, body, double_delta}
-use Rattle.types.specs.Types.{end_res, end_refusal, maybe_part}
-use Rattle.types.specs.Beside.{view_or}
-use Rattle.types.specs.declared.End.TheVariants as end
+use Rattle.types.specs.Types.{maybe_part}
 use Rattle.types.specs.declared.TagRange.{TagRange}
 use Rattle.tag_table.specs.Tables.{kinds_by}
 use Rattle.tagged.specs.TagIds.{tag_ids}
-use Rattle.way.specs.Way.{body_of, body_res, body_refusal}
+use Rattle.way.specs.Way.{body_of}
 use Rattle.way.specs.declared.WayBody.{WayBody}
-use Rattle.way.specs.declared.WayBodyRead.{WayBodyRead}
-use Rattle.way.specs.declared.WayBodyRead.TheVariants as body-read
 use Rattle.way_data.proofs.BlockLaws.{length-along}
-use Rattle.way_head.specs.WayHead.{head_of, HeadIs}
+use Rattle.way_head.specs.WayHead.{head_of}
 use Rattle.way_head.specs.declared.WayHead.{WayHead}
-use Rattle.way_head.specs.declared.WayHeadRead.{WayHeadRead}
-use Rattle.fetched.specs.Fetched.{started_name, buffered, feature_texts, no_texts, way_lists, way_record, needed_all}
+use Rattle.fetched.specs.Fetched.{started_name, buffered, feature_texts, way_lists, way_record, needed_all}
 use Rattle.fetched.specs.declared.FeatureTexts.{FeatureTexts}
-use Rattle.fetched.specs.declared.FetchEnd.{FetchEnd}
-use Rattle.fetched.specs.declared.FetchEnd.TheVariants as fetch-end
 use Rattle.fetched.specs.declared.FetchedWay.{FetchedWay}
 use Rattle.feature_texts.specs.FeatureTexts.{texts_in}
 use Rattle.feature_texts.specs.declared.TextParts.{TextParts}
 use Rattle.feature_texts.proofs.ShortLaws.{Known, known_by, WayTexts, body-texts, head_few, texts-short, ids-within, ids-counted, ids-are}
 use Rattle.feature_tags.specs.FeatureTags.{texts_of}
-use Rattle.measured_way.specs.MeasuredWay.{way_parts, Told, told_of, told_way, fits_in, measured, way_with, texts_with, lists_with, empty_way, no_text_plan, no_list_plan, no_way, Shown, shown_of, nothing, shown, ToldAs, MeasuredIs, roomy, too_short, WayTold, BodyMeasured}
-use Rattle.measured_way.specs.declared.TextPlan.{TextPlan}
+use Rattle.measured_way.specs.MeasuredWay.{way_parts, told_of, fits_in, measured, way_with, texts_with, lists_with, shown_of, ToldAs, MeasuredIs, roomy, too_short, WayTold, BodyMeasured}
 use Rattle.measured_way.specs.declared.MeasuredWay.{MeasuredWay}
-
--- a way that is told, and one that is not
-module _ (stored : Res Told) where
-  told_at : (v : Shown) (n : ℕ) → ok v n ≡ map_res shown_of stored → ToldAs stored v (fetch-end.At n)
-  told_at v n q = record { answer = q; whole = value stored q }
-    where
-      value : (r : Res Told) → ok v n ≡ map_res shown_of r → v ≡ view_or shown_of nothing r
-      value (ok a e) q = ok-val q
-      value (no k l) q = no_ok (sym q)
-
-  told-no : (v : Shown) (g : FetchEnd) (e : LentRefusal) → v ≡ nothing → g ≡ fetch-end.Refused e → lent_refused e ≡ stored → ToldAs stored v g
-  told-no v g e h k q = record { answer = rw (k, ← q); whole = rw (← q) h }
-
--- where there is no way
-pub no-texts-there : (t : FeatureTexts) → t ≡ no_texts
-    → ◌≡◌ {A = FetchedWay} (record { signature = empty_way.signature; bitmap = 0; layer = empty_way.layer; tag_ids = empty_way.tag_ids; texts = t; label_position = empty_way.label_position; double_delta = false; blocks = 0; nodes = 0; plain = false; head_plain = false }) empty_way
-no-texts-there t h = rw h
-
-pub none_made : (w : FetchedWay) (p : TextPlan) (x : LentRefusal) → w ≡ empty_way → p ≡ no_text_plan → ◌≡◌ {A = MeasuredWay} (record { way = w; texts = p; lists = no_list_plan; end = fetch-end.Refused x }) (no_way x)
-none_made w p x h k = rw (h, k)
-
--- the test of the lengths
-module _ (blocks nodes texts : ℕ) (l : Lengths) where
-  pub short-1 : l.list1 < blocks → true ≡ not (roomy blocks nodes texts l)
-  short-1 h = rw (lt-leb blocks l.list1 h)
-
-  pub short-2 : blocks ≤ l.list1 → l.list2 < nodes → true ≡ not (roomy blocks nodes texts l)
-  short-2 a h = rw (le-leb blocks l.list1 a, lt-leb nodes l.list2 h)
-
-  pub short-3 : blocks ≤ l.list1 → nodes ≤ l.list2 → l.list3 < nodes → true ≡ not (roomy blocks nodes texts l)
-  short-3 a b h = rw (le-leb blocks l.list1 a, le-leb nodes l.list2 b, lt-leb nodes l.list3 h)
-
-  pub short-4 : blocks ≤ l.list1 → nodes ≤ l.list2 → nodes ≤ l.list3 → l.list4 < blocks → true ≡ not (roomy blocks nodes texts l)
-  short-4 a b c h = rw (le-leb blocks l.list1 a, le-leb nodes l.list2 b, le-leb nodes l.list3 c, lt-leb blocks l.list4 h)
-
-  pub short-5 : blocks ≤ l.list1 → nodes ≤ l.list2 → nodes ≤ l.list3 → blocks ≤ l.list4 → l.list5 < blocks → true ≡ not (roomy blocks nodes texts l)
-  short-5 a b c d h = rw (le-leb blocks l.list1 a, le-leb nodes l.list2 b, le-leb nodes l.list3 c, le-leb blocks l.list4 d, lt-leb blocks l.list5 h)
-
-  pub short-6 : blocks ≤ l.list1 → nodes ≤ l.list2 → nodes ≤ l.list3 → blocks ≤ l.list4 → blocks ≤ l.list5 → ltb l.buffer texts ≡ not (roomy blocks nodes texts l)
-  short-6 a b c d h = rw (le-leb blocks l.list1 a, le-leb nodes l.list2 b, le-leb nodes l.list3 c, le-leb blocks l.list4 d, le-leb blocks l.list5 h) (other (leb texts l.buffer) refl)
-    where
-      other : (t : Bool) → leb texts l.buffer ≡ t → ltb l.buffer texts ≡ not t
-      other true q = le-ltb l.buffer texts (leb-true texts l.buffer q)
-      other false q = lt-ltb l.buffer texts (leb-false texts l.buffer q)
 
 -- a way that was read
 module _ (starts : List ℕ) (t : TagRange) (m : List ℕ) (s : Head) (d : Body) (start next : ℕ) (few : length s.tagged.ids ≤ 15) (rd : body m start ≡ ok d next) where
@@ -171,7 +119,7 @@ module _ (starts : List ℕ) (t : TagRange) (h : WayHead) (b : WayBody) (ids : L
     refused_as : (x : LentRefusal) → x ≡ too_short b.blocks b.nodes len → x ≡ too_short (length (concat d.data_blocks)) (node_count (concat d.data_blocks)) (length (bytes starts t m s d start next few-ids rd))
     refused_as x q = q ∙ ap (λ (y : WayBody). too_short y.blocks y.nodes len) bd ∙ ap (too_short (length (concat d.data_blocks)) (node_count (concat d.data_blocks))) measured-bytes
 
-    shown-as : (tx : FeatureTexts) (v : FetchedWay) → tx ≡ texts_of starts pr m ids → v ≡ way_with h b tx → ◌≡◌ {A = Shown} (record { way = v; texts = texts_with h pr; lists = lists_with b start }) (shown_of (told_of starts t m s start d))
+    shown-as : (tx : FeatureTexts) (v : FetchedWay) → tx ≡ texts_of starts pr m ids → v ≡ way_with h b tx → ◌≡◌ {A = MeasuredWay} (record { way = v; texts = texts_with h pr; lists = lists_with b start }) (shown_of (told_of starts t m s start d))
     shown-as tx v q w =
         let x : tx ≡ feature_texts (started_name starts t m) s.tagged.ids d.fields.name d.fields.house_number d.fields.reference =
         q ∙ ap (λ x. texts_of starts x m ids) k ∙ ap (λ x. texts_of starts (way_parts x t) m ids) bd ∙ ap (texts_of starts (way_parts (body_of d) t) m) is ∙ described starts t m s d start next few-ids rd in
@@ -181,73 +129,67 @@ module _ (starts : List ℕ) (t : TagRange) (h : WayHead) (b : WayBody) (ids : L
         ∙ ap (λ x. record { way = way_record (started_name starts t m) s d; texts = texts_with (head_of s) x; lists = lists_with b start }) k
         ∙ ap (λ x. record { way = way_record (started_name starts t m) s d; texts = texts_with (head_of s) (way_parts x t); lists = lists_with x start }) bd
 
-  pub told-short : (x : LentRefusal) (r : MeasuredWay) → g ≡ true → x ≡ too_short b.blocks b.nodes len → r ≡ no_way x → WayTold starts t h b ids start next room m r
-  told-short x r q e v = record {
+  pub told-short : (x : LentRefusal) → g ≡ true → x ≡ too_short b.blocks b.nodes len → WayTold starts t h b ids start next room m (Err x)
+  told-short x q e = record {
     each = λ s d hs is few bd rd.
-        told-no (measured room (ok (told_of starts t m s start d) next)) (shown r) r.end x (ap shown v) (ap (λ (y : MeasuredWay). y.end) v)
-        (ap lent_refused (refused_as s d hs is few bd rd x e) ∙ measured-short starts t m s d start next (few-ids s d hs is few bd rd) rd room (tested s d hs is few bd rd false (not-true _ (sym j ∙ q))));
+        ap lent_refused (refused_as s d hs is few bd rd x e)
+        ∙ ap (map_res shown_of) (measured-short starts t m s d start next (few-ids s d hs is few bd rd) rd room (tested s d hs is few bd rd false (not-true _ (sym j ∙ q))));
   }
 
-  pub told-done : (tx : FeatureTexts) (v : FetchedWay) → g ≡ false → tx ≡ texts_of starts pr m ids → v ≡ way_with h b tx → WayTold starts t h b ids start next room m (record { way = v; texts = texts_with h pr; lists = lists_with b start; end = fetch-end.At next })
+  pub told-done : (tx : FeatureTexts) (v : FetchedWay) → g ≡ false → tx ≡ texts_of starts pr m ids → v ≡ way_with h b tx → WayTold starts t h b ids start next room m (Ok (record { way = v; texts = texts_with h pr; lists = lists_with b start }, next))
   told-done tx v q e w = record {
     each = λ s d hs is few bd rd.
-        told_at (measured room (ok (told_of starts t m s start d) next)) (record { way = v; texts = texts_with h pr; lists = lists_with b start }) next
-        (ap (λ x. ok x next) (shown-as s d hs is few bd rd tx v e w) ∙ ap (map_res shown_of) (measured-done starts t m s d start next (few-ids s d hs is few bd rd) rd room (tested s d hs is few bd rd true (not-false _ (sym j ∙ q)))));
+        ap (λ x. ok x next) (shown-as s d hs is few bd rd tx v e w)
+        ∙ ap (map_res shown_of) (measured-done starts t m s d start next (few-ids s d hs is few bd rd) rd room (tested s d hs is few bd rd true (not-false _ (sym j ∙ q))));
   }
 
 -- the body, behind the head
-module _ (starts : List ℕ) (t : TagRange) (h : WayHead) (ids : List ℕ) (start : ℕ) (room : Lengths) (m : List ℕ) (g : WayBodyRead) (q : body_res g ≡ map_res body_of (body m start)) where
-  pub body-no : (x y : Refusal) (r : MeasuredWay) → g ≡ body-read.Refused x → y ≡ body_refusal g → r ≡ no_way (lent-refusal.Refused y) → BodyMeasured starts t h ids start room m r
-  body-no x y r e w v = record {
-    each = λ s hs is few.
-        told-no (measured room (map_res (told_of starts t m s start) (body m start))) (shown r) r.end (lent-refusal.Refused y) (ap shown v) (ap (λ (z : MeasuredWay). z.end) v)
-        (ap refused (w ∙ ap body_refusal e) ∙ go s (body m start) (ap body_res (sym e) ∙ q));
-  }
+module _ (starts : List ℕ) (t : TagRange) (h : WayHead) (ids : List ℕ) (start : ℕ) (room : Lengths) (m : List ℕ) where
+  pub body-no : (x : Refusal) → refused x ≡ map_res body_of (body m start) → BodyMeasured starts t h ids start room m (Err (Refused x))
+  body-no x q = record { each = λ s hs is few. go s (body m start) q }
     where
-      go : (s : Head) (d : Res Body) → refused x ≡ map_res body_of d → refused x ≡ measured room (map_res (told_of starts t m s start) d)
+      go : (s : Head) (d : Res Body) → refused x ≡ map_res body_of d → refused x ≡ map_res shown_of (measured room (map_res (told_of starts t m s start) d))
       go s (ok d e) f = no_ok f
       go s (no n v) f = cc
 
-  pub body-on : (b : WayBody) (n : ℕ) (r : MeasuredWay) → g ≡ body-read.Value b n → WayTold starts t h b ids start n room m r → BodyMeasured starts t h ids start room m r
-  body-on b n r e w = record { each = λ s hs is few. go s hs is few (body m start) refl (ap body_res (sym e) ∙ q) }
+  pub body-on : (b : WayBody) (n : ℕ) (r : Result (MeasuredWay × ℕ) LentRefusal) → ok b n ≡ map_res body_of (body m start) → WayTold starts t h b ids start n room m r → BodyMeasured starts t h ids start room m r
+  body-on b n r q w = record { each = λ s hs is few. go s hs is few (body m start) refl q }
     where
-      go : (s : Head) → h ≡ head_of s → ids ≡ s.tagged.ids → length ids ≤ 15 → (d : Res Body) → body m start ≡ d → ok b n ≡ map_res body_of d → ToldAs (measured room (map_res (told_of starts t m s start) d)) (shown r) r.end
+      go : (s : Head) → h ≡ head_of s → ids ≡ s.tagged.ids → length ids ≤ 15 → (d : Res Body) → body m start ≡ d → ok b n ≡ map_res body_of d → ToldAs (measured room (map_res (told_of starts t m s start) d)) r
       go s hs is few (ok d x) f i =
-          subst (λ (y : ℕ). ToldAs (measured room (ok (told_of starts t m s start d) y)) (shown r) r.end) (ok_at i)
+          subst (λ (y : ℕ). ToldAs (measured room (ok (told_of starts t m s start d) y)) r) (ok_at i)
           (w.each s d hs is few (ok-val i) (f ∙ ap (ok d) (sym (ok_at i))))
       go s hs is few (no k v) f i = no_ok (sym i)
 
 -- the way, read from its place
-module _ (debug : Bool) (starts letters : List ℕ) (t : TagRange) (room : Lengths) (m : List ℕ) (at : ℕ) (g : WayHeadRead) (q : HeadIs (head debug (kinds_by letters t) m at) g) where
+module _ (debug : Bool) (starts letters : List ℕ) (t : TagRange) (room : Lengths) (m : List ℕ) (at : ℕ) where
   abbrev stored : Res Head
   stored = head debug (kinds_by letters t) m at
 
-  pub head-no : (r : MeasuredWay) (x y : Refusal) → g.end ≡ end.Refused x → y ≡ end_refusal g.end → r ≡ no_way (lent-refusal.Refused y) → MeasuredIs debug starts letters t room m at r
-  head-no r x y e w v =
-      told-no (measured room (told_way debug starts letters t m at)) (shown r) r.end (lent-refusal.Refused y) (ap shown v) (ap (λ (z : MeasuredWay). z.end) v)
-      (ap refused (w ∙ ap end_refusal e) ∙ go stored (ap (end_res g.head) (sym e) ∙ q.answer))
+  pub head-no : (x : Refusal) → refused x ≡ map_res head_of stored → MeasuredIs debug starts letters t room m at (Err (Refused x))
+  head-no x q = go stored q
     where
-      go : (s : Res Head) → refused x ≡ map_res head_of s → refused x ≡ measured room (and_then s (λ h e. map_res (told_of starts t m h e) (body m e)))
+      go : (s : Res Head) → refused x ≡ map_res head_of s → refused x ≡ map_res shown_of (measured room (and_then s (λ h e. map_res (told_of starts t m h e) (body m e))))
       go (ok s e) d = no_ok d
       go (no n v) d = cc
 
-  module _ (n : ℕ) (e : g.end ≡ end.At n) where
-    known : Known head_of g.head n stored
-    known = known_by head_of g.head n stored (ap (end_res g.head) (sym e) ∙ q.answer)
+  module _ (h : WayHead) (n : ℕ) (q : ok h n ≡ map_res head_of stored) where
+    known : Known head_of h n stored
+    known = known_by head_of h n stored q
 
-    ids-told : g.head.tag_ids ≡ tag_ids known.value.tagged.ids
+    ids-told : h.tag_ids ≡ tag_ids known.value.tagged.ids
     ids-told = ap (λ (x : WayHead). x.tag_ids) known.shown
 
-    pub ids-in : g.head.tag_ids.count ≤ length g.head.tag_ids.ids
-    ids-in = ids-within g.head.tag_ids known.value.tagged.ids ids-told
+    pub ids-in : h.tag_ids.count ≤ length h.tag_ids.ids
+    ids-in = ids-within h.tag_ids known.value.tagged.ids ids-told
 
-    pub ids-sized : g.head.tag_ids.count ≡ length (take g.head.tag_ids.count g.head.tag_ids.ids)
-    ids-sized = ids-counted g.head.tag_ids known.value.tagged.ids ids-told
+    pub ids-sized : h.tag_ids.count ≡ length (take h.tag_ids.count h.tag_ids.ids)
+    ids-sized = ids-counted h.tag_ids known.value.tagged.ids ids-told
 
-    pub head-on : (r : MeasuredWay) → BodyMeasured starts t g.head (take g.head.tag_ids.count g.head.tag_ids.ids) n room m r → MeasuredIs debug starts letters t room m at r
+    pub head-on : (r : Result (MeasuredWay × ℕ) LentRefusal) → BodyMeasured starts t h (take h.tag_ids.count h.tag_ids.ids) n room m r → MeasuredIs debug starts letters t room m at r
     head-on r w =
-        let i = ids-are g.head.tag_ids known.value.tagged.ids ids-told in
+        let i = ids-are h.tag_ids known.value.tagged.ids ids-told in
         let few = (head_few m debug (kinds_by letters t)).holds at known.value n known.same in
         let j = ap length i in
-        subst (λ (s : Res Head). ToldAs (measured room (and_then s (λ h e. map_res (told_of starts t m h e) (body m e)))) (shown r) r.end) (sym known.same)
+        subst (λ (s : Res Head). ToldAs (measured room (and_then s (λ h e. map_res (told_of starts t m h e) (body m e)))) r) (sym known.same)
         (w.each known.value known.shown i (omega arith))

@@ -1,25 +1,20 @@
 -- A way as a fetch tells of it from its place (crate fetched), for lists of given lengths.
-use Rattle.std.specs.Prelude.{ℕ, ◌≤◌, Bool, true, false, ◌&&◌, cond, ◌≡◌, List, leb, length}
+use Rattle.std.specs.Prelude.{ℕ, ◌≤◌, Bool, ◌&&◌, cond, ◌≡◌, List, leb, length, Result}
 use Rattle.parsing.specs.Parse.{Res, ok, no, and_then, map_res}
 use Rattle.error.specs.declared.Lengths.{Lengths}
 use Rattle.error.specs.declared.LentRefusal.{LentRefusal}
 use Rattle.error.specs.declared.LentRefusal.TheVariants.{Short}
 use Rattle.format.specs.WayData.{concat}
 use Rattle.format.specs.Tile.{Head, head, Body, body}
-use Rattle.types.specs.Beside.{view_or}
-use Rattle.types.specs.declared.OptionalPosition.TheVariants as position
-use Rattle.types.specs.declared.OptionalSpan.TheVariants as span
 use Rattle.types.specs.declared.TagRange.{TagRange}
 use Rattle.tag_table.specs.Tables.{kinds_by}
 use Rattle.tagged.specs.TagIds.{tag_ids}
 use Rattle.way.specs.Way.{body_of}
 use Rattle.way.specs.declared.WayBody.{WayBody}
-use Rattle.way_head.specs.WayHead.{head_of, empty_head}
+use Rattle.way_head.specs.WayHead.{head_of}
 use Rattle.way_head.specs.declared.WayHead.{WayHead}
 use Rattle.way_lists.specs.declared.ListPlan.{ListPlan}
-use Rattle.fetched.specs.Fetched.{started_name, no_texts, FetchLists, Fetched, fetched_way, needed_all, end_res}
-use Rattle.fetched.specs.declared.FetchEnd.{FetchEnd}
-use Rattle.fetched.specs.declared.FetchEnd.TheVariants as end
+use Rattle.fetched.specs.Fetched.{started_name, FetchLists, Fetched, fetched_way, needed_all, fetched_res}
 use Rattle.fetched.specs.declared.FeatureTexts.{FeatureTexts}
 use Rattle.fetched.specs.declared.FetchedWay.{FetchedWay}
 use Rattle.feature_texts.specs.declared.TextParts.{TextParts}
@@ -44,7 +39,7 @@ abbrev pub told_of : (starts : List ℕ) → TagRange → List ℕ → Head → 
 told_of starts t m h e b = record {
   fetched = fetched_way (started_name starts t m) h b;
   texts = record { tag_ids = tag_ids h.tagged.ids; parts = way_parts (body_of b) t };
-  lists = record { present = true; start = e; blocks = length (concat b.data_blocks) };
+  lists = record { start = e; blocks = length (concat b.data_blocks) };
 }
 
 abbrev pub told_way : Bool → (starts letters : List ℕ) → TagRange → List ℕ → ℕ → Res Told
@@ -82,58 +77,18 @@ abbrev pub texts_with : WayHead → TextParts → TextPlan
 texts_with h p = record { tag_ids = h.tag_ids; parts = p }
 
 abbrev pub lists_with : WayBody → (start : ℕ) → ListPlan
-lists_with b start = record { present = true; start = start; blocks = b.blocks }
+lists_with b start = record { start = start; blocks = b.blocks }
 
--- where it is refused
-abbrev pub empty_way : FetchedWay
-empty_way = record {
-  signature = empty_head.signature;
-  bitmap = 0;
-  layer = empty_head.layer;
-  tag_ids = empty_head.tag_ids;
-  texts = no_texts;
-  label_position = position.Absent;
-  double_delta = false;
-  blocks = 0;
-  nodes = 0;
-  plain = false;
-  head_plain = false;
-}
-
-abbrev pub empty_parts : TextParts
-empty_parts = record { tags = record { first = 0; count = 0 }; name = span.Absent; house_number = span.Absent; reference = span.Absent }
-
-abbrev pub no_text_plan : TextPlan
-no_text_plan = record { tag_ids = empty_head.tag_ids; parts = empty_parts }
-
-abbrev pub no_list_plan : ListPlan
-no_list_plan = record { present = false; start = 0; blocks = 0 }
-
-abbrev pub no_way : LentRefusal → MeasuredWay
-no_way r = record { way = empty_way; texts = no_text_plan; lists = no_list_plan; end = end.Refused r }
-
--- what is handed out, but for the end
-pub record Shown : Type 0 where
-  pub way : FetchedWay
-  pub texts : TextPlan
-  pub lists : ListPlan
-
-abbrev pub shown_of : Told → Shown
+-- what is handed out
+abbrev pub shown_of : Told → MeasuredWay
 shown_of x = record { way = x.fetched.value; texts = x.texts; lists = x.lists }
 
-abbrev pub nothing : Shown
-nothing = record { way = empty_way; texts = no_text_plan; lists = no_list_plan }
-
-abbrev pub shown : MeasuredWay → Shown
-shown r = record { way = r.way; texts = r.texts; lists = r.lists }
-
 -- a way that is told, or is not, by what the definition says
-pub record ToldAs (stored : Res Told) (r : Shown) (end : FetchEnd) : Type 0 where
-  pub answer : end_res r end ≡ map_res shown_of stored
-  pub whole : r ≡ view_or shown_of nothing stored
+abbrev pub ToldAs : Res Told → Result (MeasuredWay × ℕ) LentRefusal → Type 0
+ToldAs stored r = fetched_res r ≡ map_res shown_of stored
 
-abbrev pub MeasuredIs : Bool → (starts letters : List ℕ) → TagRange → Lengths → List ℕ → (at : ℕ) → MeasuredWay → Type 0
-MeasuredIs debug starts letters t room m at r = ToldAs (measured room (told_way debug starts letters t m at)) (shown r) r.end
+abbrev pub MeasuredIs : Bool → (starts letters : List ℕ) → TagRange → Lengths → List ℕ → (at : ℕ) → Result (MeasuredWay × ℕ) LentRefusal → Type 0
+MeasuredIs debug starts letters t room m at r = ToldAs (measured room (told_way debug starts letters t m at)) r
 
 -- What private functions test and tell, which need not be believed.
 abbrev pub roomy : (blocks nodes texts : ℕ) → Lengths → Bool
@@ -143,10 +98,10 @@ abbrev pub too_short : (blocks nodes texts : ℕ) → LentRefusal
 too_short blocks nodes texts = Short (record { list1 = blocks; list2 = nodes; list3 = nodes; list4 = blocks; list5 = blocks; buffer = texts })
 
 -- a way that was read, with this head, body and ids, its body from `start` to `next`
-pub record WayTold (starts : List ℕ) (t : TagRange) (h : WayHead) (b : WayBody) (ids : List ℕ) (start next : ℕ) (room : Lengths) (m : List ℕ) (r : MeasuredWay) : Type 0 where
+pub record WayTold (starts : List ℕ) (t : TagRange) (h : WayHead) (b : WayBody) (ids : List ℕ) (start next : ℕ) (room : Lengths) (m : List ℕ) (r : Result (MeasuredWay × ℕ) LentRefusal) : Type 0 where
   pub each : (s : Head) (d : Body) → h ≡ head_of s → ids ≡ s.tagged.ids → length ids ≤ 15 → b ≡ body_of d → body m start ≡ ok d next
-      → ToldAs (measured room (ok (told_of starts t m s start d) next)) (shown r) r.end
+      → ToldAs (measured room (ok (told_of starts t m s start d) next)) r
 
 -- the rest of a way with this head and these ids
-pub record BodyMeasured (starts : List ℕ) (t : TagRange) (h : WayHead) (ids : List ℕ) (start : ℕ) (room : Lengths) (m : List ℕ) (r : MeasuredWay) : Type 0 where
-  pub each : (s : Head) → h ≡ head_of s → ids ≡ s.tagged.ids → length ids ≤ 15 → ToldAs (measured room (map_res (told_of starts t m s start) (body m start))) (shown r) r.end
+pub record BodyMeasured (starts : List ℕ) (t : TagRange) (h : WayHead) (ids : List ℕ) (start : ℕ) (room : Lengths) (m : List ℕ) (r : Result (MeasuredWay × ℕ) LentRefusal) : Type 0 where
+  pub each : (s : Head) → h ≡ head_of s → ids ≡ s.tagged.ids → length ids ≤ 15 → ToldAs (measured room (map_res (told_of starts t m s start) (body m start))) r

@@ -10,25 +10,17 @@ use lib.Seq.{sets, length-sets}
 use borrow.Author.Rules.{rules}
 use Rattle.parsing.specs.Parse.{ok, Part, many, Fine, list_of}
 use Rattle.parsing.proofs.Loops.{rest, rest-no, fine-is, many-count, sets-append}
+use Rattle.error.specs.Refusals.{refused}
 use Rattle.error.specs.declared.Refusal.{Refusal}
-use Rattle.byte_source.specs.Answers.{span_bytes, part_in, span_res}
+use Rattle.byte_source.specs.Answers.{part_in}
 use Rattle.byte_source.specs.declared.Span.{Span}
-use Rattle.byte_source.specs.declared.SpanRead.{SpanRead}
-use Rattle.byte_source.specs.declared.SpanRead.TheVariants as span
 use Rattle.utils.specs.Vbe.{text}
-use Rattle.text.specs.Utf8.{replaced}
-use Rattle.tag.specs.Tag.{letter_of, kind}
-use Rattle.tag.specs.declared.Kind.{Kind}
 use Rattle.format.specs.Lent.{front, sets-front}
 use Rattle.format.specs.TagLists.{starts_of, letter_of_text}
 use Rattle.format.proofs.TagLaws.{text-end}
 use Rattle.format.proofs.ListLaws.{length-starts_of}
 use Rattle.types.specs.declared.TagTable.{TagTable}
 use Rattle.opening.specs.Listing.{texts_in, starts_in, letters_in, TagsFit, TagsListed, BothFit, BothListed}
-
--- one text
-pub letter-is : (m : List ℕ) (t : Span) (b : List ℕ) (k : Kind) (x : ℕ) → x ≡ letter_of k → k ≡ kind (replaced b) → b ≡ span_bytes m t → x ≡ letter_of_text (part_in m t)
-letter-is m t b k x i j e = rw (i, j, e)
 
 -- the loop over a table
 pub record TagsLeft (m : List ℕ) (at left k : ℕ) (s l S L : List ℕ) : Type 0 where
@@ -38,8 +30,11 @@ pub record TagsLeft (m : List ℕ) (at left k : ℕ) (s l S L : List ℕ) : Type
   pub starts : sets s k (starts_of at (list_of (many text left m at))) ≡ S
   pub letters : sets l k (map letter_of_text (list_of (many text left m at))) ≡ L
 
-pub tags-start : (m : List ℕ) (t : TagTable) (first : ℕ) (s l : List ℕ) → TagsFit m t first s l → TagsLeft m t.start t.count first s l (sets s first (starts_in m t)) (sets l first (letters_in m t))
-tags-start m t first s l y = record { fine = y.fine; room = y.starts; also = y.letters; starts = refl; letters = refl }
+pub tags-start : (m : List ℕ) (t : TagTable) (first : ℕ) (s l : List ℕ) → TagsFit m t first s l → TagsLeft m t.start (t.count - 0) (first + 0) s l (sets s first (starts_in m t)) (sets l first (letters_in m t))
+tags-start m t first s l y =
+    let z : t.count - 0 ≡ t.count = omega arith in
+    let w : first + 0 ≡ first = omega arith in
+    rw (z, w) record { fine = y.fine; room = y.starts; also = y.letters; starts = refl; letters = refl }
 
 none_left : (m : List ℕ) (left at : ℕ) → left ≤ 0 → many text left m at ≡ ok [] at
 none_left m zero at h = refl
@@ -57,17 +52,21 @@ module _ (m : List ℕ) (at left k : ℕ) (s l S L : List ℕ) (y : TagsLeft m a
         letters = rw add-one (rw r.list at y.letters);
       }
 
-  module _ (g : SpanRead) (q : span_res m g ≡ text m at) where
-    pub tags-more : (p : Span) (e x : ℕ) → g ≡ span.Value p e → x ≡ letter_of_text (part_in m p) → TagsLeft m e (left - 1) (k + 1) (set s k at) (set l k x) S L
-    tags-more p e x h i = rw i (more (part_in m p) e (sym q ∙ ap (span_res m) h))
+-- text i of n
+module _ (m : List ℕ) (at n i first : ℕ) (s l S L : List ℕ) (y : TagsLeft m at (n - i) (first + i) s l S L) where
+  pub tags-more : (p : Span) (e x : ℕ) → i < n → ok (part_in m p) e ≡ text m at → x ≡ letter_of_text (part_in m p) → TagsLeft m e (n - (i + 1)) (first + (i + 1)) (set s (first + i) at) (set l (first + i) x) S L
+  tags-more p e x b q h =
+      let z : n - i - 1 ≡ n - (i + 1) = omega arith in
+      let w : first + i + 1 ≡ first + (i + 1) = omega arith in
+      rw h (rw (z, w) at (more m at (n - i) (first + i) s l S L y (omega arith) (part_in m p) e (sym q)))
 
-    -- the texts are readable
-    pub tags-never : (r : Refusal) (t : TagTable) (first : ℕ) (s₀ l₀ : List ℕ) → g ≡ span.Refused r → TagsListed m t first s₀ l₀ s l
-    tags-never r t first s₀ l₀ h = rest-no text m left at b y.fine (sym q ∙ ap (span_res m) h)
+  -- the texts are readable
+  pub tags-never : (r : Refusal) (t : TagTable) (s₀ l₀ : List ℕ) → i < n → refused r ≡ text m at → TagsListed m t first s₀ l₀ s l
+  tags-never r t s₀ l₀ b q = rest-no text m (n - i) at (omega arith) y.fine (sym q)
 
-pub tags-done : (m : List ℕ) (at left k : ℕ) (s l : List ℕ) (t : TagTable) (first : ℕ) (s₀ l₀ : List ℕ) → TagsLeft m at left k s l (sets s₀ first (starts_in m t)) (sets l₀ first (letters_in m t)) → left ≤ 0 → TagsListed m t first s₀ l₀ s l
-tags-done m at left k s l t first s₀ l₀ y h =
-    let e = none_left m left at h in
+pub tags-done : (m : List ℕ) (at n i first : ℕ) (s l : List ℕ) (t : TagTable) (s₀ l₀ : List ℕ) → TagsLeft m at (n - i) (first + i) s l (sets s₀ first (starts_in m t)) (sets l₀ first (letters_in m t)) → n ≤ i → TagsListed m t first s₀ l₀ s l
+tags-done m at n i first s l t s₀ l₀ y h =
+    let e = none_left m (n - i) at (omega arith) in
     record { starts = rw e at y.starts; letters = rw e at y.letters }
 
 pub ruleset tags = (rules, tags-start, tags-more, tags-never, tags-done)

@@ -5,7 +5,7 @@ use mathlib.Core.Path.{◌≡◌, refl, sym, ap, ◌∙◌}
 use mathlib.Core.Bool.{Bool, true, false}
 use mathlib.Core.List.{List}
 use lib.ListN.{length}
-use Rattle.parsing.specs.Parse.{Res, ok, no, nth}
+use Rattle.parsing.specs.Parse.{Res, ok, no, map_res, nth}
 use Rattle.parsing.specs.Good.{split, ok-val, ok_at, no_ok}
 use Rattle.format.specs.Header.{Header, opened}
 use Rattle.format.specs.Index.{answer, sub_file_for_zoom}
@@ -14,11 +14,10 @@ use Rattle.format.specs.Lent.{Replied}
 use Rattle.format.specs.TagLists.{TagLists, tag_lists, lists_fit, lists_written, listing}
 use Rattle.format.proofs.IntervalLaws.{opened-row, opened-sub-file}
 use Rattle.types.specs.Types.{intervals_of}
-use Rattle.types.specs.declared.End.TheVariants as end
 use Rattle.types.specs.declared.HeaderFields.{HeaderFields}
 use Rattle.types.specs.declared.IntervalTable.{IntervalTable}
 use Rattle.zoom_intervals.specs.Rows.{table_before}
-use Rattle.header.specs.HeaderView.{map_header, HeaderIs}
+use Rattle.header.specs.HeaderView.{map_header}
 use Rattle.header.proofs.HeaderLaws.{Stored, intervals-back}
 use Rattle.opening.specs.Opening.{listing_as}
 
@@ -57,8 +56,8 @@ opened_with {A = A} view stored lent v e left q =
     }
 
 module _ (m : List ℕ) (f : HeaderFields) (e : ℕ) (s : Stored (opened m) f e) where
-  pub opened-header : HeaderIs (opened m) (record { header = map_header s.header; end = end.At e })
-  opened-header = rw s.read (record { answer = refl; whole = refl })
+  pub opened-header : ok (map_header s.header) e ≡ map_res map_header (opened m)
+  opened-header = ap (map_res map_header) (sym s.read)
 
   -- by the table that stands in front of the place behind the header
   module _ (t : IntervalTable) (k : t ≡ table_before e f.num_zoom_intervals) where

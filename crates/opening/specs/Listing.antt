@@ -1,21 +1,14 @@
 -- What private functions ask and leave, which need not be believed: the test of the lists' lengths, the walk over the texts of tables that are
--- known to be readable, and the parts of an answer.
+-- known to be readable.
 use Rattle.std.specs.Prelude.{ℕ, ◌+◌, ◌≤◌, Bool, ◌&&◌, ◌≡◌, List, ◌++◌, map, leb, length}
 use Rattle.std.proofs.lemmas.List.Edits.{sets}
 use Rattle.parsing.specs.Parse.{Res, Part, many, Fine, list_of}
 use Rattle.error.specs.declared.LentRefusal.{LentRefusal}
 use Rattle.error.specs.declared.LentRefusal.TheVariants.{Short}
-use Rattle.error.specs.declared.Refusal.TheVariants.{Source}
 use Rattle.utils.specs.Vbe.{text}
 use Rattle.format.specs.Lent.{front}
 use Rattle.format.specs.TagLists.{starts_of, letter_of_text}
 use Rattle.types.specs.declared.TagTable.{TagTable}
-use Rattle.header.specs.declared.FieldsRead.{FieldsRead}
-use Rattle.header.specs.declared.FieldsRead.TheVariants as fields
-use Rattle.opening.specs.declared.ListedRead.{ListedRead}
-use Rattle.opening.specs.declared.ListedRead.TheVariants as listed
-use Rattle.opening.specs.declared.OpenEnd.{OpenEnd}
-use Rattle.opening.specs.declared.OpenEnd.TheVariants as open-end
 
 -- lists of these lengths have room for n entries each
 abbrev pub long_enough : (n starts letters : ℕ) → Bool
@@ -55,12 +48,3 @@ pub record BothFit (m : List ℕ) (p w : TagTable) (s l : List ℕ) : Type 0 whe
 pub record BothListed (m : List ℕ) (p w : TagTable) (s₀ l₀ s l : List ℕ) : Type 0 where
   pub starts : s ≡ front (starts_in m p ++ starts_in m w) s₀
   pub letters : l ≡ front (letters_in m p ++ letters_in m w) l₀
-
--- the parts of an answer: the fields, without the lengths of 15, and the end
-abbrev pub fields_part : ListedRead → FieldsRead
-fields_part (listed.Value f e) = fields.Value f e
-fields_part (listed.Refused r) = fields.Refused Source
-
-abbrev pub end_part : ListedRead → OpenEnd
-end_part (listed.Value f e) = open-end.At e
-end_part (listed.Refused r) = open-end.Refused r

@@ -1,3 +1,2 @@
-pub mod ElevationLaws
 pub mod PoiLaws
 pub mod StreamLaws

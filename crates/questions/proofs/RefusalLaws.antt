@@ -2,8 +2,6 @@
 use Prim.Native.Nat.{ℕ}
 use mathlib.Core.Path.{◌≡◌, refl, sym, ap, ◌∙◌}
 use mathlib.Core.List.{List, [], ◌∷◌}
-use borrow.Author.Rules.{rules}
-use borrow.Author.Tests.{eq-eqb, ne_eqb}
 use types.Run.{OneOf, miss}
 use denote.Enum.Declared.{tag_of}
 use Rattle.error.specs.Refusals.{number_of, values_of}
@@ -46,19 +44,6 @@ no-values InvalidFeature h = refl
 no-values ZoomTooLarge h = refl
 no-values (IndexCutOff i) h = refl
 no-values (TileHeadCutOff i) h = refl
-
--- the number, by the tests that the code makes
-module _ (r : Refusal) (n : ℕ) (h : n ≡ number_of r) where
-  pub cut-index : n ≡ 19 → 1 ≡ in_rust (number_of r) 1 (number_of r)
-  cut-index e = rw (eq-eqb (number_of r) 19 (sym h ∙ e))
-
-  pub cut-head : (n ≡ 19 → ⊥) → n ≡ 20 → 1 ≡ in_rust (number_of r) 1 (number_of r)
-  cut-head f e = rw (ne_eqb (number_of r) 19 (λ k. f (h ∙ k)), eq-eqb (number_of r) 20 (sym h ∙ e))
-
-  pub cut-neither : (n ≡ 19 → ⊥) → (n ≡ 20 → ⊥) → n ≡ in_rust (number_of r) 1 (number_of r)
-  cut-neither f g = rw (ne_eqb (number_of r) 19 (λ k. f (h ∙ k)), ne_eqb (number_of r) 20 (λ k. g (h ∙ k))) h
-
-pub ruleset rust-numbers = (rules, cut-index, cut-head, cut-neither)
 
 module _ (r : Refusal) (w : Words) (e : w ≡ pushed no_words (in_rust (number_of r) 1 (number_of r))) where
   valued : (xs : List ℕ) (x : Words) → values_there r ≡ xs → x ≡ pushed_all w xs → x ≡ refusal_words r

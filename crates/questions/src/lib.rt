@@ -7,7 +7,6 @@ ghost use Rattle.error.specs.Refusals.{number_of};
 ghost use Rattle.tag.specs.Tag.{letter_of};
 ghost use Rattle.questions.specs.Answers.{pushed_all, answered, lent_refusal_words, in_rust, refusal_words};
 
-use byte_source::{ByteRead, IntRead, NumberRead, WordRead};
 use error::{Lengths, LentRefusal, Refusal};
 use report::Words;
 use tag::Kind;
@@ -16,37 +15,25 @@ use tag::Kind;
 pub fn byte_at(question: &[u8], at: usize) -> u8
     ensures { result ≡ byte_at question.now at }
 {
-    let ByteRead::Value(v, _) = byte_source::read_u8(question, at) else {
-        return 0;
-    };
-    v
+    byte_source::read_u8(question, at).map_or(0, |(v, _)| v)
 }
 
 pub fn word_at(question: &[u8], at: usize) -> u32
     ensures { result ≡ number_at 4 question.now at }
 {
-    let WordRead::Value(v, _) = byte_source::read_u32_be(question, at) else {
-        return 0;
-    };
-    v
+    byte_source::read_u32_be(question, at).map_or(0, |(v, _)| v)
 }
 
 pub fn number_at(question: &[u8], at: usize) -> u64
     ensures { result ≡ number_at 8 question.now at }
 {
-    let NumberRead::Value(v, _) = byte_source::read_u64_be(question, at) else {
-        return 0;
-    };
-    v
+    byte_source::read_u64_be(question, at).map_or(0, |(v, _)| v)
 }
 
 pub fn int_at(question: &[u8], at: usize) -> i32
     ensures { result ≡ int_at question.now at }
 {
-    let IntRead::Value(v, _) = byte_source::read_i32_be(question, at) else {
-        return 0;
-    };
-    v
+    byte_source::read_i32_be(question, at).map_or(0, |(v, _)| v)
 }
 
 fn push_lengths(words: Words, l: Lengths) -> Words
@@ -60,10 +47,7 @@ fn rust_number(refusal: Refusal) -> u8
     ensures { result ≡ in_rust (number_of refusal) 1 (number_of refusal) }
 {
     let number = error::number_of(refusal);
-    if number == 19 {
-        return 1;
-    }
-    if number == 20 {
+    if number == 19 || number == 20 {
         return 1;
     }
     number
@@ -91,7 +75,7 @@ pub fn lent_refusal_words(refusal: LentRefusal) -> Words
     }
 }
 
-// A success is 0 and its values.
+// A success is 0 and its values, of which no answer here has more than three.
 pub fn zero() -> Words
     ensures { result ≡ answered [] }
 {
@@ -119,10 +103,7 @@ pub fn three(a: u64, b: u64, c: u64) -> Words
 pub fn flag(b: bool) -> u64
     ensures { result ≡ cond b 1 0 }
 {
-    if b {
-        return 1;
-    }
-    0
+    u64::from(b)
 }
 
 // The letter of an inline value's kind, and 0 for none.

@@ -4,21 +4,21 @@ use native.Mathlib.Omega.{arith}
 use mathlib.Core.Path.{◌≡◌, refl, sym, ap, ◌∙◌}
 use mathlib.Core.Bool.{Bool, true, false, not, cond}
 use mathlib.Core.List.{List}
-use lib.Dec.{eqb, leb, lit<, lit≤}
+use lib.Dec.{eqb, lit<}
 use lib.IntN.{ℤ, pos, neg_ℤ, nat_abs}
 use lib.ListN.{length, get_or}
 use lib.Signed.{mag}
 use mir.Syntax.{w64}
-use mir.Val.{Fits, SFits, to_z, of_z}
-use mir.Facts.{to_z-of_z, to_z_pos}
+use mir.Val.{to_z, of_z}
+use mir.Facts.{to_z-of_z}
 use borrow.Author.Rules.{rules}
 use borrow.Author.Tests.{le-leb, ne_eqb}
-use Rattle.parsing.specs.Parse.{Res, ok, map_res}
+use Rattle.parsing.specs.Parse.{ok, map_res}
 use Rattle.parsing.proofs.Steps.{eqb_yes, eqb_no}
-use Rattle.utils.specs.Vbe.{Groups, groups, Noted, noted, signed_of, plain_signed, noted_signed, noted_coordinate}
+use Rattle.utils.specs.Vbe.{groups, noted, signed_of, plain_signed, noted_signed, noted_coordinate}
 use Rattle.utils.proofs.VbeLaws.{above, above-none, loop-more, loop-last, first_plain}
 use Rattle.utils.proofs.SignedLaws.{neg-sfits, minus_is}
-use Rattle.format.specs.WayData.{Node, node}
+use Rattle.format.specs.WayData.{node}
 use Rattle.quick_head.specs.Quick.{IfKnown, Reads, whole, SignedIs}
 use Rattle.quick_head.specs.declared.QuickCoordinate.{QuickCoordinate}
 use Rattle.quick_head.proofs.QuickLaws.{told, told-inside, untold, if-known, whole_is}

@@ -5,18 +5,18 @@ use native.Mathlib.Omega.{arith}
 use mathlib.Core.Path.{◌≡◌, refl, sym, ap, ◌∙◌, subst}
 use mathlib.Core.Bool.{Bool, true, false, not, cond, ◌&&◌}
 use mathlib.Core.List.{List, [], ◌∷◌, ◌++◌}
-use lib.Dec.{ltb, leb, eqb, lit<, lit≤}
+use lib.Dec.{leb, eqb, lit<, lit≤}
 use lib.IntN.{ℤ}
 use lib.Signed.{mag}
 use mir.Syntax.{w8, w64}
 use mir.Val.{Fits, to_z, of_z}
-use lib.ListN.{length, get_or, take, drop, set, drop_of_length-le, length-take, length-drop, length-append}
+use lib.ListN.{length, get_or, take, drop, set, drop_of_length-le, length-take}
 use lib.Seq.{drop-cons, get_or-take, length-take-le, take-append_seam}
 use native.Mathlib.Numerals.{add-one}
 use borrow.Author.Rules.{rules}
 use borrow.Author.Tests.{not-false, ne_eqb, lt-ltb, leb-true, le-leb}
-use Rattle.parsing.specs.Parse.{Res, ok, no, map_res, and_then, many, byte, Part, part, Maybe, none, optional}
-use Rattle.parsing.specs.Good.{split, ok-val, ok_at, no_ok}
+use Rattle.parsing.specs.Parse.{Res, ok, no, map_res, and_then, many, Part, part, none, optional}
+use Rattle.parsing.specs.Good.{ok-val, ok_at, no_ok}
 use Rattle.parsing.proofs.Steps.{eqb_yes, eqb_no, byte-here}
 use Rattle.parsing.proofs.Loops.{many-count}
 use Rattle.byte_source.proofs.ByteLaws.{part-here, number-here, pair16}
@@ -29,9 +29,9 @@ use Rattle.format.specs.TagLists.{kinds_in}
 use Rattle.tag_table.proofs.KindLaws.{length-kinds, kind-past, kind-there}
 use Rattle.types.proofs.FillLaws.{front-more, held_more}
 use Rattle.types.proofs.NotedLaws.{values_length, values-snoc, plain-snoc}
-use Rattle.format.specs.Tile.{Tagged, Head, debug_signature, tag_id, kind_at, values, layer_of, tagged, head_rest, head}
+use Rattle.format.specs.Tile.{Tagged, debug_signature, tag_id, kind_at, values, layer_of, tagged, head_rest, head}
 use Rattle.tagged.proofs.LayerLaws.{layer-bits}
-use Rattle.utils.specs.Vbe.{Groups, groups, Noted, noted, values_of, all_plain, plain_unsigned, noted_unsigned}
+use Rattle.utils.specs.Vbe.{groups, Noted, noted, values_of, all_plain, noted_unsigned}
 use Rattle.utils.proofs.VbeLaws.{above-none, loop-more, loop-last, unsigned-one}
 use Rattle.quick_head.specs.Quick.{IfKnown, Reads, whole, is_plain, are_plain, width_of, put, filled, ShownTags, tags_of, head_of, FrontIs}
 use Rattle.quick_head.specs.declared.QuickNumber.{QuickNumber}
@@ -219,14 +219,6 @@ module _ (letters : List ℕ) (first tags : ℕ) (m lent l : List ℕ) where
   unfolding tagged
   tagged_is at s n e xs v h q i j = rw (byte-here m at h, ← q, length-kinds letters first tags, i, j)
 
-  pub ids-long : (a : QuickPlace) (at s : ℕ) → IfKnown a.known (Reads (filled lent) (many (tag_id tags) (s % 16) m at) (length m) (noted l true) a.next) → not a.known ≡ false → length lent ≡ 15 → length l ≡ 15
-  unfolding put
-  ids-long a at s i j b =
-      let x = stored (filled lent) (many (tag_id tags) (s % 16) m at) (noted l true) a.next (told a.known i j).same in
-      let c = many-count (tag_id tags) m (s % 16) at x.value a.next x.is in
-      let v = values_of x.value in
-      omega (arith, ap length (filled-ids lent l x.value x.shown), length-append v (drop (length v) lent), length-drop (length v) lent, values_length x.value)
-
   pub tags-is : (a b : QuickPlace) (at s : ℕ) (y : ℤ) → at < length m → s ≡ get_or m at 0 → IfKnown a.known (Reads (filled lent) (many (tag_id tags) (s % 16) m (at + 1)) (length m) (noted l true) a.next) → not a.known ≡ false → IfKnown b.known (Reads are_plain (values K (take (s % 16) l) m a.next) (length m) true b.next) → not b.known ≡ false → y ≡ layer_of s → mag y < 2 ^ 7
       → Reads (tags_of lent) (tagged K m at) (length m) (record { layer = to_z w8 (of_z w8 y); ids = l; count = s % 16; plain = true }) b.next
   tags-is a b at s y h q i j k o w z =
@@ -272,4 +264,4 @@ module _ (m : List ℕ) (at : ℕ) where
       let pl = ap (λ (s : ShownTags). s.plain) x.shown in
       record { same = ap (map_res (head_of lent)) h ∙ rw (x.shown, pl, layer-bits t.layer z, c); inside = r.inside }
 
-pub ruleset quicks = (rules, eqb_yes, eqb_no, untold, number-one, number-two, told-inside, sized-is, value_none, value-sized, value-wide, letter-there, letter-past, ids_more, ids-done, ids-none, values-more, values-done, has_all, tags-is, front-is, front-inside, front_fits, told-all, ids-long, quick-head-is)
+pub ruleset quicks = (rules, eqb_yes, eqb_no, untold, number-one, number-two, told-inside, sized-is, value_none, value-sized, value-wide, letter-there, letter-past, ids_more, ids-done, ids-none, values-more, values-done, has_all, tags-is, front-is, front-inside, front_fits, told-all, quick-head-is)

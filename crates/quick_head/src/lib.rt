@@ -1,5 +1,6 @@
 // A way up to its tag values, and a point's numbers and tags, read straight to the caller's array: where numbers have one or two bytes
 // (coordinates up to four) and are plain, and nothing is refused. Anything else is not known here, and is left to the general readers.
+// `known` stands beside the values, and no Option around them: this path is the hot one, and is left as it was measured.
 #![tactic(auto)]
 
 ghost use Rattle.std.specs.Prelude.{◌≡◌, true, false, ◌+◌, ◌-◌, ◌/◌, ◌%◌, ◌≤◌, ◌<◌, ◌^◌, length, take};
@@ -57,10 +58,7 @@ pub fn quick_number(map: &[u8], at: usize) -> QuickNumber
         return no_number();
     }
     let b = wide(map[at + 1]);
-    if b < 1 {
-        return no_number();
-    }
-    if 128 <= b {
+    if b < 1 || 128 <= b {
         return no_number();
     }
     QuickNumber {
@@ -87,12 +85,11 @@ fn no_place() -> QuickPlace
 
 // `count` ids of `tags` tags, to the front of `ids`.
 fn quick_ids(map: &[u8], at: usize, tags: usize, count: usize, ids: &mut [u64; 15]) -> QuickPlace
-    requires { (count ≤ 15) × (at ≤ length map.now) × (length ids.old ≡ 15) }
+    requires { (count ≤ 15) × (at ≤ length map.now) }
     ensures { IfKnown result.known (Reads (filled ids.old) (many (tag_id tags) count map.now at) (length map.now) (noted ids.new true) result.next) }
 {
     let mut next = at;
-    let mut i = 0;
-    while i < count {
+    for i in 0..count {
         let got = quick_number(map, next);
         if !got.known {
             return no_place();
@@ -103,7 +100,6 @@ fn quick_ids(map: &[u8], at: usize, tags: usize, count: usize, ids: &mut [u64; 1
         }
         ids[i] = id;
         next = got.next;
-        i += 1;
     }
     QuickPlace { next, known: true }
 }
@@ -123,19 +119,12 @@ fn letter_at(letters: &[u8], first: usize, tags: usize, k: u64) -> u8
 fn width(letter: u8) -> usize
     ensures { result ≡ width_of letter }
 {
-    if letter == 98 {
-        return 1;
+    match letter {
+        b'b' => 1,
+        b'h' => 2,
+        b'i' | b'f' => 4,
+        _ => 0,
     }
-    if letter == 104 {
-        return 2;
-    }
-    if letter == 105 {
-        return 4;
-    }
-    if letter == 102 {
-        return 4;
-    }
-    0
 }
 
 // The place behind a length and that many bytes.
@@ -168,7 +157,7 @@ fn quick_value(map: &[u8], at: usize, letter: u8) -> QuickPlace
             known: true,
         };
     }
-    if letter == 115 {
+    if letter == b's' {
         return quick_sized(map, at);
     }
     let n = width(letter);
@@ -191,19 +180,17 @@ fn quick_values(
     ids: &[u64; 15],
     count: usize,
 ) -> QuickPlace
-    requires { (count ≤ 15) × (at ≤ length map.now) × (first + tags ≤ length letters.now) × (length ids.now ≡ 15) }
+    requires { (count ≤ 15) × (at ≤ length map.now) × (first + tags ≤ length letters.now) }
     ensures { IfKnown result.known (Reads are_plain (values (kinds_in letters.now first tags) (take count ids.now) map.now at) (length map.now) true result.next) }
 {
     let mut next = at;
-    let mut i = 0;
-    while i < count {
+    for i in 0..count {
         let letter = letter_at(letters, first, tags, ids[i]);
         let got = quick_value(map, next, letter);
         if !got.known {
             return no_place();
         }
         next = got.next;
-        i += 1;
     }
     QuickPlace { next, known: true }
 }
@@ -227,13 +214,6 @@ pub fn no_tags() -> QuickTags
     }
 }
 
-// Says that an array of fifteen has fifteen entries, which is not told of a reference to one. It costs nothing.
-pub fn fifteen(ids: [u64; 15]) -> bool
-    ensures { length ids ≡ 15 }
-{
-    true
-}
-
 // A way's layer and tags, whose ids go to the front of `ids`. The letters of all `tags` tags are there.
 fn quick_tags(
     map: &[u8],
@@ -243,7 +223,7 @@ fn quick_tags(
     tags: usize,
     ids: &mut [u64; 15],
 ) -> QuickTags
-    requires { (first + tags ≤ length letters.now) × (length ids.old ≡ 15) }
+    requires { first + tags ≤ length letters.now }
     ensures { IfKnown result.known (Reads (tags_of ids.old) (tagged (kinds_in letters.now first tags) map.now at) (length map.now) (record { layer = result.layer; ids = ids.new; count = result.count; plain = true }) result.next) }
 {
     if map.len() <= at {
@@ -278,8 +258,6 @@ pub fn quick_point_tags(
 ) -> QuickTags
     ensures { IfKnown result.known (Reads (tags_of ids.old) (tagged (kinds_in letters.now first tags) map.now at) (length map.now) (record { layer = result.layer; ids = ids.new; count = result.count; plain = true }) result.next) }
 {
-    let row = *ids;
-    let counted = fifteen(row);
     if !has_all(letters, first, tags) {
         return no_tags();
     }
@@ -373,10 +351,7 @@ pub fn no_head() -> QuickHead
 pub fn has_all(letters: &[u8], first: usize, tags: usize) -> bool
     ensures { IfKnown result (first + tags ≤ length letters.now) }
 {
-    if letters.len() < first {
-        return false;
-    }
-    tags <= letters.len() - first
+    first <= letters.len() && tags <= letters.len() - first
 }
 
 // In a map that is no debug map. The tags' ids go to the front of `ids`.
@@ -390,8 +365,6 @@ pub fn quick_head(
 ) -> QuickHead
     ensures { IfKnown result.known (Reads (head_of ids.old) (head false (kinds_in letters.now first tags) map.now at) (length map.now) (record { past = result.past; bitmap = result.bitmap; tags = record { layer = result.layer; ids = ids.new; count = result.count; plain = true }; plain = true }) result.body) }
 {
-    let row = *ids;
-    let counted = fifteen(row);
     if !has_all(letters, first, tags) {
         return no_head();
     }
@@ -418,11 +391,11 @@ fn signed_of(v: u64, sign: u64) -> i64
     requires { v < 2 ^ 63 }
     ensures { result ≡ signed_of v sign }
 {
-    let m = v as i64;
+    let magnitude = v as i64;
     if sign == 0 {
-        return m;
+        return magnitude;
     }
-    0 - m
+    -magnitude
 }
 
 #[derive(Clone, Copy)]
@@ -530,10 +503,7 @@ pub fn quick_node(map: &[u8], at: usize) -> QuickNode
     ensures { IfKnown result.known (Reads whole (node map.now at) (length map.now) (noted (record { latitude = result.latitude.0; longitude = result.longitude.0 }) true) result.next) }
 {
     let len = map.len();
-    if len < at {
-        return no_node();
-    }
-    if len - at < 8 {
+    if len < at || len - at < 8 {
         return no_node();
     }
     let y = quick_coordinate(map, at);

@@ -1,19 +1,14 @@
 -- What a quick read hands out, as an answer of the stream's next.
-use Rattle.std.specs.Prelude.{ℕ, Bool, true, false, not, cond, ◌&&◌, List, ltb}
+use Rattle.std.specs.Prelude.{ℕ, Bool, true, false, not, cond, ◌&&◌, List, ltb, ℤ, Option, Some, None, Ok}
 use Rattle.format.specs.Elevation.{low32}
 use Rattle.types.specs.Types.{position_of}
-use Rattle.types.specs.declared.OptionalSpan.{OptionalSpan}
-use Rattle.types.specs.declared.OptionalSpan.TheVariants as span
-use Rattle.poi.specs.Poi.{empty_poi}
-use Rattle.poi.specs.declared.OptionalElevation.{OptionalElevation}
-use Rattle.poi.specs.declared.OptionalElevation.TheVariants as elevation
 use Rattle.tile_layout.specs.declared.TileLayout.{TileLayout}
-use Rattle.visit.specs.Visit.{no_head}
 use Rattle.visit.specs.declared.Turn.{Turn}
 use Rattle.visit.specs.declared.Turn.TheVariants as turn
 use Rattle.visit.specs.declared.Stream.{Stream}
-use Rattle.visit.specs.declared.NextAnswer.TheVariants as next-answer
-use Rattle.visit.specs.declared.NextStep.{NextStep}
+use Rattle.visit.specs.Visit.{NextStep}
+use Rattle.visit.specs.declared.Given.TheVariants as given
+use Rattle.byte_source.specs.declared.Span.{Span}
 use Rattle.quick_point.specs.declared.QuickText.{QuickText}
 use Rattle.quick_point.specs.declared.QuickElevation.{QuickElevation}
 use Rattle.quick_point.specs.declared.QuickPoint.{QuickPoint}
@@ -31,17 +26,14 @@ is_quick l s = not l.debug && is_left s.turn
 -- what was read, with the tag ids, as a next's answer
 abbrev pub way_step : WayStep → (ids : List ℕ) → NextStep
 way_step r ids = record {
-  answer = next-answer.Way;
-  poi = empty_poi;
-  head = record { bitmap = r.bitmap; layer = r.layer; tag_ids = record { ids = ids; count = r.count }; plain = true };
+  answer = Ok (given.Way (record { bitmap = r.bitmap; layer = r.layer; tag_ids = record { ids = ids; count = r.count }; plain = true }));
   stream = r.stream;
 }
 
 abbrev pub point_step : PointStep → (ids : List ℕ) → NextStep
 point_step r ids = record {
-  answer = next-answer.Point;
-  poi = record {
-    signature = span.Absent;
+  answer = Ok (given.Point (record {
+    signature = None;
     position = r.position;
     layer = r.layer;
     tag_ids = record { ids = ids; count = r.count };
@@ -49,17 +41,16 @@ point_step r ids = record {
     house_number = r.house_number;
     elevation = r.elevation;
     plain = true;
-  };
-  head = no_head;
+  }));
   stream = r.stream;
 }
 
 -- a point that was read
-abbrev pub span_in : QuickText → OptionalSpan
-span_in t = cond t.present (span.At (record { start = t.start; size = t.size })) span.Absent
+abbrev pub span_in : QuickText → Option Span
+span_in t = cond t.present (Some (record { start = t.start; size = t.size })) None
 
-abbrev pub elevation_in : QuickElevation → OptionalElevation
-elevation_in e = cond e.present (elevation.At (low32 e.value)) elevation.Absent
+abbrev pub elevation_in : QuickElevation → Option ℤ
+elevation_in e = cond e.present (Some (low32 e.value)) None
 
 abbrev pub given_point : QuickPoint → Stream → PointStep
 given_point p s = record {

@@ -5,15 +5,14 @@
 ghost use Rattle.std.specs.Prelude.{◌≡◌, false};
 ghost use Rattle.agreement.specs.Stream.{on_next};
 ghost use Rattle.tile_layout.specs.TileLayout.{kinds_of, format_of};
-ghost use Rattle.visit.specs.Visit.{state_of, shown_step, NextIs};
+ghost use Rattle.visit.specs.Visit.{state_of, shown_step, next_step};
 ghost use Rattle.quick_head.specs.Quick.{IfKnown};
 ghost use Rattle.quick_next.specs.QuickNext.{is_quick, span_in, elevation_in, given_point, way_step, point_step};
 
 use byte_source::Span;
-use poi::OptionalElevation;
 use quick_point::{QuickElevation, QuickPoint, QuickText};
 use tile_layout::TileLayout;
-use types::{OptionalSpan, Position};
+use types::Position;
 use visit::{Remaining, Stream, Turn, WaitingWay};
 
 // A way's head but for its tag ids, and the stream in which the way then waits. Every number was plain.
@@ -31,9 +30,9 @@ pub struct WayStep {
 pub struct PointStep {
     pub stream: Stream,
     pub position: Position,
-    pub name: OptionalSpan,
-    pub house_number: OptionalSpan,
-    pub elevation: OptionalElevation,
+    pub name: Option<Span>,
+    pub house_number: Option<Span>,
+    pub elevation: Option<i32>,
     pub count: usize,
     pub layer: i8,
     pub known: bool,
@@ -43,8 +42,7 @@ pub struct PointStep {
 pub fn is_quick(layout: TileLayout, stream: Stream) -> bool
     ensures { result ≡ is_quick layout «stream» }
 {
-    let turn = stream.turn;
-    let Turn::Idle(rest) = turn else {
+    let Turn::Idle(rest) = stream.turn else {
         return false;
     };
     if layout.debug {
@@ -77,9 +75,9 @@ fn no_point(stream: Stream) -> PointStep
             latitude: 0.0,
             longitude: 0.0,
         },
-        name: OptionalSpan::Absent,
-        house_number: OptionalSpan::Absent,
-        elevation: OptionalElevation::Absent,
+        name: None,
+        house_number: None,
+        elevation: None,
         count: 0,
         layer: 0,
         known: false,
@@ -95,10 +93,9 @@ pub fn way_step(
     stream: Stream,
     ids: &mut [u64; 15],
 ) -> WayStep
-    ensures { IfKnown result.known (NextIs (shown_step (on_next (format_of (kinds_of layout letters.now)) map.now (state_of «stream»))) (way_step result ids.new)) }
+    ensures { IfKnown result.known (next_step (way_step result ids.new) ≡ shown_step (on_next (format_of (kinds_of layout letters.now)) map.now (state_of «stream»))) }
 {
-    let turn = stream.turn;
-    let Turn::Idle(rest) = turn else {
+    let Turn::Idle(rest) = stream.turn else {
         return no_way(stream);
     };
     if layout.debug {
@@ -132,25 +129,25 @@ pub fn way_step(
     }
 }
 
-fn span_of(text: QuickText) -> OptionalSpan
+fn span_of(text: QuickText) -> Option<Span>
     ensures { result ≡ span_in text }
 {
     if !text.present {
-        return OptionalSpan::Absent;
+        return None;
     }
-    OptionalSpan::At(Span {
+    Some(Span {
         start: text.start,
         size: text.size,
     })
 }
 
-fn elevation_of(elevation: QuickElevation) -> OptionalElevation
+fn elevation_of(elevation: QuickElevation) -> Option<i32>
     ensures { result ≡ elevation_in elevation }
 {
     if !elevation.present {
-        return OptionalElevation::Absent;
+        return None;
     }
-    OptionalElevation::At(poi::low32(elevation.value))
+    Some(poi::low32(elevation.value))
 }
 
 // A point as it is streamed.
@@ -189,10 +186,9 @@ pub fn point_step(
     stream: Stream,
     ids: &mut [u64; 15],
 ) -> PointStep
-    ensures { IfKnown result.known (NextIs (shown_step (on_next (format_of (kinds_of layout letters.now)) map.now (state_of «stream»))) (point_step result ids.new)) }
+    ensures { IfKnown result.known (next_step (point_step result ids.new) ≡ shown_step (on_next (format_of (kinds_of layout letters.now)) map.now (state_of «stream»))) }
 {
-    let turn = stream.turn;
-    let Turn::Idle(rest) = turn else {
+    let Turn::Idle(rest) = stream.turn else {
         return no_point(stream);
     };
     if layout.debug {

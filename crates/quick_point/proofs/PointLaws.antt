@@ -1,10 +1,9 @@
 -- One law for each read of a point.
-use Prim.Native.Nat.{ℕ, zero, suc, ◌+◌, ◌-◌, ◌/◌, ◌%◌, ◌^◌, ◌<◌, ◌≤◌}
+use Prim.Native.Nat.{ℕ, ◌+◌, ◌-◌, ◌^◌, ◌<◌, ◌≤◌}
 use native.Mathlib.Omega.{arith}
-use mathlib.Core.Path.{◌≡◌, refl, sym, ap, ◌∙◌, subst}
-use mathlib.Core.Bool.{Bool, true, false, not, cond, ◌&&◌}
+use mathlib.Core.Path.{◌≡◌, refl, sym, ap, ◌∙◌}
+use mathlib.Core.Bool.{Bool, true, false, not, ◌&&◌}
 use mathlib.Core.List.{List}
-use lib.Dec.{eqb, leb}
 use lib.IntN.{ℤ}
 use lib.ListN.{length, get_or, take, drop}
 use lib.Signed.{mag}
@@ -13,26 +12,24 @@ use mir.Val.{to_z, of_z}
 use mir.Facts.{to_z-of_z}
 use borrow.Author.Rules.{rules}
 use borrow.Author.Tests.{not-true, not-false, le-leb}
-use Rattle.parsing.specs.Parse.{Res, ok, no, map_res, byte, Part, part, Maybe, none, some, optional}
+use Rattle.parsing.specs.Parse.{Res, ok, map_res, Part, Maybe, none, optional}
 use Rattle.parsing.proofs.Steps.{byte-here}
-use Rattle.byte_source.proofs.ByteLaws.{part-here}
 use Rattle.utils.specs.Vbe.{Noted, noted, noted_unsigned, noted_signed, noted_text}
 use Rattle.text.specs.Utf8.{valid}
 use Rattle.tag.specs.declared.Kind.{Kind}
 use Rattle.format.specs.Header.{bit}
 use Rattle.format.specs.WayData.{Node, node}
-use Rattle.format.specs.Tile.{maybe_value, maybe_plain, Tagged, PointFields, point_fields, Point, debug_signature, tagged, point}
+use Rattle.format.specs.Tile.{maybe_value, maybe_plain, Tagged, PointFields, point_fields, debug_signature, tagged, point}
 use Rattle.quick_head.specs.Quick.{IfKnown, Reads, whole, ShownTags, tags_of}
 use Rattle.quick_head.specs.declared.QuickNumber.{QuickNumber}
 use Rattle.quick_head.specs.declared.QuickCoordinate.{QuickCoordinate}
 use Rattle.quick_head.specs.declared.QuickNode.{QuickNode}
 use Rattle.quick_head.specs.declared.QuickTags.{QuickTags}
 use Rattle.quick_head.proofs.QuickLaws.{told, untold, told-all, told-inside, whole_is, stored, part-is}
-use Rattle.quick_point.specs.QuickPoint.{ShownText, shown_text, text_of, text_in, ShownElevation, shown_elevation, elevation_of, elevation_in, ShownFields, fields_of, fields_in, ShownPoint, point_of, point_in}
+use Rattle.quick_point.specs.QuickPoint.{ShownText, text_of, text_in, ShownElevation, elevation_of, elevation_in, ShownFields, fields_of, fields_in, ShownPoint, point_of, point_in}
 use Rattle.quick_point.specs.declared.QuickText.{QuickText}
 use Rattle.quick_point.specs.declared.QuickElevation.{QuickElevation}
 use Rattle.quick_point.specs.declared.QuickFields.{QuickFields}
-use Rattle.quick_point.specs.declared.QuickPoint.{QuickPoint}
 
 pub part-ends : (m : List ℕ) (at : ℕ) (g : QuickNumber) → IfKnown g.known (Reads whole (noted_unsigned m at) (length m) (noted g.value true) g.next) → not g.known ≡ false → g.value ≤ length m - g.next → g.next + g.value ≤ length m
 part-ends m at g i j l = omega (arith, (told g.known i j).inside)

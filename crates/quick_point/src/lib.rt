@@ -1,4 +1,5 @@
 // A point, read straight to the caller's array where its numbers are short and plain and nothing is refused. Anything else is not known here.
+// `known` and `present` stand beside the values for quick_head's reason.
 #![tactic(auto)]
 
 ghost use Rattle.std.specs.Prelude.{◌≡◌, true, false, ◌≤◌, length};
@@ -52,10 +53,7 @@ fn quick_text(map: &[u8], at: usize, flag: bool) -> QuickText
     }
     let start = got.next;
     let size = got.value as usize;
-    if 1048576 < size {
-        return no_text();
-    }
-    if map.len() - start < size {
+    if 1048576 < size || map.len() - start < size {
         return no_text();
     }
     let next = start + size;
@@ -126,13 +124,10 @@ pub struct QuickFields {
 fn no_fields() -> QuickFields
     ensures { result.known ≡ false }
 {
-    let name = no_text();
-    let house = no_text();
-    let elevation = no_elevation();
     QuickFields {
-        name,
-        house,
-        elevation,
+        name: no_text(),
+        house: no_text(),
+        elevation: no_elevation(),
         known: false,
     }
 }
@@ -176,13 +171,10 @@ pub struct QuickPoint {
 pub fn no_point() -> QuickPoint
     ensures { result.known ≡ false }
 {
-    let node = quick_head::no_node();
-    let tags = quick_head::no_tags();
-    let fields = no_fields();
     QuickPoint {
-        node,
-        tags,
-        fields,
+        node: quick_head::no_node(),
+        tags: quick_head::no_tags(),
+        fields: no_fields(),
         known: false,
     }
 }

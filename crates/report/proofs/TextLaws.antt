@@ -4,8 +4,7 @@ use lib.ListN.{length-replicate}
 use lib.Seq.{sets, sets-eq}
 use borrow.Author.Tests.{lt-leb}
 use Rattle.error.specs.declared.LentRefusal.{LentRefusal}
-use Rattle.text.specs.declared.Written.{Written}
-use Rattle.text.specs.declared.Written.TheVariants.{Upto, Refused}
+use Rattle.std.specs.Prelude.{Result, Ok, Err}
 use Rattle.text.specs.Utf8.{replaced}
 use Rattle.text.specs.Writing.{Writing, place_behind, outcome, writing}
 use Rattle.text.proofs.WrittenLaws.{written-fits, written-short}
@@ -35,7 +34,7 @@ pub room-large : (h : ℕ) (s b : List ℕ) (n x : ℕ) → b ≡ zeros n → x 
 room-large h s b n x q e = e ∙ ap (mixed_replaced h s) (ap length q ∙ zeros-length n)
 
 -- what `write_replaced` answered for the buffer b, which is b' then
-module _ (h : ℕ) (s b b' : List ℕ) (g : Written) (e : outcome g b' ≡ writing s b 0) where
+module _ (h : ℕ) (s b b' : List ℕ) (g : Result ℕ LentRefusal) (e : outcome g b' ≡ writing s b 0) where
   kept : b' ≡ (writing s b 0).buffer
   kept = ap (λ (o : Writing). o.buffer) e
 
@@ -45,19 +44,19 @@ module _ (h : ℕ) (s b b' : List ℕ) (g : Written) (e : outcome g b' ≡ writi
       let m : 0 + length (replaced s) ≤ length b = omega (arith, zero-add (length (replaced s))) in
       rw (q, sets-eq (replaced s) b 0 m) (take_at (replaced s) (drop (0 + length (replaced s)) b) n (sym k))
 
-  pub text-short : (r : LentRefusal) → g ≡ Refused r → (0 ≡ mixed_replaced h s (length b)) × (b' ≡ (writing s b 0).buffer)
+  pub text-short : (r : LentRefusal) → g ≡ Err r → (0 ≡ mixed_replaced h s (length b)) × (b' ≡ (writing s b 0).buffer)
   text-short r q =
       let f = written-short s b b' 0 g e r q in
       (sym (mixed-short h s (length b) (omega (arith, zero-add (length (replaced s))))), kept)
 
-  pub text-mixed : (n x : ℕ) → g ≡ Upto n → x ≡ mixed_all h (take n b') → (x ≡ mixed_replaced h s (length b)) × (b' ≡ (writing s b 0).buffer)
+  pub text-mixed : (n x : ℕ) → g ≡ Ok n → x ≡ mixed_all h (take n b') → (x ≡ mixed_replaced h s (length b)) × (b' ≡ (writing s b 0).buffer)
   text-mixed n x q d =
       let f = written-fits s b b' 0 g e n q in
       let l : length (replaced s) ≤ length b = omega (arith, zero-add (length (replaced s))) in
       (d ∙ ap (mixed_all h) (front-is n f.place f.room f.bytes) ∙ sym (mixed-fits h s (length b) l), kept)
 
   -- the place behind the text lies in the buffer
-  pub text-never : (n : ℕ) → g ≡ Upto n → length b < n → (0 ≡ mixed_replaced h s (length b)) × (b' ≡ (writing s b 0).buffer)
+  pub text-never : (n : ℕ) → g ≡ Ok n → length b < n → (0 ≡ mixed_replaced h s (length b)) × (b' ≡ (writing s b 0).buffer)
   text-never n q l = let f = written-fits s b b' 0 g e n q in absurd (omega arith)
 
 pub ruleset texts = (rules, text-short, text-mixed, text-never, room-enough, room-large)

@@ -7,13 +7,12 @@ ghost use Rattle.report.specs.Lines.{word_text, words_text, line_of};
 ghost use Rattle.report.specs.Words.{no_words, pushed, mixed, mixed_upto, mixed_all, digest_of, sign_of, bits_of, float_of};
 ghost use Rattle.report.specs.Texts.{room, zeros, mixed_replaced};
 ghost use Rattle.text.specs.Writing.{writing};
-ghost use Rattle.report.specs.Records.{a_record, record_res};
+ghost use Rattle.byte_source.specs.Answers.{read_by};
+ghost use Rattle.report.specs.Records.{a_record, asked_in};
 
-use byte_source::{ByteRead, Span, SpanRead, WordRead};
-use error::Refusal;
+use byte_source::{Read, Span};
 use std::io;
 use std::io::Write;
-use text::Written;
 
 // An answer: 0 and its values, or a refusal's number and its values. No answer that is printed has more than 40 words.
 #[derive(Clone, Copy)]
@@ -51,21 +50,17 @@ pub fn push(to: Words, word: u64) -> Words
 pub fn mix(digest: u64, word: u64) -> u64
     ensures { result ≡ mixed digest word }
 {
-    std::num::wrapping_add_u64(arithmetic::wrapping_mul_u64(digest, 1099511628211), word)
+    digest.wrapping_mul(1099511628211).wrapping_add(word)
 }
 
 // Words mixed into a digest: their number, and then these.
 pub fn mix_list(digest: u64, list: &[u64], count: usize) -> u64
     ensures { result ≡ mixed_upto (mixed digest count) list.now (min count (length list.now)) }
 {
+    let first = count.min(list.len());
     let mut out = mix(digest, count as u64);
-    let mut i = 0;
-    while i < list.len() {
-        if count <= i {
-            return out;
-        }
-        out = mix(out, list[i]);
-        i += 1;
+    for &word in &list[..first] {
+        out = mix(out, word);
     }
     out
 }
@@ -78,21 +73,13 @@ pub fn mix_words(digest: u64, words: Words) -> u64
     mix_list(digest, &list, words.count)
 }
 
-fn wide(x: u8) -> u64
-    ensures { result ≡ x }
-{
-    x as u64
-}
-
 // Bytes mixed into a digest, one by one.
 pub fn mix_bytes(digest: u64, bytes: &[u8]) -> u64
     ensures { result ≡ mixed_all digest bytes.now }
 {
     let mut out = digest;
-    let mut i = 0;
-    while i < bytes.len() {
-        out = mix(out, wide(bytes[i]));
-        i += 1;
+    for &byte in bytes {
+        out = mix(out, u64::from(byte));
     }
     out
 }
@@ -101,7 +88,7 @@ pub fn mix_bytes(digest: u64, bytes: &[u8]) -> u64
 pub fn mix_replaced(digest: u64, text: &[u8], buffer: &mut [u8]) -> u64
     ensures { (result ≡ mixed_replaced digest text.now (length buffer.old)) × (buffer.new ≡ (writing text.now buffer.old 0).buffer) }
 {
-    let Written::Upto(n) = text::write_replaced(text, buffer, 0) else {
+    let Ok(n) = text::write_replaced(text, buffer, 0) else {
         return 0;
     };
     if buffer.len() < n {
@@ -129,50 +116,36 @@ pub fn mix_text(digest: u64, text: &[u8]) -> u64
     mix_replaced(digest, text, &mut buffer)
 }
 
-// What a record asks, where its question stands, and the place behind it.
+// What a record asks, and where its question stands.
 #[derive(Clone, Copy)]
-pub enum RecordRead {
-    Asked(u8, Span, usize),
-    Refused(Refusal),
+pub struct Record {
+    pub letter: u8,
+    pub question: Span,
 }
 
 // A record: a letter, the length of the question in 4 bytes, the question.
-pub fn read_record(input: &[u8], at: usize) -> RecordRead
-    ensures { record_res input.now result ≡ a_record input.now at }
+#[tactic(auto, using(byte_source::proofs::ReadLaws::reads), unfolding(crate::specs::Records::a_record))]
+pub fn read_record(input: &[u8], at: usize) -> Read<Record>
+    ensures { read_by (asked_in input.now) result ≡ a_record input.now at }
 {
-    let got = byte_source::read_u8(input, at);
-    let ByteRead::Value(letter, at) = got else {
-        return RecordRead::Refused(byte_source::byte_refusal(got));
-    };
-    let got = byte_source::read_u32_be(input, at);
-    let WordRead::Value(size, at) = got else {
-        return RecordRead::Refused(byte_source::word_refusal(got));
-    };
-    let got = byte_source::read_bytes(input, at, size as usize);
-    let SpanRead::Value(span, at) = got else {
-        return RecordRead::Refused(byte_source::span_refusal(got));
-    };
-    RecordRead::Asked(letter, span, at)
+    let (letter, at) = byte_source::read_u8(input, at)?;
+    let (size, at) = byte_source::read_u32_be(input, at)?;
+    let (question, at) = byte_source::read_bytes(input, at, size as usize)?;
+    Ok((Record { letter, question }, at))
 }
 
 // A number's magnitude.
 pub fn magnitude(v: i64) -> u64
     ensures { result ≡ unsigned_abs v }
 {
-    if 0 <= v {
-        return v as u64;
-    }
-    ((-1 - v) as u64) + 1
+    v.unsigned_abs()
 }
 
 // 1 for a negative number, and 0 for any other.
 pub fn sign(v: i64) -> u64
     ensures { result ≡ sign_of v }
 {
-    if 0 <= v {
-        return 0;
-    }
-    1
+    u64::from(v < 0)
 }
 
 // The bits of a float; one pattern stands for every NaN.

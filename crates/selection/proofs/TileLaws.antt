@@ -12,10 +12,8 @@ use Rattle.agreement.specs.Calls.{accept, Answer, got_point, got_head, got_body,
 use Rattle.agreement.specs.Stream.{stream}
 use Rattle.agreement.specs.TileFormat.{TileEnd}
 use Rattle.zooming.specs.Zooming.{whole}
-use Rattle.visit.specs.Visit.{TileState, state_of, shown_point, shown_head, shown_body, ShownAnswer, shown, shown_step, next_answer, accept_answer}
+use Rattle.visit.specs.Visit.{TileState, state_of, shown_point, shown_head, shown_body, ShownAnswer, shown, shown_step, next_answer, accept_answer, NextStep, Accepted}
 use Rattle.visit.specs.declared.Stream.{Stream}
-use Rattle.visit.specs.declared.NextStep.{NextStep}
-use Rattle.visit.specs.declared.Accepted.{Accepted}
 use Rattle.visit.specs.declared.StreamedHead.{StreamedHead}
 use Rattle.visit.specs.declared.StreamedBody.{StreamedBody}
 use Rattle.selection.specs.Selected.{selected_next}
@@ -88,7 +86,7 @@ module _ (m : List ℕ) (k : TileKinds) (w : Selection) (classes : List ℕ) whe
   no-points (p ∷ ps) e = absurd (let z : ◌≡◌ {A = ℕ} 0 1 = cc in omega arith)
 
   way-well : (r : NextStep) (a : Accepted) (l₀ l₁ : LentLists) (s : Stream) (h : StreamedHead) (b : StreamedBody) (ls : List LentLists) (ws : List SeenWay) (z : TileEnd)
-      → plain (next_answer r.answer r.poi r.head) (state_of r.stream) ≡ shown_step (go s) → next_answer r.answer r.poi r.head ≡ got_head h
+      → plain (next_answer r.answer) (state_of r.stream) ≡ shown_step (go s) → next_answer r.answer ≡ got_head h
       → lending (accept_answer a.answer) l₁ (state_of a.stream) ≡ shown_step (stream (format_of k) m (state_of r.stream) (accept l₀)) → accept_answer a.answer ≡ got_body b
       → DroveWell m k w classes (state_of a.stream) ls [] ws z → DroveWell m k w classes (state_of s) (l₀ ∷ ls) [] (whole h l₀ b l₁ ∷ ws) z
   way-well r a l₀ l₁ s h b ls ws z n e f g u =
@@ -110,17 +108,17 @@ module _ (m : List ℕ) (k : TileKinds) (w : Selection) (classes : List ℕ) whe
 
   pub drove-well : {s : Stream} {ls : List LentLists} {ps : List Poi} {ws : List SeenWay} {z : TileEnd} → Drove m k w classes s ls ps ws z → DroveWell m k w classes (state_of s) ls ps ws z
   drove-well (call-end r {s = s} {z = z} n e) =
-      let a = answer-is (go s) _ _ _ n.answer in
-      record { points = []; ways = []; driven = at-end (step_is (go s) _ _ _ n.answer (ended z) (ended_of (go s).reply.answer z (sym e ∙ a))); points-shown = refl; ways-shown = refl }
+      let a = answer-is (go s) _ _ _ n in
+      record { points = []; ways = []; driven = at-end (step_is (go s) _ _ _ n (ended z) (ended_of (go s).reply.answer z (sym e ∙ a))); points-shown = refl; ways-shown = refl }
   drove-well (call-point r {s = s} {p = p} n e d) =
-      let a = point-of (go s).reply.answer p (sym e ∙ answer-is (go s) _ _ _ n.answer) in
+      let a = point-of (go s).reply.answer p (sym e ∙ answer-is (go s) _ _ _ n) in
       let u = drove-well d in
       record {
         points = a.value ∷ u.points;
         ways = u.ways;
-        driven = on-point (step_is (go s) _ _ _ n.answer (got_point a.value) a.is) u.driven;
+        driven = on-point (step_is (go s) _ _ _ n (got_point a.value) a.is) u.driven;
         points-shown = ap (λ q. q ∷ map shown_point u.points) a.shows ∙ ap (λ q. p ∷ q) u.points-shown;
         ways-shown = u.ways-shown;
       }
   drove-well (call-way r a c₀ c la₀ lo₀ la lo {s = s} {h = h} {b = b} {ls = ls} {ws = ws} {z = z} n e f g d) =
-      way-well r a (lent c₀ la₀ lo₀) (lent c la lo) s h b ls ws z n.answer e f g (drove-well d)
+      way-well r a (lent c₀ la₀ lo₀) (lent c la lo) s h b ls ws z n e f g (drove-well d)

@@ -20,20 +20,14 @@ pub struct Selection {
 fn in_window(selection: Selection, bitmap: u16) -> bool
     ensures { result ≡ in_window selection bitmap }
 {
-    if !selection.by_window {
-        return true;
-    }
-    window::shares_cell(bitmap, selection.mask)
+    !selection.by_window || window::shares_cell(bitmap, selection.mask)
 }
 
 // How many of the ids count: no more than there are.
 fn in_row(count: usize, ids: [u64; 15]) -> usize
     ensures { result ≡ min count (length ids) }
 {
-    if 15 < count {
-        return 15;
-    }
-    count
+    count.min(ids.len())
 }
 
 // Whether the rules leave a way with these tags.
@@ -43,17 +37,13 @@ fn by_rules(selection: Selection, classes: &[u8], tags: TagIds) -> bool
     if !selection.by_rules {
         return true;
     }
-    let ids = tags.ids;
-    let count = in_row(tags.count, ids);
-    showing::shows(classes, selection.zoom, &ids[..count])
+    let count = in_row(tags.count, tags.ids);
+    showing::shows(classes, selection.zoom, &tags.ids[..count])
 }
 
 // Whether a way with this bitmap and these tags is selected.
 pub fn is_selected(selection: Selection, classes: &[u8], bitmap: u16, tags: TagIds) -> bool
     ensures { result ≡ selects selection classes.now bitmap tags }
 {
-    if !in_window(selection, bitmap) {
-        return false;
-    }
-    by_rules(selection, classes, tags)
+    in_window(selection, bitmap) && by_rules(selection, classes, tags)
 }

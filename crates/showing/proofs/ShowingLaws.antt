@@ -3,18 +3,21 @@ use Prim.Native.Nat.{ℕ, zero, suc, ◌+◌, ◌*◌, ◌/◌, ◌%◌, ◌^◌
 use native.Mathlib.Numerals.{add-one}
 use native.Mathlib.Omega.{arith}
 use mathlib.Core.Path.{◌≡◌, refl, sym, ap, ◌∙◌}
-use mathlib.Core.Bool.{Bool, true, false, cond, ◌&&◌}
+use mathlib.Core.Bool.{Bool, true, false, cond, not, ◌&&◌}
 use mathlib.Core.List.{List, [], ◌∷◌}
 use borrow.Author.Rules.{rules}
 use borrow.Author.Tests.{ltb-true, ltb-false, leb-true, eqb-true, eqb-false, eq-eqb, ne_eqb, lt-ltb, le-ltb, le-leb, lt-leb}
 use lib.Dec.{eqb, leb, ltb}
-use lib.ListN.{length, get_or, set, drop, drop_of_length-le, get_or-eq_default}
+use lib.ListN.{length, length-take, get_or, set, take, drop, drop_of_length-le, get_or-eq_default}
 use lib.Seq.{drop-cons, get_or-set_same, get_or-set_other}
+use Rattle.std.specs.Prelude.{Option, Some, None}
+use Rattle.std.specs.Option.{unwrap_or}
+use Rattle.std.specs.List.{position_or_len}
 use Rattle.parsing.specs.Parse.{ok, no}
 use Rattle.error.specs.Refusals.{lengths}
 use Rattle.showing.specs.declared.Rule.{Rule}
 use Rattle.showing.specs.Showing.{word_at, rule_of, rule_at, well_formed, first_formed, formed, zoom_of, class_in, shown, names, namings, first_from, overlaps, gaps, class_at, Filled, checked}
-use Rattle.showing.specs.Steps.{Small, one_more, changed_in, changed_by, Changed, Counted, twice_in, none_in, always, joined}
+use Rattle.showing.specs.Steps.{Small, one_more, changed_in, changed_by, Changed, Counted, always, joined}
 
 -- the parts of 32 bits, from the upper half x and two bytes
 module _ (x c d : ℕ) (hc : c < 256) (hd : d < 256) where
@@ -41,19 +44,6 @@ unfolding rule_at
 rule-bytes l k a b c d w ea eb ec ed ew hc hw =
     let e : word_at l k ≡ 65536 * (a * 256 + b) + 256 * c + d = omega arith in
     rw ew (parts (a * 256 + b) c d hc (omega arith) ∙ ap rule_of (sym e))
-
-module _ (tags : ℕ) (r : Rule) where
-  pub outside : tags ≤ r.id → false ≡ well_formed tags r
-  unfolding well_formed
-  outside h = rw (le-ltb r.id tags h)
-
-  pub turned_round : r.id < tags → r.highest < r.lowest → false ≡ well_formed tags r
-  unfolding well_formed
-  turned_round g h = rw (lt-ltb r.id tags g, lt-leb r.lowest r.highest h)
-
-  pub well : r.id < tags → r.lowest ≤ r.highest → true ≡ well_formed tags r
-  unfolding well_formed
-  well g h = rw (lt-ltb r.id tags g, le-leb r.lowest r.highest h)
 
 and-false : (a : Bool) → (a && false) ≡ false
 and-false true = refl
@@ -223,26 +213,7 @@ counted-more {l} {k} {from} {m} {m'} {r} e f inv = record { at = λ j h. let g =
     by true x = omega arith
     by false x = omega arith
 
-pub counted-all : {l : List ℕ} {k from : ℕ} {m : List ℕ} (n : ℕ) → k ≡ n → Counted l k from m → Counted l n from m
-counted-all n e inv = rw (← e) inv
-
--- a search
-module _ (f : ℕ → Bool) (n i r : ℕ) (e : first_from f (n - i) i ≡ r) where
-  step : (k : ℕ) → n - i ≡ suc k → cond (f i) i (first_from f k (suc i)) ≡ r
-  unfolding first_from
-  step k g = rw g at e
-
-  pub first-here : i < n → f i ≡ true → i ≡ r
-  first-here h t = rw t at (step (n - (i + 1)) (omega arith))
-
-  pub first-later : i < n → f i ≡ false → first_from f (n - (i + 1)) (i + 1) ≡ r
-  first-later h t = rw (add-one i) (rw (add-one i, t) at (step (n - (i + 1)) (omega arith)))
-
-  pub first-none : n ≤ i → i ≡ r
-  unfolding first_from
-  first-none h = let g : n - i ≡ 0 = omega arith in rw g at e
-
--- the same search in counts and in cells
+-- a search in counts and in cells
 pub first-shift : (f g : ℕ → Bool) (from n i : ℕ) → ((j : ℕ) → i ≤ j → j < i + n → f j ≡ g (from + j)) → from + first_from f n i ≡ first_from g n (from + i)
 unfolding first_from
 first-shift f g from zero i h = refl
@@ -253,11 +224,35 @@ first-shift f g from (suc n) i h =
     by true e = refl
     by false e = e
 
+-- the same search by std's word
+pub position_is : (p : ℕ → Bool) (m : List ℕ) (n i : ℕ) → i + n ≤ length m → i + position_or_len p (take n (drop i m)) ≡ first_from (λ j. p (get_or m j 0)) n i
+unfolding first_from
+position_is p m zero i h = omega arith
+position_is p m (suc n) i h =
+    rw (drop-cons m i 0 (omega arith)) (by (p (get_or m i 0)) (position_is p m n (suc i) (omega arith)))
+  where
+    by : (c : Bool) → suc i + position_or_len p (take n (drop (suc i) m)) ≡ first_from (λ j. p (get_or m j 0)) n (suc i) → i + cond (not c) (1 + position_or_len p (take n (drop (suc i) m))) 0 ≡ cond c i (first_from (λ j. p (get_or m j 0)) n (suc i))
+    by true e = omega arith
+    by false e = omega (arith, e)
+
+pub position-le : (p : ℕ → Bool) (l : List ℕ) → position_or_len p l ≤ length l
+position-le p [] = omega arith
+position-le p (x ∷ l) = by (p x) (position-le p l)
+  where
+    by : (c : Bool) → position_or_len p l ≤ length l → cond (not c) (1 + position_or_len p l) 0 ≤ suc (length l)
+    by true e = omega arith
+    by false e = omega arith
+
+-- what `position` gives, or the length where it gives none
+pub unwrapped : (r : Option ℕ) (k n x : ℕ) → k ≤ n → r ≡ cond (ltb k n) (Some k) None → x ≡ unwrap_or r n → x ≡ k
+unwrapped r k n x h e q = q ∙ ap (λ (o : Option ℕ). unwrap_or o n) e ∙ by (ltb k n) refl
+  where
+    by : (c : Bool) → ltb k n ≡ c → unwrap_or (cond c (Some k) None) n ≡ k
+    by true t = refl
+    by false t = let g = ltb-false k n t in omega arith
+
 at-start : (g : ℕ → Bool) (from n : ℕ) {x : ℕ} → x ≡ first_from g n (from + 0) → x ≡ first_from g n from
 at-start g from n e = e ∙ ap (first_from g n) (omega arith)
-
-pub first-start : (f : ℕ → Bool) (n : ℕ) → first_from f (n - 0) 0 ≡ first_from f n 0
-first-start f n = ap (λ (x : ℕ). first_from f x 0) (omega arith)
 
 twice_cut : (x : ℕ) → leb 2 (min 2 x) ≡ leb 2 x
 twice_cut x = iff _ _ (λ e. let y = leb-true 2 (min 2 x) e in le-leb 2 x (omega arith)) (λ e. let y = leb-true 2 x e in le-leb 2 (min 2 x) (omega arith))
@@ -265,12 +260,18 @@ twice_cut x = iff _ _ (λ e. let y = leb-true 2 (min 2 x) e in le-leb 2 x (omega
 none-cut : (x : ℕ) → eqb (min 2 x) 0 ≡ eqb x 0
 none-cut x = iff _ _ (λ e. let y = eqb-true (min 2 x) 0 e in eq-eqb x 0 (omega arith)) (λ e. let y = eqb-true x 0 e in eq-eqb (min 2 x) 0 (omega arith))
 
-module _ (l : List ℕ) (from n : ℕ) (m : List ℕ) (h : n ≤ length m) (inv : Counted l (length l / 4) from m) where
-  pub twice_found : (r : ℕ) → r ≡ first_from (twice_in m) n 0 → from + r ≡ first_from (overlaps l) n from
-  twice_found r e = rw e (at-start (overlaps l) from n (first-shift (twice_in m) (overlaps l) from n 0 (λ j a b. ap (leb 2) (inv.at j (omega arith)) ∙ twice_cut (namings l (length l / 4) (from + j)))))
+front_is : (p : ℕ → Bool) (m : List ℕ) (n r : ℕ) → n ≤ length m → r ≡ position_or_len p (take n m) → r ≡ first_from (λ j. p (get_or m j 0)) n 0
+front_is p m n r h e = omega (arith, position_is p m n 0 (omega arith))
 
-  pub none_found : (r : ℕ) → r ≡ first_from (none_in m) n 0 → from + r ≡ first_from (gaps l) n from
-  none_found r e = rw e (at-start (gaps l) from n (first-shift (none_in m) (gaps l) from n 0 (λ j a b. ap (λ (x : ℕ). eqb x 0) (inv.at j (omega arith)) ∙ none-cut (namings l (length l / 4) (from + j)))))
+module _ (l : List ℕ) (from n : ℕ) (m : List ℕ) (h : n ≤ length m) (inv : Counted l (length l / 4) from m) where
+  pub twice_found : (r : ℕ) → r ≡ position_or_len (leb 2) (take n m) → from + r ≡ first_from (overlaps l) n from
+  twice_found r e = rw (front_is (leb 2) m n r h e) (at-start (overlaps l) from n (first-shift (λ j. leb 2 (get_or m j 0)) (overlaps l) from n 0 (λ j a b. ap (leb 2) (inv.at j (omega arith)) ∙ twice_cut (namings l (length l / 4) (from + j)))))
+
+  pub none_found : (r : ℕ) → r ≡ position_or_len (λ x. eqb x 0) (take n m) → from + r ≡ first_from (gaps l) n from
+  none_found r e = rw (front_is (λ x. eqb x 0) m n r h e) (at-start (gaps l) from n (first-shift (λ j. eqb (get_or m j 0) 0) (gaps l) from n 0 (λ j a b. ap (λ (x : ℕ). eqb x 0) (inv.at j (omega arith)) ∙ none-cut (namings l (length l / 4) (from + j)))))
+
+pub found_le : (p : ℕ → Bool) (m : List ℕ) (n r : ℕ) → r ≡ position_or_len p (take n m) → r ≤ n
+found_le p m n r e = omega (arith, position-le p (take n m), length-take n m)
 
 -- a search in parts
 pub found_first : (o a n : ℕ) → o < a → o ≡ joined o a n
@@ -304,9 +305,6 @@ joined-more f a b a' o n r ea eo en er =
     let g : 0 + a ≡ a = omega arith in
     er ∙ rw (eo, en, ← ea) (sym (rw g at (in_parts f a b 0)))
 
-pub first-all : (f : ℕ → Bool) (a n r : ℕ) → r ≡ first_from f a 0 → a ≡ n → r ≡ first_from f n 0
-first-all f a n r e g = rw (← g) e
-
 -- the table after k rules
 pub filled_none : (l m : List ℕ) → Filled l 0 m m
 unfolding class_at
@@ -315,9 +313,6 @@ filled_none l m = record { long = refl; at = λ j h. refl }
 pub filled_more : {l : List ℕ} {k : ℕ} {m₀ m m' : List ℕ} {r : Rule} → r ≡ rule_at l k → Changed (always r.class) r 0 m m' → Filled l k m₀ m → Filled l (k + 1) m₀ m'
 unfolding class_at changed_by
 filled_more {l} {k} {m₀} {m} {m'} {r} e f inv = record { long = f.long ∙ inv.long; at = λ j h. let g = inv.long in let z : 0 + j ≡ j = omega arith in rw z at (f.at j (omega arith)) ∙ rw (add-one k, inv.at j h, ← e) }
-
-pub filled-all : {l : List ℕ} {k : ℕ} {m₀ m : List ℕ} (n : ℕ) → k ≡ n → Filled l k m₀ m → Filled l n m₀ m
-filled-all n e inv = rw (← e) inv
 
 -- the tests of a check, one behind the other
 module _ (tags : ℕ) (l : List ℕ) (lent : ℕ) (w : Bool) (ew : w ≡ formed tags l) where
@@ -343,4 +338,4 @@ module _ (tags : ℕ) (l : List ℕ) (lent : ℕ) (w : Bool) (ew : w ≡ formed 
       unfolding checked
       passed q r = rw (← ew, h, ← eo, le-ltb o (32 * tags) p, ← eg, le-ltb g (32 * tags) q, le-ltb lent (32 * tags) r)
 
-pub ruleset showing = (rules, outside, turned_round, well, no-multiple, none-formed, more-formed, one-bad, all-formed, class-here, shown-here, shown-later, shown-nowhere, range_none, found_first, found-next, first-zero, filled_none)
+pub ruleset showing = (rules, no-multiple, none-formed, more-formed, one-bad, all-formed, class-here, shown-here, shown-later, shown-nowhere, range_none, found_first, found-next, first-zero, filled_none)

@@ -1,11 +1,11 @@
 -- Request 9, our own showing rules: what rules are, when a table of them passes, why it is turned away, and which ways a checked table
 -- shows.
-use Rattle.std.specs.Prelude.{ℕ, zero, suc, ◌+◌, ◌*◌, ◌/◌, ◌%◌, ◌^◌, ◌<◌, ◌≤◌, min, ◌≡◌, Bool, true, false, cond, not, ◌&&◌, ◌||◌, List, [], ◌∷◌, eqb, leb, ltb, length, get_or}
+use Rattle.std.specs.Prelude.{ℕ, zero, suc, ◌+◌, ◌*◌, ◌/◌, ◌%◌, ◌^◌, ◌<◌, ◌≤◌, min, ◌≡◌, Bool, true, false, cond, not, ◌&&◌, ◌||◌, List, [], ◌∷◌, eqb, leb, ltb, length, get_or, Result, Ok, Err}
 use Rattle.parsing.specs.Parse.{Res, ok, no}
 use Rattle.error.specs.Refusals.{lengths}
 use Rattle.showing.specs.declared.Rule.{Rule}
-use Rattle.showing.specs.declared.Checked.{Checked}
-use Rattle.showing.specs.declared.Checked.TheVariants.{Passed, InvalidRules, RulesOverlap, RulesGap, Short}
+use Rattle.showing.specs.declared.RulesRefusal.{RulesRefusal}
+use Rattle.showing.specs.declared.RulesRefusal.TheVariants.{InvalidRules, RulesOverlap, RulesGap, Short}
 
 -- the 32 bits of rule k, which stands at byte 4 k, the most significant byte first
 abbrev pub word_at : List ℕ → (k : ℕ) → ℕ
@@ -68,12 +68,15 @@ checked tags bytes lent =
     (no 22 [])
 
 -- the number and the values of each answer; no place of a map is read, and it is 0
-abbrev pub checked_res : Checked → Res Unit
-checked_res Passed = ok tt 0
-checked_res InvalidRules = no 22 []
-checked_res (RulesOverlap id zoom) = no 23 (id ∷ zoom ∷ [])
-checked_res (RulesGap id zoom) = no 24 (id ∷ zoom ∷ [])
-checked_res (Short n) = no 15 (lengths n 0 0 0 0 0)
+abbrev pub rules_refused : RulesRefusal → Res Unit
+rules_refused InvalidRules = no 22 []
+rules_refused (RulesOverlap id zoom) = no 23 (id ∷ zoom ∷ [])
+rules_refused (RulesGap id zoom) = no 24 (id ∷ zoom ∷ [])
+rules_refused (Short n) = no 15 (lengths n 0 0 0 0 0)
+
+abbrev pub checked_res : Result Unit RulesRefusal → Res Unit
+checked_res (Ok u) = ok tt 0
+checked_res (Err r) = rules_refused r
 
 -- the class that the first n rules give the cell, that of the last one that names it; `other` where none does. (In a table that passes
 -- just one rule names each cell.)

@@ -1,6 +1,6 @@
 -- What single steps of the check do: counting and filling the cells that a rule names, and searching them. Only private functions speak
 -- of these, so nobody has to believe them.
-use Rattle.std.specs.Prelude.{ℕ, ◌+◌, ◌^◌, ◌<◌, min, ◌≡◌, Bool, cond, ◌&&◌, List, eqb, leb, ltb, length, get_or}
+use Rattle.std.specs.Prelude.{ℕ, ◌+◌, ◌^◌, ◌<◌, min, ◌≡◌, cond, ◌&&◌, List, leb, ltb, length, get_or}
 use Rattle.showing.specs.declared.Rule.{Rule}
 use Rattle.showing.specs.Showing.{names, namings}
 
@@ -34,13 +34,6 @@ pub record Changed (f : ℕ → ℕ) (r : Rule) (from : ℕ) (l l' : List ℕ) :
 -- how many of the first n rules name each cell from `from` on, cut at 2
 pub record Counted (bytes : List ℕ) (n from : ℕ) (counts : List ℕ) : Type 0 where
   pub at : (j : ℕ) → j < length counts → get_or counts j 0 ≡ min 2 (namings bytes n (from + j))
-
--- an overlap and a gap in a list of counts that are cut at 2
-abbrev pub twice_in : List ℕ → (j : ℕ) → Bool
-twice_in counts j = leb 2 (get_or counts j 0)
-
-abbrev pub none_in : List ℕ → (j : ℕ) → Bool
-none_in counts j = eqb (get_or counts j 0) 0
 
 -- a cell found before the end, or the next one found
 abbrev pub joined : (found end next : ℕ) → ℕ

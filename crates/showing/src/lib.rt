@@ -1,9 +1,10 @@
 // Request 9: our own rules of which ways show at which zoom; their check, and what a checked table decides.
 #![tactic(auto)]
 
-ghost use Rattle.std.specs.Prelude.{◌≡◌, ℕ, ◌+◌, ◌*◌, ◌/◌, ◌<◌, ◌≤◌, min, length, get_or};
+ghost use Rattle.std.specs.Prelude.{◌≡◌, ℕ, ◌+◌, ◌*◌, ◌/◌, ◌<◌, ◌≤◌, min, length, get_or, nat_le, nat_eq};
+ghost use Rattle.std.specs.List.{position_or_len};
 ghost use Rattle.showing.specs.Showing.{rule_at, well_formed, formed, first_from, overlaps, gaps, checked_res, checked, Filled, After, zoom_of, class_in, shown};
-ghost use Rattle.showing.specs.Steps.{Small, one_more, always, changed_in, Changed, Counted, twice_in, none_in, joined};
+ghost use Rattle.showing.specs.Steps.{Small, one_more, always, changed_in, Changed, Counted, joined};
 
 // A rule: the zooms from lowest to highest of the way tag `id` have the class. Class 0 means hidden.
 #[derive(Clone, Copy)]
@@ -14,11 +15,9 @@ pub struct Rule {
     pub class: u8,
 }
 
-// What comes of a check. These refusals are no cases of `Refusal`: only a check gives them, and no read hands them up.
+// Why a check turns rules away. These refusals are no cases of `Refusal`: only a check gives them, and no read hands them up.
 #[derive(Clone, Copy)]
-pub enum Checked {
-    // the lent table is filled
-    Passed,
+pub enum RulesRefusal {
     // 22: the length is no multiple of 4, a tag id lies outside the map, or a lowest zoom is above its highest
     InvalidRules,
     // 23: two rules or more name this tag and zoom
@@ -62,16 +61,11 @@ fn rule_at(rules: &[u8], k: usize) -> Rule
 }
 
 // Whether the rule names a tag of the map, and its lowest zoom is not above its highest.
+#[tactic(auto, unfolding(crate::specs::Showing::well_formed))]
 fn well_formed(rule: Rule, tags: usize) -> bool
     ensures { result ≡ well_formed tags rule }
 {
-    if tags <= rule.id {
-        return false;
-    }
-    if rule.highest < rule.lowest {
-        return false;
-    }
-    true
+    rule.id < tags && rule.lowest <= rule.highest
 }
 
 // The first pass over the rules: false is refusal 22.
@@ -82,33 +76,19 @@ fn all_well_formed(rules: &[u8], tags: usize) -> bool
     if rules.len() % 4 != 0 {
         return false;
     }
-    let mut k = 0;
-    while k < n {
+    for k in 0..n {
         if !well_formed(rule_at(rules, k), tags) {
             return false;
         }
-        k += 1;
     }
     true
-}
-
-fn least(a: usize, b: usize) -> usize
-    ensures { result ≡ min a b }
-{
-    if a < b {
-        return a;
-    }
-    b
 }
 
 // A count with one more, cut at 2: whether a cell is named twice or five times is all the same.
 fn one_more(n: u8) -> u8
     ensures { result ≡ one_more n }
 {
-    if n < 2 {
-        return n + 1;
-    }
-    2
+    n.saturating_add(1).min(2)
 }
 
 // Counts one more of each cell from `start` to before `end`.
@@ -117,10 +97,8 @@ fn count_cells(counts: &mut [u8], start: usize, end: usize)
     ensures counts_len_unchanged { length counts.new ≡ length counts.old }
     ensures by_index { (j : ℕ) → get_or counts.new j 0 ≡ changed_in one_more start end counts.old j }
 {
-    let mut i = start;
-    while i < end {
+    for i in start..end {
         counts[i] = one_more(counts[i]);
-        i += 1;
     }
 }
 
@@ -135,7 +113,7 @@ fn count_rule(counts: &mut [u8], stretch: usize, rule: Rule)
         return;
     }
     let first = rule.id % 256 * 32;
-    count_cells(&mut *counts, first + rule.lowest, first + rule.highest + 1);
+    count_cells(counts, first + rule.lowest, first + rule.highest + 1);
 }
 
 // Counts, cut at 2, how many rules name each cell of the stretch.
@@ -146,44 +124,23 @@ fn count_rules(rules: &[u8], counts: &mut [u8], stretch: usize)
     ensures counted { Counted rules.now (length rules.now / 4) (8192 * stretch) counts.new }
 {
     let n = rules.len() / 4;
-    let mut k = 0;
-    while k < n {
-        let rule = rule_at(rules, k);
-        count_rule(&mut *counts, stretch, rule);
-        k += 1;
+    for k in 0..n {
+        count_rule(counts, stretch, rule_at(rules, k));
     }
 }
 
-// The first of n counts that is 2 or more, or n.
-fn first_twice(counts: &[u8], n: usize) -> usize
-    requires { n ≤ length counts.now }
-    ensures value { result ≡ first_from (twice_in counts.now) n 0 }
-    ensures upper_bound { result ≤ n }
+// The first count that is 2 or more, or their number.
+fn first_twice(counts: &[u8]) -> usize
+    ensures { result ≡ position_or_len (λ n. nat_le 2 n) counts.now }
 {
-    let mut i = 0;
-    while i < n {
-        if 2 <= counts[i] {
-            return i;
-        }
-        i += 1;
-    }
-    i
+    counts.iter().position(|n| 2 <= *n).unwrap_or(counts.len())
 }
 
-// The first of n counts that is 0, or n.
-fn first_none(counts: &[u8], n: usize) -> usize
-    requires { n ≤ length counts.now }
-    ensures value { result ≡ first_from (none_in counts.now) n 0 }
-    ensures upper_bound { result ≤ n }
+// The first count that is 0, or their number.
+fn first_none(counts: &[u8]) -> usize
+    ensures { result ≡ position_or_len (λ n. nat_eq n 0) counts.now }
 {
-    let mut i = 0;
-    while i < n {
-        if counts[i] == 0 {
-            return i;
-        }
-        i += 1;
-    }
-    i
+    counts.iter().position(|n| *n == 0).unwrap_or(counts.len())
 }
 
 // The faults of the stretch's first n cells.
@@ -195,13 +152,11 @@ fn faults_of(rules: &[u8], counts: &mut [u8], stretch: usize, n: usize) -> Fault
     ensures overlap_value { result.overlap ≡ first_from (overlaps rules.now) n (8192 * stretch) }
     ensures gap_value { result.gap ≡ first_from (gaps rules.now) n (8192 * stretch) }
 {
-    count_rules(rules, &mut *counts, stretch);
+    count_rules(rules, counts, stretch);
     let from = 8192 * stretch;
-    let twice = first_twice(&*counts, n);
-    let none = first_none(&*counts, n);
     Faults {
-        overlap: from + twice,
-        gap: from + none,
+        overlap: from + first_twice(&counts[..n]),
+        gap: from + first_none(&counts[..n]),
     }
 }
 
@@ -233,31 +188,25 @@ fn all_faults(rules: &[u8], cells: usize) -> Faults
     ensures overlap_value { result.overlap ≡ first_from (overlaps rules.now) cells 0 }
     ensures gap_value { result.gap ≡ first_from (gaps rules.now) cells 0 }
 {
-    let mut stretch = 0;
-    let mut from = 0;
     let mut overlap = 0;
     let mut gap = 0;
-    while from < cells {
-        let size = least(8192, cells - from);
-        let faults = stretch_faults(rules, stretch, size);
+    for stretch in 0..cells.div_ceil(8192) {
+        let from = 8192 * stretch;
+        let faults = stretch_faults(rules, stretch, (cells - from).min(8192));
         overlap = join(overlap, from, faults.overlap);
         gap = join(gap, from, faults.gap);
-        from += size;
-        stretch += 1;
     }
     Faults { overlap, gap }
 }
 
-// Gives the class to each cell from `start` to before `end`.
+// Gives the class to each cell from `start` to before `end`. Not one function with count_cells: that one writes by what stood there.
 fn fill_cells(classes: &mut [u8], start: usize, end: usize, class: u8)
     requires { end ≤ length classes.old }
     ensures classes_len_unchanged { length classes.new ≡ length classes.old }
     ensures by_index { (j : ℕ) → get_or classes.new j 0 ≡ changed_in (always class) start end classes.old j }
 {
-    let mut i = start;
-    while i < end {
+    for i in start..end {
         classes[i] = class;
-        i += 1;
     }
 }
 
@@ -268,9 +217,8 @@ fn fill_rule(classes: &mut [u8], rule: Rule)
 {
     let first = 32 * rule.id + rule.lowest;
     let end = 32 * rule.id + rule.highest + 1;
-    let stop = least(end, classes.len());
-    let class = rule.class;
-    fill_cells(&mut *classes, first, stop, class);
+    let stop = end.min(classes.len());
+    fill_cells(classes, first, stop, rule.class);
 }
 
 // Puts the rules into the table.
@@ -278,49 +226,43 @@ fn fill_rules(rules: &[u8], classes: &mut [u8])
     ensures { Filled rules.now (length rules.now / 4) classes.old classes.new }
 {
     let n = rules.len() / 4;
-    let mut k = 0;
-    while k < n {
-        let rule = rule_at(rules, k);
-        fill_rule(&mut *classes, rule);
-        k += 1;
+    for k in 0..n {
+        fill_rule(classes, rule_at(rules, k));
     }
 }
 
 // Checks the rules of a map with so many way tags, and fills the lent table with the class of each tag and zoom, at 32 tag + zoom. Entries
 // behind these keep their values, and rules that are turned away change nothing.
-pub fn check_rules(rules: &[u8], tags: u16, classes: &mut [u8]) -> Checked
+pub fn check_rules(rules: &[u8], tags: u16, classes: &mut [u8]) -> Result<(), RulesRefusal>
     ensures result_value { checked_res result ≡ checked tags rules.now (length classes.old) }
     ensures after { After (checked_res result) rules.now classes.old classes.new }
 {
     let count = tags as usize;
     let cells = 32 * count;
     if !all_well_formed(rules, count) {
-        return Checked::InvalidRules;
+        return Err(RulesRefusal::InvalidRules);
     }
     let faults = all_faults(rules, cells);
     let overlap = faults.overlap;
     let gap = faults.gap;
     if overlap < cells {
-        return Checked::RulesOverlap(overlap / 32, overlap % 32);
+        return Err(RulesRefusal::RulesOverlap(overlap / 32, overlap % 32));
     }
     if gap < cells {
-        return Checked::RulesGap(gap / 32, gap % 32);
+        return Err(RulesRefusal::RulesGap(gap / 32, gap % 32));
     }
     if classes.len() < cells {
-        return Checked::Short(cells);
+        return Err(RulesRefusal::Short(cells));
     }
-    fill_rules(rules, &mut *classes);
-    Checked::Passed
+    fill_rules(rules, classes);
+    Ok(())
 }
 
 // The zoom of a cell: those above 31 count as 31.
 fn zoom_of(zoom: u8) -> usize
     ensures { (result ≡ zoom_of zoom) × (result < 32) }
 {
-    if 31 < zoom {
-        return 31;
-    }
-    zoom as usize
+    usize::from(zoom.min(31))
 }
 
 // The class of a tag at a zoom; 0 behind the table's end.
@@ -342,12 +284,10 @@ fn class_in(classes: &[u8], zoom: u8, id: u64) -> u8
 pub fn shows(classes: &[u8], zoom: u8, ids: &[u64]) -> bool
     ensures { result ≡ shown classes.now zoom ids.now }
 {
-    let mut i = 0;
-    while i < ids.len() {
-        if class_in(classes, zoom, ids[i]) != 0 {
+    for &id in ids {
+        if class_in(classes, zoom, id) != 0 {
             return true;
         }
-        i += 1;
     }
     false
 }

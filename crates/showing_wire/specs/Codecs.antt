@@ -1,29 +1,32 @@
 -- Encode, then decode, is the identity, whatever words were lent: how the other program reads the words, and that nothing is lost on the
 -- way.
-use Rattle.std.specs.Prelude.{◌≡◌, refl, Bool, true, false, cond, [], ◌∷◌, eqb}
-use Rattle.showing.specs.declared.Checked.{Checked}
-use Rattle.showing.specs.declared.Checked.TheVariants.{Passed, InvalidRules, RulesOverlap, RulesGap, Short}
+use Rattle.std.specs.Prelude.{◌≡◌, refl, Bool, true, false, cond, [], ◌∷◌, eqb, Result, Ok, Err}
+use Rattle.showing.specs.declared.RulesRefusal.{RulesRefusal}
+use Rattle.showing.specs.declared.RulesRefusal.TheVariants.{InvalidRules, RulesOverlap, RulesGap, Short}
 use Rattle.wire.specs.Wire.{Wire, Lent, Codec, word, truth}
 use Rattle.wire.specs.Spread.{spread_wire, spread-out}
 use Rattle.showing_wire.specs.Rules.{checked_wire, shown_wire}
 
+abbrev Checked : Type 0
+Checked = Result Unit RulesRefusal
+
 -- by the number
 abbrev pub checked_in : Wire → Checked
 checked_in w =
-    cond (eqb w.number 22) InvalidRules
-    (cond (eqb w.number 23) (RulesOverlap (word w 0 0) (word w 0 1))
-    (cond (eqb w.number 24) (RulesGap (word w 0 0) (word w 0 1))
-    (cond (eqb w.number 15) (Short (word w 0 0)) Passed)))
+    cond (eqb w.number 22) (Err InvalidRules)
+    (cond (eqb w.number 23) (Err (RulesOverlap (word w 0 0) (word w 0 1)))
+    (cond (eqb w.number 24) (Err (RulesGap (word w 0 0) (word w 0 1)))
+    (cond (eqb w.number 15) (Err (Short (word w 0 0))) (Ok tt))))
 
 pub checked-back : (w : Wire) → Lent (6 ∷ []) 0 0 w → (a : Checked) → checked_in (checked_wire w a) ≡ a
 checked-back w h a = spread-out (6 ∷ []) 0 0 w h (λ v. checked_in (checked_wire v a) ≡ a) (go a)
   where
     go : (a : Checked) → checked_in (checked_wire (spread_wire (6 ∷ []) 0 0 w) a) ≡ a
-    go Passed = refl
-    go InvalidRules = refl
-    go (RulesOverlap id zoom) = refl
-    go (RulesGap id zoom) = refl
-    go (Short n) = refl
+    go (Ok u) = refl
+    go (Err InvalidRules) = refl
+    go (Err (RulesOverlap id zoom)) = refl
+    go (Err (RulesGap id zoom)) = refl
+    go (Err (Short n)) = refl
 
 abbrev pub checked_codec : (w : Wire) → Lent (6 ∷ []) 0 0 w → Codec (checked_wire w)
 checked_codec w h = record { decode = checked_in; back = checked-back w h }

@@ -1,8 +1,8 @@
 -- The answers about showing rules as words: which ones each writes. The others keep their values.
-use Rattle.std.specs.Prelude.{ℕ, Bool, cond, [], ◌∷◌}
+use Rattle.std.specs.Prelude.{ℕ, Bool, cond, [], ◌∷◌, Result}
 use Rattle.parsing.specs.Parse.{Res, ok, no}
 use Rattle.showing.specs.Showing.{checked_res}
-use Rattle.showing.specs.declared.Checked.{Checked}
+use Rattle.showing.specs.declared.RulesRefusal.{RulesRefusal}
 use Rattle.wire.specs.Wire.{Wire, put, numbered}
 
 -- a result writes no word; a refusal is its number, with its values from the first word on
@@ -10,7 +10,7 @@ abbrev pub res_wire : (before : Wire) → Res Unit → Wire
 res_wire w (ok _ _) = numbered 0 w
 res_wire w (no number values) = numbered number (put 0 0 values w)
 
-abbrev pub checked_wire : (before : Wire) → Checked → Wire
+abbrev pub checked_wire : (before : Wire) → Result Unit RulesRefusal → Wire
 checked_wire w a = res_wire w (checked_res a)
 
 -- a tag id and a zoom

@@ -6,7 +6,7 @@ ghost use Rattle.std.specs.Prelude.{◌≡◌, [], ◌∷◌};
 ghost use Rattle.wire.specs.Wire.{wire, lending};
 ghost use Rattle.showing_wire.specs.Rules.{checked_wire, shown_wire, put_place};
 
-use showing::Checked;
+use showing::RulesRefusal;
 
 // A tag id and a zoom.
 fn put_place(id: usize, zoom: usize, words: &mut [u64; 6])
@@ -16,21 +16,21 @@ fn put_place(id: usize, zoom: usize, words: &mut [u64; 6])
     words[1] = zoom as u64;
 }
 
-pub fn put_checked(got: Checked, words: &mut [u64; 6]) -> u64
+pub fn put_checked(got: Result<(), RulesRefusal>, words: &mut [u64; 6]) -> u64
     ensures { wire result (words.new ∷ []) [] [] ≡ checked_wire (lending (words.old ∷ []) [] []) got }
 {
     match got {
-        Checked::Passed => 0,
-        Checked::InvalidRules => 22,
-        Checked::RulesOverlap(id, zoom) => {
+        Ok(()) => 0,
+        Err(RulesRefusal::InvalidRules) => 22,
+        Err(RulesRefusal::RulesOverlap(id, zoom)) => {
             put_place(id, zoom, words);
             23
         }
-        Checked::RulesGap(id, zoom) => {
+        Err(RulesRefusal::RulesGap(id, zoom)) => {
             put_place(id, zoom, words);
             24
         }
-        Checked::Short(n) => {
+        Err(RulesRefusal::Short(n)) => {
             words[0] = n as u64;
             words[1] = 0;
             words[2] = 0;

@@ -4,31 +4,26 @@ use Prim.Native.Nat.{ℕ, ◌<◌}
 use native.Mathlib.Omega.{arith}
 use lib.IntN.{ℤ}
 use mathlib.Core.Path.{◌≡◌, refl, sym, ap, ◌∙◌, subst}
-use mathlib.Core.Bool.{Bool, true, false, cond, not}
+use mathlib.Core.Bool.{Bool, true, false, cond}
 use mathlib.Core.List.{List, [], ◌∷◌}
 use lib.Dec.{ltb}
 use lib.Ieee.{Float}
 use lib.ListN.{length}
 use lib.Seq.{sets}
 use borrow.Author.Tests.{ltb-true, ne_eqb}
+use Rattle.std.specs.Prelude.{Result, Ok, Err}
 use Rattle.error.specs.Refusals.{number_of, values_of}
 use Rattle.error.specs.declared.Refusal.{Refusal}
 use Rattle.format.specs.Tile.{Point, Head, Body}
-use Rattle.poi.specs.declared.Poi.{Poi}
 use Rattle.agreement.specs.Calls.{refused, Step}
 use Rattle.agreement.specs.Stream.{idle, waits, on_decline}
 use Rattle.visit.specs.Visit.{TileState, state_of, ShownAnswer, shown_step, decline_answer, decline_step}
 use Rattle.visit.specs.declared.Turn.{Turn}
 use Rattle.visit.specs.declared.Turn.TheVariants as turn
 use Rattle.visit.specs.declared.Stream.{Stream}
-use Rattle.visit.specs.declared.StreamedHead.{StreamedHead}
-use Rattle.visit.specs.declared.NextAnswer.{NextAnswer}
-use Rattle.visit.specs.declared.NextAnswer.TheVariants as next-answer
-use Rattle.visit.specs.declared.NextStep.{NextStep}
-use Rattle.visit.specs.declared.DeclineAnswer.{DeclineAnswer}
-use Rattle.visit.specs.declared.DeclineAnswer.TheVariants as decline-answer
-use Rattle.visit.specs.declared.Declined.{Declined}
-use Rattle.selection.specs.Selects.{selects}
+use Rattle.visit.specs.declared.Given.{Given}
+use Rattle.visit.specs.declared.Given.TheVariants as given
+use Rattle.visit.specs.declared.Answered.{Answered}
 use Rattle.selection.specs.declared.Selection.{Selection}
 use Rattle.selection.proofs.NextLaws.{given_back}
 use Rattle.selection.proofs.NextLaws as selection
@@ -65,7 +60,7 @@ read_back : (s : Stream) (l : List ℕ) → length l ≡ 8 → stream_in (sets l
 read_back s l h = subst (λ (k : List ℕ). stream_in (sets k 0 (stream_words s)) ≡ s) (sym (spread 0 8 l h)) (stream-back s _ _ _ _ _ _ _ _)
 
 -- what a next wrote says whether it gave a way that is not selected,
-abbrev pub Says : Selection → (classes : List ℕ) → Wire → NextStep → Type 0
+abbrev pub Says : Selection → (classes : List ℕ) → Wire → Answered (Result Given Refusal) → Type 0
 Says c classes y a = goes_past c classes y.number (list_of y 0) (list_of y 1) ≡ selection.goes_past c classes a
 
 -- and with the state s of the whole call, which stays where the next was refused
@@ -73,18 +68,18 @@ abbrev pub keeping : (s : List ℕ) → Wire → Wire
 keeping s y = wire y.number (list_of y 0 ∷ list_of y 1 ∷ there y.number (list_of y 2) s ∷ []) y.signed y.degrees
 
 -- a next
-module _ (w i s : List ℕ) (z : List ℤ) (d : List Float) (a : NextStep) where
+module _ (w i s : List ℕ) (z : List ℤ) (d : List Float) (a : Answered (Result Given Refusal)) where
   abbrev pub next_left : Wire
   next_left = next_wire (lending (w ∷ i ∷ s ∷ []) z d) a
 
   pub says_past : length w ≡ 22 → (c : Selection) (classes : List ℕ) → Says c classes next_left a
-  says_past h c classes = subst (λ (v : List ℕ). Says c classes (next_wire (lending (v ∷ i ∷ s ∷ []) z d) a) a) (sym (spread 0 22 w h)) (go a.answer a.poi a.head a.stream)
+  says_past h c classes = subst (λ (v : List ℕ). Says c classes (next_wire (lending (v ∷ i ∷ s ∷ []) z d) a) a) (sym (spread 0 22 w h)) (go a.answer a.stream)
     where
-      go : (x : NextAnswer) (p : Poi) (q : StreamedHead) (t : Stream) → Says c classes (next_with x p q t (lending (entries 0 22 w ∷ i ∷ s ∷ []) z d)) (record { answer = x; poi = p; head = q; stream = t })
-      go next-answer.Point p q t = refl
-      go next-answer.Way p q t = refl
-      go (next-answer.End e) p q t = refl
-      go (next-answer.Refused r) p q t =
+      go : (x : Result Given Refusal) (t : Stream) → Says c classes (next_with x t (lending (entries 0 22 w ∷ i ∷ s ∷ []) z d)) (record { answer = x; stream = t })
+      go (Ok (given.Point p)) t = refl
+      go (Ok (given.Way q)) t = refl
+      go (Ok (given.End e)) t = refl
+      go (Err r) t =
           let l : 0 < number_of r = ltb-true 0 (number_of r) (above r) in
           rw (ne_eqb (number_of r) 0 (λ e. omega arith)) refl
 
@@ -92,45 +87,45 @@ module _ (w i s : List ℕ) (z : List ℤ) (d : List Float) (a : NextStep) where
     pub next-long : length (list_of next_left 2) ≡ 8
     next-long = go a.answer
       where
-        go : (x : NextAnswer) → length (list_of (next_with x a.poi a.head a.stream (lending (w ∷ i ∷ s ∷ []) z d)) 2) ≡ 8
-        go next-answer.Point = ap length (written a.stream s h) ∙ eight a.stream
-        go next-answer.Way = ap length (written a.stream s h) ∙ eight a.stream
-        go (next-answer.End e) = ap length (written a.stream s h) ∙ eight a.stream
-        go (next-answer.Refused r) = h
+        go : (x : Result Given Refusal) → length (list_of (next_with x a.stream (lending (w ∷ i ∷ s ∷ []) z d)) 2) ≡ 8
+        go (Ok (given.Point p)) = ap length (written a.stream s h) ∙ eight a.stream
+        go (Ok (given.Way q)) = ap length (written a.stream s h) ∙ eight a.stream
+        go (Ok (given.End e)) = ap length (written a.stream s h) ∙ eight a.stream
+        go (Err r) = h
 
     -- the stream behind a way that goes past
     pub past-left : (c : Selection) (classes : List ℕ) → selection.goes_past c classes a ≡ true → stream_in (list_of next_left 2) ≡ a.stream
     past-left c classes f = go a.answer f
       where
-        go : (x : NextAnswer) → selection.is_way x (not (selects c classes a.head.bitmap a.head.tag_ids)) ≡ true → stream_in (list_of (next_with x a.poi a.head a.stream (lending (w ∷ i ∷ s ∷ []) z d)) 2) ≡ a.stream
-        go next-answer.Way f = read_back a.stream s h
-        go next-answer.Point f = absurd (let e : ◌≡◌ {A = ℕ} 0 1 = cc in omega arith)
-        go (next-answer.End e) f = absurd (let e : ◌≡◌ {A = ℕ} 0 1 = cc in omega arith)
-        go (next-answer.Refused r) f = absurd (let e : ◌≡◌ {A = ℕ} 0 1 = cc in omega arith)
+        go : (x : Result Given Refusal) → selection.is_past c classes x ≡ true → stream_in (list_of (next_with x a.stream (lending (w ∷ i ∷ s ∷ []) z d)) 2) ≡ a.stream
+        go (Ok (given.Way q)) f = read_back a.stream s h
+        go (Ok (given.Point p)) f = absurd (let e : ◌≡◌ {A = ℕ} 0 1 = cc in omega arith)
+        go (Ok (given.End e)) f = absurd (let e : ◌≡◌ {A = ℕ} 0 1 = cc in omega arith)
+        go (Err r) f = absurd (let e : ◌≡◌ {A = ℕ} 0 1 = cc in omega arith)
 
     pub next-given : (s₀ : List ℕ) → length s₀ ≡ 8 → (b : Stream) → keeping s₀ next_left ≡ next_wire (lending (w ∷ i ∷ s₀ ∷ []) z d) (given_back a b)
-    next-given s₀ h₀ b = go a.answer a.poi a.head
+    next-given s₀ h₀ b = go a.answer
       where
         same : sets s 0 (stream_words a.stream) ≡ sets s₀ 0 (stream_words a.stream)
         same = written a.stream s h ∙ sym (written a.stream s₀ h₀)
 
-        go : (x : NextAnswer) (p : Poi) (q : StreamedHead) → keeping s₀ (next_with x p q a.stream (lending (w ∷ i ∷ s ∷ []) z d)) ≡ next_with x p q (selection.left_of x b a.stream) (lending (w ∷ i ∷ s₀ ∷ []) z d)
-        go next-answer.Point p q = rw same refl
-        go next-answer.Way p q = rw same refl
-        go (next-answer.End e) p q = rw same refl
-        go (next-answer.Refused r) p q = rw (above r) refl
+        go : (x : Result Given Refusal) → keeping s₀ (next_with x a.stream (lending (w ∷ i ∷ s ∷ []) z d)) ≡ next_with x (selection.left_of x b a.stream) (lending (w ∷ i ∷ s₀ ∷ []) z d)
+        go (Ok (given.Point p)) = rw same refl
+        go (Ok (given.Way q)) = rw same refl
+        go (Ok (given.End e)) = rw same refl
+        go (Err r) = rw (above r) refl
 
 -- a decline
-module _ (w s : List ℕ) (d : Declined) (h : length s ≡ 8) where
+module _ (w s : List ℕ) (d : Answered (Result (Unit {0}) Refusal)) (h : length s ≡ 8) where
   abbrev pub decline_left : Wire
   decline_left = decline_wire (lending (w ∷ s ∷ []) [] []) d
 
   pub decline-long : length (list_of decline_left 1) ≡ 8
   decline-long = go d.answer
     where
-      go : (x : DeclineAnswer) → length (list_of (decline_with x d.stream (lending (w ∷ s ∷ []) [] [])) 1) ≡ 8
-      go decline-answer.Declined = ap length (written d.stream s h) ∙ eight d.stream
-      go (decline-answer.Refused r) = h
+      go : (x : Result (Unit {0}) Refusal) → length (list_of (decline_with x d.stream (lending (w ∷ s ∷ []) [] [])) 1) ≡ 8
+      go (Ok u) = ap length (written d.stream s h) ∙ eight d.stream
+      go (Err r) = h
 
   -- the state that it left, which it leaves alone where it is refused
   pub decline-left : decline_step d ≡ shown_step (on_decline (state_of (stream_in s))) → state_of (stream_in (list_of decline_left 1)) ≡ (on_decline {P = Point} {H = Head} {B = Body} (state_of (stream_in s))).left
@@ -143,7 +138,7 @@ module _ (w s : List ℕ) (d : Declined) (h : length s ≡ 8) where
       kept (idle n x i j y) k v q = refl
       kept (waits n x b j y) k v q = absurd (let o : ◌≡◌ {A = ℕ} 0 1 = cc in omega arith)
 
-      go : (x : DeclineAnswer) → decline_answer x ≡ (shown_step (on_decline (state_of (stream_in s)))).reply.answer
+      go : (x : Result (Unit {0}) Refusal) → decline_answer x ≡ (shown_step (on_decline (state_of (stream_in s)))).reply.answer
           → state_of (stream_in (list_of (decline_with x d.stream (lending (w ∷ s ∷ []) [] [])) 1)) ≡ (on_decline {P = Point} {H = Head} {B = Body} (state_of (stream_in s))).left
-      go decline-answer.Declined q = ap state_of (read_back d.stream s h) ∙ left
-      go (decline-answer.Refused r) q = kept (state_of (stream_in s)) (number_of r) (values_of r) q
+      go (Ok u) q = ap state_of (read_back d.stream s h) ∙ left
+      go (Err r) q = kept (state_of (stream_in s)) (number_of r) (values_of r) q

@@ -1,6 +1,8 @@
 -- A stream, and what its calls answer, as words: which ones each answer writes. The others keep their values.
-use Rattle.std.specs.Prelude.{ℕ, ◌%◌, Bool, cond, not, ◌&&◌, List, [], ◌∷◌, eqb, get_or}
-use Rattle.types.specs.declared.OptionalSpan.{OptionalSpan}
+use Rattle.std.specs.Prelude.{ℕ, ◌%◌, Bool, cond, not, ◌&&◌, List, [], ◌∷◌, eqb, get_or, Result, Ok, Err, Option}
+use Rattle.error.specs.declared.Refusal.{Refusal}
+use Rattle.error.specs.declared.LentRefusal.{LentRefusal}
+use Rattle.byte_source.specs.declared.Span.{Span}
 use Rattle.poi.specs.declared.Poi.{Poi}
 use Rattle.selection.specs.Selects.{selects}
 use Rattle.selection.specs.declared.Selection.{Selection}
@@ -8,19 +10,11 @@ use Rattle.visit.specs.declared.TileEnd.{TileEnd}
 use Rattle.visit.specs.declared.Turn.{Turn}
 use Rattle.visit.specs.declared.Turn.TheVariants as turn
 use Rattle.visit.specs.declared.Stream.{Stream}
-use Rattle.visit.specs.declared.OpenRead.{OpenRead}
-use Rattle.visit.specs.declared.OpenRead.TheVariants as open-read
 use Rattle.visit.specs.declared.StreamedHead.{StreamedHead}
 use Rattle.visit.specs.declared.StreamedBody.{StreamedBody}
-use Rattle.visit.specs.declared.NextAnswer.{NextAnswer}
-use Rattle.visit.specs.declared.NextAnswer.TheVariants as next-answer
-use Rattle.visit.specs.declared.NextStep.{NextStep}
-use Rattle.visit.specs.declared.AcceptAnswer.{AcceptAnswer}
-use Rattle.visit.specs.declared.AcceptAnswer.TheVariants as accept-answer
-use Rattle.visit.specs.declared.Accepted.{Accepted}
-use Rattle.visit.specs.declared.DeclineAnswer.{DeclineAnswer}
-use Rattle.visit.specs.declared.DeclineAnswer.TheVariants as decline-answer
-use Rattle.visit.specs.declared.Declined.{Declined}
+use Rattle.visit.specs.declared.Given.{Given}
+use Rattle.visit.specs.declared.Given.TheVariants as given
+use Rattle.visit.specs.declared.Answered.{Answered}
 use Rattle.wire.specs.Wire.{Wire, put, put_all, put_signed, put_degrees, numbered, put_refusal, put_lent_refusal, truth, there}
 use Rattle.wire.specs.Verdicts.{span_words, place_words}
 use Rattle.wire.specs.Elevation.{metre_words}
@@ -51,12 +45,12 @@ abbrev pub goes_past : Selection → (classes : List ℕ) → (number : ℕ) →
 goes_past c classes n w i = eqb n 0 && (eqb (get_or w 6 0) 1 && not (selects c classes (get_or w 18 0) (record { ids = i; count = get_or w 7 0 })))
 
 -- opening
-abbrev pub opened_wire : (before : Wire) → OpenRead → Wire
-opened_wire w (open-read.Stream s) = numbered 0 (put 1 0 (stream_words s) w)
-opened_wire w (open-read.Refused r) = put_refusal r w
+abbrev pub opened_wire : (before : Wire) → Result Stream Refusal → Wire
+opened_wire w (Ok s) = numbered 0 (put 1 0 (stream_words s) w)
+opened_wire w (Err r) = put_refusal r w
 
 -- next: words from 6 on, the tag ids, the state
-abbrev pub span_list : OptionalSpan → List ℕ → List ℕ
+abbrev pub span_list : Option Span → List ℕ → List ℕ
 span_list s l = (span_words s).present ∷ (span_words s).start ∷ (span_words s).size ∷ l
 
 abbrev pub put_point : Poi → Wire → Wire
@@ -70,14 +64,14 @@ put_head h w = put 0 21 (cond h.plain 1 0 ∷ []) (put 0 18 (h.bitmap ∷ []) (p
 abbrev pub put_end : TileEnd → Wire → Wire
 put_end z w = put 0 19 (z.sub_file ∷ cond z.is_water 1 0 ∷ cond z.plain 1 0 ∷ []) (put 0 6 (2 ∷ []) w)
 
-abbrev pub next_with : NextAnswer → Poi → StreamedHead → Stream → Wire → Wire
-next_with next-answer.Point p h s w = numbered 0 (put 2 0 (stream_words s) (put_point p w))
-next_with next-answer.Way p h s w = numbered 0 (put 2 0 (stream_words s) (put_head h w))
-next_with (next-answer.End z) p h s w = numbered 0 (put 2 0 (stream_words s) (put_end z w))
-next_with (next-answer.Refused r) p h s w = put_refusal r w
+abbrev pub next_with : Result Given Refusal → Stream → Wire → Wire
+next_with (Ok (given.Point p)) s w = numbered 0 (put 2 0 (stream_words s) (put_point p w))
+next_with (Ok (given.Way h)) s w = numbered 0 (put 2 0 (stream_words s) (put_head h w))
+next_with (Ok (given.End z)) s w = numbered 0 (put 2 0 (stream_words s) (put_end z w))
+next_with (Err r) s w = put_refusal r w
 
-abbrev pub next_wire : (before : Wire) → NextStep → Wire
-next_wire w s = next_with s.answer s.poi s.head s.stream w
+abbrev pub next_wire : (before : Wire) → Answered (Result Given Refusal) → Wire
+next_wire w s = next_with s.answer s.stream w
 
 -- accept: words from 6 on, the label's position, the state
 abbrev pub put_body : StreamedBody → Wire → Wire
@@ -85,17 +79,17 @@ put_body b w =
     put 0 6 (b.blocks ∷ b.nodes ∷ span_list b.name (span_list b.house_number (span_list b.reference ((place_words b.label_position).present ∷ cond b.plain 1 0 ∷ []))))
     (put_degrees 0 ((place_words b.label_position).latitude ∷ (place_words b.label_position).longitude ∷ []) w)
 
-abbrev pub accept_with : AcceptAnswer → Stream → Wire → Wire
-accept_with (accept-answer.Body b) s w = numbered 0 (put 1 0 (stream_words s) (put_body b w))
-accept_with (accept-answer.Refused r) s w = put_lent_refusal r w
+abbrev pub accept_with : Result StreamedBody LentRefusal → Stream → Wire → Wire
+accept_with (Ok b) s w = numbered 0 (put 1 0 (stream_words s) (put_body b w))
+accept_with (Err r) s w = put_lent_refusal r w
 
-abbrev pub accept_wire : (before : Wire) → Accepted → Wire
+abbrev pub accept_wire : (before : Wire) → Answered (Result StreamedBody LentRefusal) → Wire
 accept_wire w s = accept_with s.answer s.stream w
 
 -- decline: the state
-abbrev pub decline_with : DeclineAnswer → Stream → Wire → Wire
-decline_with decline-answer.Declined s w = numbered 0 (put 1 0 (stream_words s) w)
-decline_with (decline-answer.Refused r) s w = put_refusal r w
+abbrev pub decline_with : Result (Unit {0}) Refusal → Stream → Wire → Wire
+decline_with (Ok u) s w = numbered 0 (put 1 0 (stream_words s) w)
+decline_with (Err r) s w = put_refusal r w
 
-abbrev pub decline_wire : (before : Wire) → Declined → Wire
+abbrev pub decline_wire : (before : Wire) → Answered (Result (Unit {0}) Refusal) → Wire
 decline_wire w s = decline_with s.answer s.stream w

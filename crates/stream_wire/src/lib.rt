@@ -8,13 +8,13 @@ ghost use Rattle.wire.specs.Elevation.{metre_words};
 ghost use Rattle.quick_next.specs.QuickNext.{way_step, point_step};
 ghost use Rattle.stream_wire.specs.Streams.{stream_words, turn_in, stream_in, selection_in, goes_past, opened_wire, put_point, put_head, put_end, put_body, next_wire, accept_wire, decline_wire};
 
+use error::{LentRefusal, Refusal};
 use poi::Poi;
 use quick_next::{PointStep, WayStep};
 use selection::Selection;
 use tagged::TagIds;
 use visit::{
-    AcceptAnswer, Accepted, DeclineAnswer, Declined, NextAnswer, NextStep, OpenRead, Remaining,
-    Stream, StreamedBody, StreamedHead, TileEnd, Turn, WaitingWay,
+    Answered, Given, Remaining, Stream, StreamedBody, StreamedHead, TileEnd, Turn, WaitingWay,
 };
 
 fn turn_in(words: [u64; 8]) -> Turn
@@ -117,28 +117,25 @@ fn put_stream(stream: Stream, state: &mut [u64; 8])
 }
 
 // The stream that was opened.
-pub fn put_opened(got: OpenRead, words: &mut [u64; 6], state: &mut [u64; 8]) -> u64
+pub fn put_opened(got: Result<Stream, Refusal>, words: &mut [u64; 6], state: &mut [u64; 8]) -> u64
     ensures { wire result (words.new ∷ state.new ∷ []) [] [] ≡ opened_wire (lending (words.old ∷ state.old ∷ []) [] []) got }
 {
     match got {
-        OpenRead::Stream(s) => {
+        Ok(s) => {
             put_stream(s, state);
             0
         }
-        OpenRead::Refused(r) => wire::put_refusal(r, words),
+        Err(r) => wire::put_refusal(r, words),
     }
 }
 
 // A point's layer and elevation.
-fn put_signs(poi: Poi, signed_words: &mut [i64; 2])
-    ensures { signed_words.new ≡ sets signed_words.old 0 (poi.layer ∷ (metre_words poi.elevation).metres ∷ []) }
+fn put_signs(layer: i8, elevation: Option<i32>, signed_words: &mut [i64; 2])
+    ensures { signed_words.new ≡ sets signed_words.old 0 (layer ∷ (metre_words elevation).metres ∷ []) }
 {
-    let stored = poi.elevation;
-    let elevation = wire::metre_words(stored);
-    let metres = elevation.metres;
-    let layer = wire::wide_i8(poi.layer);
-    signed_words[0] = layer;
-    signed_words[1] = metres;
+    let elevation = wire::metre_words(elevation);
+    signed_words[0] = wire::wide_i8(layer);
+    signed_words[1] = elevation.metres;
 }
 
 // A point: its texts and where it lies.
@@ -151,14 +148,10 @@ fn put_point(
 )
     ensures { wire 0 (words.new ∷ ids.new ∷ []) signed_words.new degrees.new ≡ put_point poi (lending (words.old ∷ ids.old ∷ []) signed_words.old degrees.old) }
 {
-    let stored = poi.signature;
-    let signature = wire::span_words(stored);
-    let stored = poi.name;
-    let name = wire::span_words(stored);
-    let stored = poi.house_number;
-    let house = wire::span_words(stored);
-    let stored = poi.elevation;
-    let elevation = wire::metre_words(stored);
+    let signature = wire::span_words(poi.signature);
+    let name = wire::span_words(poi.name);
+    let house = wire::span_words(poi.house_number);
+    let elevation = wire::metre_words(poi.elevation);
     let position = poi.position;
     let tags = poi.tag_ids;
     let plain = wire::bit(poi.plain);
@@ -175,7 +168,7 @@ fn put_point(
     words[16] = house.size;
     words[17] = elevation.present;
     words[21] = plain;
-    put_signs(poi, signed_words);
+    put_signs(poi.layer, poi.elevation, signed_words);
     degrees[0] = position.latitude;
     degrees[1] = position.longitude;
     let row = tags.ids;
@@ -222,17 +215,6 @@ pub fn put_way_step(
     put_stream(stream, state);
 }
 
-fn put_step_signs(step: PointStep, signed_words: &mut [i64; 2])
-    ensures { signed_words.new ≡ sets signed_words.old 0 (step.layer ∷ (metre_words step.elevation).metres ∷ []) }
-{
-    let stored = step.elevation;
-    let elevation = wire::metre_words(stored);
-    let metres = elevation.metres;
-    let layer = wire::wide_i8(step.layer);
-    signed_words[0] = layer;
-    signed_words[1] = metres;
-}
-
 // A point that a quick read gave, but for its tag ids, and the state behind it.
 pub fn put_point_step(
     step: PointStep,
@@ -243,12 +225,9 @@ pub fn put_point_step(
 )
     ensures { (ids before : List ℕ) → wire 0 (words.new ∷ ids ∷ state.new ∷ []) signed_words.new degrees.new ≡ next_wire (lending (words.old ∷ before ∷ state.old ∷ []) signed_words.old degrees.old) (point_step step ids) }
 {
-    let stored = step.name;
-    let name = wire::span_words(stored);
-    let stored = step.house_number;
-    let house = wire::span_words(stored);
-    let stored = step.elevation;
-    let elevation = wire::metre_words(stored);
+    let name = wire::span_words(step.name);
+    let house = wire::span_words(step.house_number);
+    let elevation = wire::metre_words(step.elevation);
     let position = step.position;
     words[6] = 0;
     words[7] = step.count as u64;
@@ -263,7 +242,7 @@ pub fn put_point_step(
     words[16] = house.size;
     words[17] = elevation.present;
     words[21] = 1;
-    put_step_signs(step, signed_words);
+    put_signs(step.layer, step.elevation, signed_words);
     degrees[0] = position.latitude;
     degrees[1] = position.longitude;
     let stream = step.stream;
@@ -283,7 +262,7 @@ fn put_end(end: TileEnd, words: &mut [u64; 22])
 
 // The next point, the next way's head, or the end; and the state.
 pub fn put_next(
-    step: NextStep,
+    step: Answered<Result<Given, Refusal>>,
     state: &mut [u64; 8],
     words: &mut [u64; 22],
     signed_words: &mut [i64; 2],
@@ -292,27 +271,23 @@ pub fn put_next(
 ) -> u64
     ensures { wire result (words.new ∷ ids.new ∷ state.new ∷ []) signed_words.new degrees.new ≡ next_wire (lending (words.old ∷ ids.old ∷ state.old ∷ []) signed_words.old degrees.old) step }
 {
-    let answer = step.answer;
-    let stream = step.stream;
-    match answer {
-        NextAnswer::Point => {
-            let poi = step.poi;
+    match step.answer {
+        Ok(Given::Point(poi)) => {
             put_point(poi, words, signed_words, degrees, ids);
-            put_stream(stream, state);
+            put_stream(step.stream, state);
             0
         }
-        NextAnswer::Way => {
-            let head = step.head;
+        Ok(Given::Way(head)) => {
             put_head(head, words, signed_words, ids);
-            put_stream(stream, state);
+            put_stream(step.stream, state);
             0
         }
-        NextAnswer::End(end) => {
+        Ok(Given::End(end)) => {
             put_end(end, words);
-            put_stream(stream, state);
+            put_stream(step.stream, state);
             0
         }
-        NextAnswer::Refused(r) => wire::put_refusal(r, words),
+        Err(r) => wire::put_refusal(r, words),
     }
 }
 
@@ -320,14 +295,10 @@ pub fn put_next(
 fn put_body(body: StreamedBody, words: &mut [u64; 19], degrees: &mut [f64; 2])
     ensures { wire 0 (words.new ∷ []) [] degrees.new ≡ put_body body (lending (words.old ∷ []) [] degrees.old) }
 {
-    let stored = body.name;
-    let name = wire::span_words(stored);
-    let stored = body.house_number;
-    let house = wire::span_words(stored);
-    let stored = body.reference;
-    let reference = wire::span_words(stored);
-    let stored = body.label_position;
-    let label = wire::place_words(stored);
+    let name = wire::span_words(body.name);
+    let house = wire::span_words(body.house_number);
+    let reference = wire::span_words(body.reference);
+    let label = wire::place_words(body.label_position);
     let plain = wire::bit(body.plain);
     words[6] = body.blocks;
     words[7] = body.nodes;
@@ -347,35 +318,35 @@ fn put_body(body: StreamedBody, words: &mut [u64; 19], degrees: &mut [f64; 2])
 }
 
 pub fn put_accepted(
-    step: Accepted,
+    step: Answered<Result<StreamedBody, LentRefusal>>,
     state: &mut [u64; 8],
     words: &mut [u64; 19],
     degrees: &mut [f64; 2],
 ) -> u64
     ensures { wire result (words.new ∷ state.new ∷ []) [] degrees.new ≡ accept_wire (lending (words.old ∷ state.old ∷ []) [] degrees.old) step }
 {
-    let answer = step.answer;
-    let stream = step.stream;
-    match answer {
-        AcceptAnswer::Body(body) => {
+    match step.answer {
+        Ok(body) => {
             put_body(body, words, degrees);
-            put_stream(stream, state);
+            put_stream(step.stream, state);
             0
         }
-        AcceptAnswer::Refused(r) => wire::put_lent_refusal(r, words),
+        Err(r) => wire::put_lent_refusal(r, words),
     }
 }
 
-pub fn put_declined(step: Declined, state: &mut [u64; 8], words: &mut [u64; 6]) -> u64
+pub fn put_declined(
+    step: Answered<Result<(), Refusal>>,
+    state: &mut [u64; 8],
+    words: &mut [u64; 6],
+) -> u64
     ensures { wire result (words.new ∷ state.new ∷ []) [] [] ≡ decline_wire (lending (words.old ∷ state.old ∷ []) [] []) step }
 {
-    let answer = step.answer;
-    let stream = step.stream;
-    match answer {
-        DeclineAnswer::Declined => {
-            put_stream(stream, state);
+    match step.answer {
+        Ok(()) => {
+            put_stream(step.stream, state);
             0
         }
-        DeclineAnswer::Refused(r) => wire::put_refusal(r, words),
+        Err(r) => wire::put_refusal(r, words),
     }
 }

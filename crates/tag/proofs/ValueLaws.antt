@@ -1,7 +1,7 @@
 -- An inline value by its kind.
 use Prim.Native.Nat.{ℕ}
 use mathlib.Core.List.{List}
-use mathlib.Core.Path.{◌≡◌, refl, sym, ap, ◌∙◌}
+use mathlib.Core.Path.{◌≡◌, sym, ap, ◌∙◌}
 use Rattle.parsing.specs.Parse.{Res, Part}
 use Rattle.utils.specs.Vbe.{Noted}
 use Rattle.utils.proofs.NumberLaws.{reads}

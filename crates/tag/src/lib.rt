@@ -2,13 +2,15 @@
 #![tactic(auto)]
 
 ghost use Rattle.std.specs.Prelude.{◌≡◌, length};
-ghost use Rattle.utils.specs.Answers.{text_res};
+ghost use Rattle.byte_source.specs.Answers.{read_by};
+ghost use Rattle.utils.specs.Answers.{noted_part};
 ghost use Rattle.text.specs.Utf8.{code_points, replaced};
 ghost use Rattle.text.specs.Hash.{hash};
 ghost use Rattle.tag.specs.Tag.{equals_at, new_tag, tag_of, key_bytes, mark, letter_after, letter_of, kind_of, kind};
 ghost use Rattle.tag.specs.Value.{value, sized};
 
-use utils::{TextRead, VbeRead};
+use byte_source::{Read, Span};
+use utils::Noted;
 
 // The lengths in bytes of a tag's key and value, and their hashes, all of the replaced text.
 #[derive(Clone, Copy)]
@@ -37,14 +39,12 @@ impl Tag {
 fn equals_at(text: &[u8]) -> usize
     ensures { result ≡ equals_at text.now }
 {
-    let mut at = 0;
-    while at < text.len() {
-        if text[at] == 61 {
+    for (at, &b) in text.iter().enumerate() {
+        if b == b'=' {
             return at;
         }
-        at += 1;
     }
-    at
+    text.len()
 }
 
 // Splits a stored text at its first `=`; without one the value is empty.
@@ -108,10 +108,7 @@ pub fn text_tag(key: TextKey, value: &[u8]) -> Tag
 fn is_mark(b: u8, d: u8) -> bool
     ensures { result ≡ mark b d }
 {
-    if b == 61 {
-        return d == 37;
-    }
-    false
+    b == b'=' && d == b'%'
 }
 
 // The byte behind the first `=%`, or 0.
@@ -122,13 +119,10 @@ fn letter_after(text: &[u8]) -> u8
     if n < 3 {
         return 0;
     }
-    let end = n - 2;
-    let mut at = 0;
-    while at < end {
+    for at in 0..n - 2 {
         if is_mark(text[at], text[at + 1]) {
             return text[at + 2];
         }
-        at += 1;
     }
     0
 }
@@ -154,22 +148,14 @@ pub enum Kind {
 pub fn kind_of(letter: u8) -> Kind
     ensures { result ≡ kind_of letter }
 {
-    if letter == 98 {
-        return Kind::Byte;
+    match letter {
+        b'b' => Kind::Byte,
+        b'h' => Kind::Short,
+        b'i' => Kind::Int,
+        b'f' => Kind::Float,
+        b's' => Kind::Text,
+        _ => Kind::Nothing,
     }
-    if letter == 104 {
-        return Kind::Short;
-    }
-    if letter == 105 {
-        return Kind::Int;
-    }
-    if letter == 102 {
-        return Kind::Float;
-    }
-    if letter == 115 {
-        return Kind::Text;
-    }
-    Kind::Nothing
 }
 
 // The letter of a kind, or 0.
@@ -177,11 +163,11 @@ pub fn letter_of(kind: Kind) -> u8
     ensures { result ≡ letter_of kind }
 {
     match kind {
-        Kind::Byte => 98,
-        Kind::Short => 104,
-        Kind::Int => 105,
-        Kind::Float => 102,
-        Kind::Text => 115,
+        Kind::Byte => b'b',
+        Kind::Short => b'h',
+        Kind::Int => b'i',
+        Kind::Float => b'f',
+        Kind::Text => b's',
         Kind::Nothing => 0,
     }
 }
@@ -194,19 +180,16 @@ pub fn inline_value_kind(text: &[u8]) -> Kind
 }
 
 // A length, which is not held to the limit of texts, and that many bytes.
-fn read_sized(map: &[u8], at: usize) -> TextRead
-    ensures { text_res map.now result ≡ sized map.now at }
+fn read_sized(map: &[u8], at: usize) -> Read<Noted<Span>>
+    ensures { read_by (noted_part map.now) result ≡ sized map.now at }
 {
-    let got = utils::read_vbe_u_int(map, at);
-    let VbeRead::Value(n, start) = got else {
-        return TextRead::Refused(utils::vbe_refusal(got));
-    };
+    let (n, start) = utils::read_vbe_u_int(map, at)?;
     utils::read_part(map, start, n.value as usize, n.plain)
 }
 
 // The inline value of a tag as a part of the map, and the place behind it. A value of a fixed size has no number that could be padded.
-pub fn skip_inline_value(map: &[u8], at: usize, kind: Kind) -> TextRead
-    ensures { text_res map.now result ≡ value kind map.now at }
+pub fn skip_inline_value(map: &[u8], at: usize, kind: Kind) -> Read<Noted<Span>>
+    ensures { read_by (noted_part map.now) result ≡ value kind map.now at }
 {
     match kind {
         Kind::Byte => utils::read_part(map, at, 1, true),

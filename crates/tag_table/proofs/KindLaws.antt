@@ -1,14 +1,13 @@
--- Entries of the listed tag strings, by the code's tests.
-use Prim.Native.Nat.{ℕ, zero, suc, ◌+◌, ◌-◌, ◌≤◌, ◌<◌}
+-- What the listed tag strings say of a tag.
+use Prim.Native.Nat.{ℕ, zero, suc, ◌+◌, ◌≤◌, ◌<◌}
 use native.Mathlib.Omega.{arith}
 use mathlib.Core.Path.{◌≡◌, refl, sym, ap, ◌∙◌}
-use mathlib.Core.Bool.{Bool, true, false}
+use mathlib.Core.Bool.{Bool, true, false, cond}
 use mathlib.Core.List.{List, [], ◌∷◌}
 use lib.Dec.{ltb}
 use lib.ListN.{length, get_or}
-use borrow.Author.Tests.{ltb-true, ltb-false, lt-ltb, le-ltb}
-use borrow.Author.Rules.{rules}
-use Rattle.parsing.specs.Parse.{Res, no, Part}
+use borrow.Author.Tests.{ltb-true, ltb-false}
+use Rattle.parsing.specs.Parse.{no}
 use Rattle.utils.specs.Vbe.{text}
 use Rattle.tag.specs.Tag.{kind_of}
 use Rattle.tag.specs.declared.Kind.{Kind}
@@ -16,23 +15,8 @@ use Rattle.tag.specs.declared.Kind.TheVariants.{Nothing}
 use Rattle.format.specs.Kinds.{upto}
 use Rattle.format.specs.TagLists.{kinds_in, listed_text}
 use Rattle.format.specs.Tile.{kind_at}
-use Rattle.tag_table.proofs.TableLaws as table
-
--- whether there is an entry
-pub entry-none : (len first k : ℕ) → len ≤ first → false ≡ ltb (first + k) len
-entry-none len first k h = sym (le-ltb (first + k) len (omega arith))
-
-pub entry-test : (len first k : ℕ) → first < len → ltb k (len - first) ≡ ltb (first + k) len
-entry-test len first k h = go (ltb k (len - first)) refl
-  where
-    go : (b : Bool) → ltb k (len - first) ≡ b → b ≡ ltb (first + k) len
-    go true e = let z = ltb-true k (len - first) e in sym (lt-ltb (first + k) len (omega arith))
-    go false e = let z = ltb-false k (len - first) e in sym (le-ltb (first + k) len (omega arith))
-
-pub entry-fits : (len first k : ℕ) (b : Bool) → b ≡ ltb (first + k) len → b ≡ true → first + k < len
-entry-fits len first k b e d = ltb-true (first + k) len (sym e ∙ d)
-
-pub ruleset entries = (rules, entry-none, entry-test)
+use Rattle.std.specs.Prelude.{Some, None}
+use Rattle.tag_table.specs.Tables.{entry}
 
 -- one kind for each tag
 length-upto : {A : Type 0} (n : ℕ) (f : ℕ → A) → length (upto n f) ≡ n
@@ -65,27 +49,46 @@ module _ (s : List ℕ) (first n k : ℕ) where
   unfolding kinds_in
   kind-past h = sym (kind_at-past n _ k h)
 
-  pub kind-behind : (b : Bool) → k < n → b ≡ ltb (first + k) (length s) → b ≡ false → Nothing ≡ kind_at (kinds_in s first n) k
-  unfolding kinds_in
-  kind-behind b h e d =
-      sym (kind_at-upto n _ k h ∙ ap kind_of (get_d_past s (first + k) (ltb-false (first + k) (length s) (sym e ∙ d))))
-
   pub kind-there : (x : Kind) → k < n → x ≡ kind_of (get_or s (first + k) 0) → x ≡ kind_at (kinds_in s first n) k
   unfolding kinds_in
   kind-there x h e = e ∙ sym (kind_at-upto n _ k h)
 
-  -- the text of a tag
+  kind-behind : k < n → length s ≤ first + k → Nothing ≡ kind_at (kinds_in s first n) k
+  unfolding kinds_in
+  kind-behind h l = sym (kind_at-upto n _ k h ∙ ap kind_of (get_d_past s (first + k) l))
+
+  -- what is listed of a tag, by its entry
+  pub kind-listed : (i : ℕ) → Some i ≡ entry (length s) (record { first = first; count = n }) k → kind_of (get_or s i 0) ≡ kind_at (kinds_in s first n) k
+  kind-listed i h = go (ltb k n) (ltb (first + k) (length s)) refl h
+    where
+      go : (a b : Bool) → ltb k n ≡ a → Some i ≡ cond a (cond b (Some (first + k)) None) None → kind_of (get_or s i 0) ≡ kind_at (kinds_in s first n) k
+      go true true p h = let e : i ≡ first + k = cc in rw e (kind-there _ (ltb-true k n p) refl)
+      go true false p h = absurd cc
+      go false b p h = absurd cc
+
+  pub kind-none : None ≡ entry (length s) (record { first = first; count = n }) k → Nothing ≡ kind_at (kinds_in s first n) k
+  kind-none h = go (ltb k n) (ltb (first + k) (length s)) refl refl h
+    where
+      go : (a b : Bool) → ltb k n ≡ a → ltb (first + k) (length s) ≡ b → None ≡ cond a (cond b (Some (first + k)) None) None → Nothing ≡ kind_at (kinds_in s first n) k
+      go true true p q h = absurd cc
+      go true false p q h = kind-behind (ltb-true k n p) (ltb-false (first + k) (length s) q)
+      go false b p q h = kind-past (ltb-false k n p)
+
   module _ (m : List ℕ) where
-    pub text-past : n ≤ k → no 7 (k ∷ []) ≡ listed_text s first n k m
+    pub text-listed : (i : ℕ) → Some i ≡ entry (length s) (record { first = first; count = n }) k → text m (get_or s i 0) ≡ listed_text s first n k m
     unfolding listed_text
-    text-past h = rw (le-ltb k n h) refl
+    text-listed i h = go (ltb k n) (ltb (first + k) (length s)) h
+      where
+        go : (a b : Bool) → Some i ≡ cond a (cond b (Some (first + k)) None) None → text m (get_or s i 0) ≡ cond a (cond b (text m (get_or s (first + k) 0)) (no 7 (k ∷ []))) (no 7 (k ∷ []))
+        go true true h = let e : i ≡ first + k = cc in rw e
+        go true false h = absurd cc
+        go false b h = absurd cc
 
-    pub text-behind : (b : Bool) → k < n → b ≡ ltb (first + k) (length s) → b ≡ false → no 7 (k ∷ []) ≡ listed_text s first n k m
+    pub text-none : None ≡ entry (length s) (record { first = first; count = n }) k → no 7 (k ∷ []) ≡ listed_text s first n k m
     unfolding listed_text
-    text-behind b h e d = rw (lt-ltb k n h, ← e, d) refl
-
-    pub text-there : (b : Bool) (x : Res Part) → k < n → b ≡ ltb (first + k) (length s) → b ≡ true → x ≡ text m (get_or s (first + k) 0) → x ≡ listed_text s first n k m
-    unfolding listed_text
-    text-there b x h e d q = rw (lt-ltb k n h, ← e, d) q
-
-pub ruleset listed = (table.reads, kind-past, kind-behind, kind-there, text-past, text-behind, text-there, entry-fits)
+    text-none h = go (ltb k n) (ltb (first + k) (length s)) h
+      where
+        go : (a b : Bool) → None ≡ cond a (cond b (Some (first + k)) None) None → no 7 (k ∷ []) ≡ cond a (cond b (text m (get_or s (first + k) 0)) (no 7 (k ∷ []))) (no 7 (k ∷ []))
+        go true true h = absurd cc
+        go true false h = refl
+        go false b h = refl

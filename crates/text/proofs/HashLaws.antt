@@ -45,7 +45,7 @@ turn : (x y m : ℕ) → x % m * (y % m) % m ≡ x * y % m
 turn x y m = rw (mul_mod_right (x % m) y m, mul_mod_left x y m)
 
 module _ (s : List ℕ) (at z : ℕ) (p : Sequence) (e : p ≡ sequence_at s at) (q : z ≡ size_of p) (l : at < length s) (power : ℕ) (w : power ≡ 31 ^ (length (code_points (drop at s)) + 1) % 2 ^ 64) where
-  pub hash-more : (h t c sum y : ℕ) → c ≡ code_of p → sum ≡ (h + c) % 2 ^ 64 → y ≡ sum * power % 2 ^ 64 → hash_left h (code_points (drop at s)) ≡ t → hash_left y (code_points (drop (at + z) s)) ≡ t
+  hash-more : (h t c sum y : ℕ) → c ≡ code_of p → sum ≡ (h + c) % 2 ^ 64 → y ≡ sum * power % 2 ^ 64 → hash_left h (code_points (drop at s)) ≡ t → hash_left y (code_points (drop (at + z) s)) ≡ t
   hash-more h t c sum y hc hs hy f =
       let d = codes-next s at z p e q l in
       let k : power ≡ 31 ^ (length (code_of p ∷ code_points (drop (at + z) s)) + 1) % 2 ^ 64 = rw d at w in
@@ -61,6 +61,10 @@ module _ (s : List ℕ) (at z : ℕ) (p : Sequence) (e : p ≡ sequence_at s at)
       suc_one : (n : ℕ) → suc n ≡ n + 1
       suc_one n = omega arith
 
+  -- the same, by the sums and products themselves
+  pub hash-step : (h t c : ℕ) → c ≡ code_of p → hash_left h (code_points (drop at s)) ≡ t → hash_left ((h + c) % 2 ^ 64 * power % 2 ^ 64) (code_points (drop (at + z) s)) ≡ t
+  hash-step h t c hc f = hash-more h t c _ _ hc refl refl f
+
 pub power-start : (s : List ℕ) (n x y : ℕ) → n ≡ length (code_points s) → x ≡ 31 ^ n % 2 ^ 64 → y ≡ x * 31 % 2 ^ 64 → y ≡ 31 ^ (length (code_points s) + 1) % 2 ^ 64
 power-start s n x y e hx hy = rw (hy, hx, ← e, mul_mod_left (31 ^ n) 31 (2 ^ 64), add-one n, pow-suc 31 n)
 
@@ -69,4 +73,4 @@ pub hash-end : (s : List ℕ) (at h : ℕ) → length s ≤ at → hash_left h (
 unfolding hash_from
 hash-end s at h l f = (rw (codes-end s at l) at f) ∙ ap hash (sym (codes-replaced s))
 
-pub ruleset hashes = (writes, hash-more, power-more, power-start, hash-end)
+pub ruleset hashes = (writes, hash-step, power-more, power-start, hash-end)

@@ -1,4 +1,5 @@
 pub mod Utf8Laws
+pub mod WalkLaws
 pub mod ReplacedLaws
 pub mod WriteLaws
 pub mod WrittenLaws

@@ -184,9 +184,6 @@ valid-more s at c n t p e q h k =
     let f : sequence_at s at ≡ Char c n = sym e ∙ q in
     rw (sequences-here s at h, f) at k
 
-pub valid-ascii : (s : List ℕ) (at : ℕ) (t : Bool) → at < length s → get_or s at 0 < 128 → all_chars (sequences (drop at s)) ≡ t → all_chars (sequences (drop (at + 1) s)) ≡ t
-valid-ascii s at t h l k = valid-more s at (get_or s at 0) 1 t (sequence_at s at) refl (sym (sequence-ascii s at (get_or s at 0) refl l)) h k
-
 pub valid-stop : (s : List ℕ) (at n : ℕ) (t : Bool) (p : Sequence) → p ≡ sequence_at s at → p ≡ Ill n → at < length s → all_chars (sequences (drop at s)) ≡ t → false ≡ t
 unfolding all_chars
 valid-stop s at n t p e q h k =
@@ -214,4 +211,4 @@ module _ (s : List ℕ) (at n : ℕ) (p : Sequence) (e : p ≡ sequence_at s at)
   pub next-less : length s - (at + n) < length s - at
   next-less = omega (arith, next-in, next-some)
 
-pub ruleset texts = (rules, char-size, next-in, next_fits, next-less, valid-ascii, valid-more, valid-stop, valid-end)
+pub ruleset texts = (rules, char-size, next-in, next_fits, next-less, valid-more, valid-stop, valid-end)

@@ -1,5 +1,5 @@
 -- Laws of the characters of a text, of the length of the replaced text, and of writing it.
-use Rattle.std.proofs.Common.{◌≡◌, ℕ, zero, suc, ◌+◌, ◌-◌, ◌/◌, ◌^◌, ◌<◌, ◌≤◌, Bool, true, false, leb, List, [], ◌∷◌, ◌++◌, length, get_or, take, drop, set, sym, refl, ap, ◌∙◌, add-one, sub-one, arith, length-append, length-drop, length-set, length-take, drop-drop, le-leb, leb-false, leb-true}
+use Rattle.std.proofs.Common.{◌≡◌, ℕ, ◌+◌, ◌-◌, ◌/◌, ◌^◌, ◌<◌, ◌≤◌, Bool, true, false, leb, List, [], ◌∷◌, ◌++◌, length, take, drop, set, sym, refl, ap, ◌∙◌, add-one, arith, length-append, length-drop, length-set, length-take, drop-drop, le-leb, leb-false, leb-true}
 use native.Mathlib.Numerals.{add-two}
 use lib.Seq.{sets, length-sets, take-length}
 use borrow.Author.Tests.{lt-leb}
@@ -107,16 +107,6 @@ module _ (s : List ℕ) (start len : ℕ) where
 
   pub room-start : start ≤ len → leb (length (replaced s)) (len - start) ≡ leb (place_behind s start) len
   room-start h = leb-sub start (length (replaced s)) len h
-
--- bytes copied one by one
-pub copy_more : (s l t : List ℕ) (a b left : ℕ) → 0 < left → a + left ≤ length s → sets l b (take left (drop a s)) ≡ t → sets (set l b (get_or s a 0)) (b + 1) (take (left - 1) (drop (a + 1) s)) ≡ t
-copy_more s l t a b zero z h f = absurd (omega arith)
-copy_more s l t a b (suc left) z h f =
-    let d : drop a s ≡ get_or s a 0 ∷ drop (a + 1) s = drop_here s a (get_or s a 0) (omega arith) refl in
-    rw (add-one b, sub-one (suc left)) (rw d at f)
-
-pub copy-end : (l t xs : List ℕ) (b left : ℕ) → left ≤ 0 → sets l b (take left xs) ≡ t → l ≡ t
-copy-end l t xs b left z f = let e : left ≡ 0 = omega arith in rw e at f
 
 -- a sequence written
 module _ (s : List ℕ) (at n to to' : ℕ) (p : Sequence) (e : p ≡ sequence_at s at) (q : n ≡ size_of p) (h : at < length s) (g : to' ≡ to + written_of p) where
@@ -242,8 +232,6 @@ pub ruleset writes = (
   start-past,
   room-ample,
   room-start,
-  copy_more,
-  copy-end,
   write-more,
   write-on,
   write_kept,

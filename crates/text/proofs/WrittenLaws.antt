@@ -4,8 +4,7 @@ use lib.Seq.{sets}
 use Rattle.error.specs.declared.LentRefusal.{LentRefusal}
 use Rattle.error.specs.Refusals.{lent_refused, short_buffer}
 use Rattle.arithmetic.specs.Cut.{cut}
-use Rattle.text.specs.declared.Written.{Written}
-use Rattle.text.specs.declared.Written.TheVariants.{Upto, Refused}
+use Rattle.std.specs.Prelude.{Result, Ok, Err}
 use Rattle.text.specs.Utf8.{replaced}
 use Rattle.text.specs.Writing.{Writing, written_res, place_behind, outcome, writing}
 use Rattle.text.proofs.WriteLaws.{writing-fits, writing-short}
@@ -22,8 +21,8 @@ pub record Short (s b b' : List ℕ) (start : ℕ) (r : LentRefusal) : Type 0 wh
   pub bytes : b' ≡ b
   pub refusal : lent_refused {A = Unit} r ≡ lent_refused (short_buffer (cut (place_behind s start)))
 
-module _ (s b b' : List ℕ) (start : ℕ) (g : Written) (e : outcome g b' ≡ writing s b start) where
-  pub written-fits : (n : ℕ) → g ≡ Upto n → Fits s b b' start n
+module _ (s b b' : List ℕ) (start : ℕ) (g : Result ℕ LentRefusal) (e : outcome g b' ≡ writing s b start) where
+  pub written-fits : (n : ℕ) → g ≡ Ok n → Fits s b b' start n
   written-fits n h = go (leb (place_behind s start) (length b)) refl
     where
       go : (x : Bool) → leb (place_behind s start) (length b) ≡ x → Fits s b b' start n
@@ -39,7 +38,7 @@ module _ (s b b' : List ℕ) (start : ℕ) (g : Written) (e : outcome g b' ≡ w
           let z : ◌≡◌ {A = ℕ} 0 1 = cc in
           absurd (omega arith)
 
-  pub written-short : (r : LentRefusal) → g ≡ Refused r → Short s b b' start r
+  pub written-short : (r : LentRefusal) → g ≡ Err r → Short s b b' start r
   written-short r h = go (leb (place_behind s start) (length b)) refl
     where
       go : (x : Bool) → leb (place_behind s start) (length b) ≡ x → Short s b b' start r

@@ -1,24 +1,23 @@
 -- Document 01, "The stream and the collected tile" and refusal 15: a collected text written to a lent buffer.
-use Rattle.std.specs.Prelude.{ℕ, ◌+◌, cond, List, length, nat_le}
+use Rattle.std.specs.Prelude.{ℕ, ◌+◌, cond, List, length, nat_le, Result, Ok, Err}
 use Rattle.std.proofs.lemmas.List.Edits.{sets}
 use Rattle.parsing.specs.Parse.{Res, ok, no}
 use Rattle.error.specs.Refusals.{lent_refused, lengths}
 use Rattle.arithmetic.specs.Cut.{cut}
-use Rattle.text.specs.declared.Written.{Written}
-use Rattle.text.specs.declared.Written.TheVariants.{Upto, Refused}
+use Rattle.error.specs.declared.LentRefusal.{LentRefusal}
 use Rattle.text.specs.Utf8.{replaced}
 
 -- an answer: the place behind the text, or a refusal's number and values
-abbrev pub written_res : Written → Res Unit
-written_res (Upto n) = ok tt n
-written_res (Refused r) = lent_refused r
+abbrev pub written_res : Result ℕ LentRefusal → Res Unit
+written_res (Ok n) = ok tt n
+written_res (Err r) = lent_refused r
 
 -- the answer, and what the buffer then holds
 pub record Writing : Type 0 where
   pub answer : Res Unit
   pub buffer : List ℕ
 
-abbrev pub outcome : Written → List ℕ → Writing
+abbrev pub outcome : Result ℕ LentRefusal → List ℕ → Writing
 outcome r buffer = record { answer = written_res r; buffer = buffer }
 
 -- the place behind the collected text

@@ -1,10 +1,12 @@
 // Texts of the map: UTF-8, the text with U+FFFD put in, and the hash of utils.rs.
 #![tactic(auto)]
 
-ghost use Rattle.std.specs.Prelude.{◌≡◌, ◌+◌, ◌^◌, ◌<◌, ◌≤◌, length, take, drop, nat_le};
+ghost use Rattle.std.specs.Prelude.{◌≡◌, ◌+◌, ◌-◌, ◌^◌, ◌<◌, ◌≤◌, length, take, drop, nat_le};
+ghost use Rattle.std.specs.Iterator.{at_most};
 ghost use Rattle.std.proofs.lemmas.List.Edits.{sets};
 ghost use Rattle.arithmetic.specs.Cut.{cut};
 ghost use Rattle.text.specs.Utf8.{follow, sequence_at, size_of, code_of, written_of, sequence_bytes, valid, code_points, replaced};
+ghost use Rattle.text.specs.Sequences.{GivesSequence};
 ghost use Rattle.text.specs.Hash.{hash};
 ghost use Rattle.text.specs.Writing.{place_behind, outcome, writing};
 
@@ -86,40 +88,22 @@ fn by_table(text: &[u8], at: usize) -> Sequence
     ensures { result ≡ sequence_at text.now at }
 {
     let b = wide(text[at]);
-    if b < 0x80 {
-        return Sequence::Char(b, 1);
+    match b {
+        0x00..=0x7F => Sequence::Char(b, 1),
+        0xC2..=0xDF => follow_at(text, at + 1, 1, 0x80, 0xBF, b - 0xC0, 1),
+        0xE0 => follow_at(text, at + 1, 2, 0xA0, 0xBF, b - 0xE0, 1),
+        0xE1..=0xEC => follow_at(text, at + 1, 2, 0x80, 0xBF, b - 0xE0, 1),
+        0xED => follow_at(text, at + 1, 2, 0x80, 0x9F, b - 0xE0, 1),
+        0xEE..=0xEF => follow_at(text, at + 1, 2, 0x80, 0xBF, b - 0xE0, 1),
+        0xF0 => follow_at(text, at + 1, 3, 0x90, 0xBF, b - 0xF0, 1),
+        0xF1..=0xF3 => follow_at(text, at + 1, 3, 0x80, 0xBF, b - 0xF0, 1),
+        0xF4 => follow_at(text, at + 1, 3, 0x80, 0x8F, b - 0xF0, 1),
+        _ => Sequence::Ill(1),
     }
-    if b < 0xC2 {
-        return Sequence::Ill(1);
-    }
-    if b < 0xE0 {
-        return follow_at(text, at + 1, 1, 0x80, 0xBF, b - 0xC0, 1);
-    }
-    if b < 0xE1 {
-        return follow_at(text, at + 1, 2, 0xA0, 0xBF, b - 0xE0, 1);
-    }
-    if b < 0xED {
-        return follow_at(text, at + 1, 2, 0x80, 0xBF, b - 0xE0, 1);
-    }
-    if b < 0xEE {
-        return follow_at(text, at + 1, 2, 0x80, 0x9F, b - 0xE0, 1);
-    }
-    if b < 0xF0 {
-        return follow_at(text, at + 1, 2, 0x80, 0xBF, b - 0xE0, 1);
-    }
-    if b < 0xF1 {
-        return follow_at(text, at + 1, 3, 0x90, 0xBF, b - 0xF0, 1);
-    }
-    if b < 0xF4 {
-        return follow_at(text, at + 1, 3, 0x80, 0xBF, b - 0xF0, 1);
-    }
-    if b < 0xF5 {
-        return follow_at(text, at + 1, 3, 0x80, 0x8F, b - 0xF0, 1);
-    }
-    Sequence::Ill(1)
 }
 
-// The same, small enough to be inlined into a loop: most bytes are of the first row.
+// The same, inlined into the loops: most bytes are of the first row.
+#[inline(always)]
 fn sequence_at(text: &[u8], at: usize) -> Sequence
     requires { at < length text.now }
     ensures { result ≡ sequence_at text.now at }
@@ -131,20 +115,48 @@ fn sequence_at(text: &[u8], at: usize) -> Sequence
     by_table(text, at)
 }
 
+// The sequences of a text from a place on, each with its place.
+#[derive(Drop)]
+struct Sequences<'a> {
+    text: &'a [u8],
+    at: usize,
+}
+
+impl<'a> Sequences<'a> {
+    fn new(text: &'a [u8]) -> Sequences<'a>
+        ensures { (result.text.now ≡ text.now) × (result.at ≡ 0) }
+    {
+        Sequences { text, at: 0 }
+    }
+}
+
+impl<'a> Iterator for Sequences<'a> {
+    type Item = (usize, Sequence);
+
+    ghost next_gives = { GivesSequence };
+
+    ghost remaining = { λ s. at_most (length s.text.now - s.at) };
+
+    #[inline(always)]
+    fn next(&mut self) -> Option<(usize, Sequence)> {
+        let at = self.at;
+        if self.text.len() <= at {
+            return None;
+        }
+        let next = sequence_at(self.text, at);
+        self.at = at + size_of(next);
+        Some((at, next))
+    }
+}
+
 // Whether each sequence of the text is a character.
 pub fn utf8_valid(text: &[u8]) -> bool
     ensures { result ≡ valid text.now }
 {
-    let mut at = 0;
-    while at < text.len() {
-        if text[at] < 128 {
-            at += 1;
-            continue;
-        }
-        let Sequence::Char(_, n) = by_table(text, at) else {
+    for (_, next) in Sequences::new(text) {
+        if let Sequence::Ill(_) = next {
             return false;
-        };
-        at += n;
+        }
     }
     true
 }
@@ -157,11 +169,8 @@ pub fn replaced_len(text: &[u8]) -> usize
         return text.len();
     }
     let mut n = 0;
-    let mut at = 0;
-    while at < text.len() {
-        let next = sequence_at(text, at);
+    for (_, next) in Sequences::new(text) {
         n = arithmetic::saturating_add_usize(n, written_of(next));
-        at += size_of(next);
     }
     n
 }
@@ -178,15 +187,12 @@ fn replaced_fits(text: &[u8], start: usize, len: usize) -> bool
     if text.len() <= room / 3 {
         return true;
     }
-    let mut at = 0;
-    while at < text.len() {
-        let next = sequence_at(text, at);
+    for (_, next) in Sequences::new(text) {
         let n = written_of(next);
         if room < n {
             return false;
         }
         room -= n;
-        at += size_of(next);
     }
     true
 }
@@ -196,15 +202,7 @@ fn copy(text: &[u8], from: usize, n: usize, buffer: &mut [u8], to: usize)
     requires { (from + n ≤ length text.now) × (to + n ≤ length buffer.old) }
     ensures { buffer.new ≡ sets buffer.old to (take n (drop from text.now)) }
 {
-    let mut a = from;
-    let mut b = to;
-    let mut left = n;
-    while 0 < left {
-        buffer[b] = text[a];
-        a += 1;
-        b += 1;
-        left -= 1;
-    }
+    buffer[to..to + n].copy_from_slice(&text[from..from + n]);
 }
 
 // A sequence of the text, from `at` on, written to the buffer from `to` on; the place behind it.
@@ -237,31 +235,21 @@ fn put_replaced(text: &[u8], buffer: &mut [u8], start: usize) -> usize
         return start + n;
     }
     let mut to = start;
-    let mut at = 0;
-    while at < text.len() {
-        let next = sequence_at(text, at);
+    for (at, next) in Sequences::new(text) {
         to = put_sequence(text, at, next, buffer, to);
-        at += size_of(next);
     }
     to
 }
 
-// The place behind a text that was written, or why none was.
-#[derive(Clone, Copy)]
-pub enum Written {
-    Upto(usize),
-    Refused(LentRefusal),
-}
-
-// The replaced text written to the buffer from `start` on; a buffer that is too short is refused and kept.
-pub fn write_replaced(text: &[u8], buffer: &mut [u8], start: usize) -> Written
+// The replaced text written to the buffer from `start` on, and the place behind it; a buffer that is too short is refused and kept.
+pub fn write_replaced(text: &[u8], buffer: &mut [u8], start: usize) -> Result<usize, LentRefusal>
     ensures { outcome result buffer.new ≡ writing text.now buffer.old start }
 {
     if replaced_fits(text, start, buffer.len()) {
-        return Written::Upto(put_replaced(text, buffer, start));
+        return Ok(put_replaced(text, buffer, start));
     }
     let needed = arithmetic::saturating_add_usize(replaced_len(text), start);
-    Written::Refused(error::short_buffer(needed as u64))
+    Err(error::short_buffer(needed as u64))
 }
 
 // The number of characters of the text, an ill-formed sequence being one.
@@ -269,11 +257,8 @@ fn char_count(text: &[u8]) -> usize
     ensures { result ≡ length (code_points text.now) }
 {
     let mut n = 0;
-    let mut at = 0;
-    while at < text.len() {
-        let next = sequence_at(text, at);
+    for _ in Sequences::new(text) {
         n += 1;
-        at += size_of(next);
     }
     n
 }
@@ -284,15 +269,11 @@ pub fn hash_tag_parameter(text: &[u8]) -> u64
     ensures { result ≡ hash (code_points (replaced text.now)) }
 {
     let n = char_count(text);
-    let mut power = arithmetic::wrapping_mul_u64(arithmetic::wrapping_pow_u64(31, n as u64), 31);
-    let mut h = 0;
-    let mut at = 0;
-    while at < text.len() {
-        let next = sequence_at(text, at);
-        let sum = std::num::wrapping_add_u64(h, code_of(next));
-        h = arithmetic::wrapping_mul_u64(sum, power);
-        power = arithmetic::wrapping_mul_u64(power, 17256631552825064415);
-        at += size_of(next);
+    let mut power = arithmetic::wrapping_pow_u64(31, n as u64).wrapping_mul(31);
+    let mut h: u64 = 0;
+    for (_, next) in Sequences::new(text) {
+        h = h.wrapping_add(code_of(next)).wrapping_mul(power);
+        power = power.wrapping_mul(17256631552825064415);
     }
     h
 }

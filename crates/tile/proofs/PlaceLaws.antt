@@ -1,55 +1,46 @@
 -- Where reads in a row start: what loops write to a list, and the k-th of them.
-use Prim.Native.Nat.{ℕ, zero, suc, ◌+◌, ◌-◌, ◌^◌, ◌≤◌, ◌<◌}
+use Prim.Native.Nat.{ℕ, zero, suc, ◌+◌, ◌-◌, ◌^◌, ◌<◌}
 use native.Mathlib.Nat.{zero-add, le_of_suc-le-suc, not-suc-le-zero}
 use native.Mathlib.Numerals.{add-one}
 use native.Mathlib.Omega.{arith}
 use mathlib.Core.Path.{◌≡◌, refl, sym, ap, ◌∙◌, subst}
-use mathlib.Core.Bool.{Bool, true, false, not, ◌&&◌}
+use mathlib.Core.Bool.{Bool, true, false, ◌&&◌}
 use mathlib.Core.List.{List, [], ◌∷◌, ◌++◌}
-use lib.Dec.{T, leb, eqb, eqb→eq}
+use lib.Dec.{T, eqb, eqb→eq}
 use lib.ListN.{length, get_or, set, length-append}
 use lib.Seq.{sets}
-use borrow.Author.Tests.{le-leb, lt-leb, leb-true, leb-false}
 use Rattle.parsing.specs.Parse.{Res, ok, no, Parser, and_then, map_res, bind, return, here, many, end_of, Maybe, some, nth, Part}
 use Rattle.parsing.specs.Good.{split, ok-val, ok_at, no_ok}
 use Rattle.parsing.proofs.Loops.{many_more, many-no, many-count, sets-append}
 use Rattle.error.specs.Refusals.{number_of, values_of}
 use Rattle.error.specs.declared.Refusal.{Refusal}
-use Rattle.error.specs.declared.LentRefusal.TheVariants as lent-refusal
 use Rattle.arithmetic.specs.Cut.{cut}
 use Rattle.arithmetic.proofs.CutLaws.{cut_fits}
-use Rattle.utils.specs.Vbe.{Noted, noted, noted_unsigned}
-use Rattle.utils.specs.Answers.{vbe_res}
-use Rattle.utils.specs.declared.Number.{Number}
-use Rattle.utils.specs.declared.VbeRead.{VbeRead}
-use Rattle.utils.specs.declared.VbeRead.TheVariants as vbe
+use Rattle.utils.specs.Vbe.{Noted, noted_unsigned}
+use Rattle.std.specs.Prelude.{Result, Ok, Err, Option}
+use Rattle.error.specs.Refusals.{refused}
+use Rattle.byte_source.specs.declared.Span.{Span}
+use Rattle.byte_source.proofs.ReadLaws.{refused-on}
+use Rattle.utils.specs.declared.Noted.{Noted as Held}
+use Rattle.utils.specs.Answers.{noted_held}
 use Rattle.tag.specs.declared.Kind.{Kind}
 use Rattle.byte_source.specs.BigEndian.{big_endian}
 use Rattle.format.specs.Tile as format
 use Rattle.format.specs.Tile.{point, Head, head, head_rest, debug_signature, tagged}
-use Rattle.fields.specs.Fields.{optional_span_res, optional_span_refusal}
-use Rattle.fields.specs.declared.OptionalSpanRead.{OptionalSpanRead}
-use Rattle.fields.specs.declared.OptionalSpanRead.TheVariants as span-read
-use Rattle.fields.proofs.FieldLaws.{optional-span-no}
-use Rattle.types.specs.Types.{end_res, maybe_part}
-use Rattle.types.specs.declared.OptionalSpan.{OptionalSpan}
-use Rattle.types.specs.declared.End.{End}
-use Rattle.types.specs.declared.End.TheVariants as end
-use Rattle.poi.specs.Poi.{poi_of, PoiIs}
-use Rattle.poi.specs.declared.PoiRead.{PoiRead}
+use Rattle.types.specs.Types.{maybe_part}
+use Rattle.poi.specs.Poi.{poi_of}
+use Rattle.poi.specs.declared.Poi.{Poi}
 use Rattle.agreement.specs.Format.{Format, Laws}
 use Rattle.agreement.specs.TileFormat.{tile_format}
 use Rattle.agreement.specs.Collected.{Way, way, exact, all_exact, StoredTile, collect}
 use Rattle.agreement.proofs.Chain.{Chain, stop, link, many-chain}
-use Rattle.agreement.proofs.Stored.{Stored, stored, stopped}
+use Rattle.agreement.proofs.Stored.{stored, stopped}
 use Rattle.agreement.proofs.TileAgrees.{way-good, way-strict, collected}
 use Rattle.agreement.proofs.TileFormatLaws.{tile-laws}
 use Rattle.tile_layout.specs.TileLayout.{TileKinds, format_of}
-use Rattle.tile_walk.specs.TileWalk.{ways_res, said_of_all, said_ways}
+use Rattle.tile_walk.specs.TileWalk.{said_of_all, said_ways}
 use Rattle.tile_walk.specs.declared.WaysSaid.{WaysSaid}
-use Rattle.tile_walk.specs.declared.WaysRead.{WaysRead}
-use Rattle.tile_walk.specs.declared.WaysRead.TheVariants as ways-read
-use Rattle.tile.specs.Tile.{shown_tile, summary_of, places_of, feature_places, ReadsPut, ExactPut, WaysPut, PlacesPut, EndsExact, has_room, too_short}
+use Rattle.tile.specs.Tile.{shown_tile, summary_of, places_of, feature_places, ReadsPut, ExactPut, WaysPut, PlacesPut, EndsExact}
 use Rattle.tile.specs.declared.TileSummary.{TileSummary}
 
 module _ {A : Type 0} (p : Parser A) (m : List ℕ) where
@@ -71,9 +62,6 @@ module _ {A : Type 0} (p : Parser A) (m : List ℕ) where
     pub read : many p i m at ≡ ok before next
     pub put : left ≡ sets lent first (places_of p i m at)
 
-  pub reached-none : (at first : ℕ) (lent : List ℕ) → Reached 0 at at first lent lent
-  reached-none at first lent = record { before = []; read = refl; put = refl }
-
   pub reached-more : (i at next first : ℕ) (lent left : List ℕ) → Reached i at next first lent left → (v : A) (k : ℕ) → p m next ≡ ok v k → Reached (i + 1) at k first lent (set left (first + i) next)
   reached-more i at next first lent left r v k h = record {
     before = r.before ++ (v ∷ []);
@@ -92,9 +80,6 @@ module _ {A : Type 0} (p : Parser A) (m : List ℕ) where
 
   pub reached-stop : (i n at next first : ℕ) (lent left left' : List ℕ) → Reached i at next first lent left → (k : ℕ) (v : List ℕ) → p m next ≡ no k v → i < n → ReadsPut p n m at first lent left'
   reached-stop i n at next first lent left left' r k v h b = record { put = λ xs e q. no_ok (sym (many-no p m i n at r.read h b) ∙ q) }
-
-  pub reached-done : (i n at next first : ℕ) (lent left : List ℕ) → Reached i at next first lent left → i ≤ n → n ≤ i → ReadsPut p n m at first lent left
-  reached-done i n at next first lent left r b c = let z : i ≡ n = omega arith in record { put = λ xs e q. r.put ∙ ap (λ k. sets lent first (places_of p k m at)) z }
 
   -- value k of a run, and where it stands
   pub record Stands (l : List A) (k i : ℕ) : Type 0 where
@@ -127,30 +112,36 @@ places_count F m t =
     ∙ ap (λ n. length t.points + n) (places-length (way F) m (length t.ways) (t.start + t.head.offset))
 
 -- points
-module _ (m : List ℕ) (debug : Bool) (kinds : List Kind) (next : ℕ) (g : PoiRead) (b : PoiIs (point debug kinds m next) g) where
-  pub point-there : (k : ℕ) → g.end ≡ end.At k → Stored poi_of g.poi k (point debug kinds m next)
-  point-there k h = stored poi_of g.poi k (point debug kinds m next) (ap (end_res g.poi) (sym h) ∙ b.answer)
+module _ (m : List ℕ) (debug : Bool) (kinds : List Kind) (i at next : ℕ) (lent left : List ℕ) (r : Reached (point debug kinds) m i at next 0 lent left) where
+  pub point-more : (v : Poi) (k : ℕ) → ok v k ≡ map_res poi_of (point debug kinds m next) → Reached (point debug kinds) m (i + 1) at k 0 lent (set left i next)
+  point-more v k q =
+      let s = stored poi_of v k (point debug kinds m next) q in
+      reached-front (point debug kinds) m i at next lent left r s.value k s.same
 
-  pub no-point : (x : Refusal) → g.end ≡ end.Refused x → point debug kinds m next ≡ no (number_of x) (values_of x)
-  no-point x h = stopped poi_of (number_of x) (values_of x) (point debug kinds m next) (ap (end_res g.poi) (sym h) ∙ b.answer)
+  pub point-stop : (x : Refusal) (n : ℕ) (left' : List ℕ) → refused x ≡ map_res poi_of (point debug kinds m next) → i < n → ReadsPut (point debug kinds) n m at 0 lent left'
+  point-stop x n left' q b =
+      reached-stop (point debug kinds) m i n at next 0 lent left left' r _ _ (stopped poi_of (number_of x) (values_of x) (point debug kinds m next) q) b
 
 -- ways that are measured, each by a walk over one
 one_of : {A B : Type 0} (f : List A → B) (r : Res A) → map_res f (and_then r (λ a e. ok (a ∷ []) e)) ≡ map_res (λ a. f (a ∷ [])) r
 one_of f (ok a e) = refl
 one_of f (no k v) = refl
 
-module _ (m : List ℕ) (l : TileKinds) (next : ℕ) (g : WaysRead) (q : ways_res g ≡ said_ways l m 1 next) where
+module _ (m : List ℕ) (l : TileKinds) (i at next first : ℕ) (lent left : List ℕ) (r : Reached (way (format_of l)) m i at next first lent left) where
   abbrev said_one : Way (format_of l) → WaysSaid
   said_one w = said_of_all l (w ∷ [])
 
-  abbrev one : ways_res g ≡ map_res said_one (way (format_of l) m next)
-  one = q ∙ one_of (said_of_all l) (way (format_of l) m next)
+  one : said_ways l m 1 next ≡ map_res said_one (way (format_of l) m next)
+  one = one_of (said_of_all l) (way (format_of l) m next)
 
-  pub way-there : (s : WaysSaid) (k : ℕ) → g ≡ ways-read.Value s k → Stored said_one s k (way (format_of l) m next)
-  way-there s k h = stored said_one s k (way (format_of l) m next) (ap ways_res (sym h) ∙ one)
+  pub way-more : (s : WaysSaid) (k : ℕ) → ok s k ≡ said_ways l m 1 next → Reached (way (format_of l)) m (i + 1) at k first lent (set left (first + i) next)
+  way-more s k q =
+      let w = stored said_one s k (way (format_of l) m next) (q ∙ one) in
+      reached-more (way (format_of l)) m i at next first lent left r w.value k w.same
 
-  pub no_way : (x : Refusal) → g ≡ ways-read.Refused x → way (format_of l) m next ≡ no (number_of x) (values_of x)
-  no_way x h = stopped said_one (number_of x) (values_of x) (way (format_of l) m next) (ap ways_res (sym h) ∙ one)
+  pub way-stop : (x : Refusal) (n : ℕ) (left' : List ℕ) → refused x ≡ said_ways l m 1 next → i < n → ReadsPut (way (format_of l)) n m at first lent left'
+  way-stop x n left' q b =
+      reached-stop (way (format_of l)) m i n at next first lent left left' r _ _ (stopped said_one (number_of x) (values_of x) (way (format_of l) m next) (q ∙ one)) b
 
 -- ways by their stored sizes
 and_left : (a b : Bool) → (a && b) ≡ true → a ≡ true
@@ -212,55 +203,30 @@ module _ (debug : Bool) (points ways : List Kind) (m : List ℕ) (small : length
     read_here : way F m next ≡ ok there.value there.end
     read_here = subst (λ k. way F m k ≡ ok there.value there.end) here-now there.read
 
-    ends-here : (g : End) → EndsExact debug m next g → g ≡ end.At there.end
+    ends-here : (g : Result ℕ Refusal) → EndsExact debug m next g → g ≡ Ok there.end
     ends-here g q =
         let k = exactly next there.value there.end read_here (exact-kth ws i there.value t there.kth) in
-        q.ends ways k.head k.behind k.read ∙ ap end.At k.ends
+        q.ends ways k.head k.behind k.read ∙ ap Ok k.ends
 
-    more : (g : End) (k : ℕ) → EndsExact debug m next g → g ≡ end.At k → Reached (way F) m (i + 1) at k first lent (set left (first + i) next)
-    more g k q d =
-        reached-more (way F) m i at next first lent left r there.value k (read_here ∙ ap (ok there.value) (placed (sym (ends-here g q) ∙ d)))
-      where
-        place_in : End → ℕ
-        place_in (end.At x) = x
-        place_in (end.Refused x) = 0
+    more : (k : ℕ) → EndsExact debug m next (Ok k) → Reached (way F) m (i + 1) at k first lent (set left (first + i) next)
+    more k q =
+        let e : k ≡ there.end = let z = ends-here (Ok k) q in cc in
+        reached-more (way F) m i at next first lent left r there.value k (read_here ∙ ap (ok there.value) (sym e))
 
-        placed : {x y : ℕ} → end.At x ≡ end.At y → x ≡ y
-        placed z = ap place_in z
-
-    nowhere : {C : Type 0} (g : End) (x : Refusal) → EndsExact debug m next g → g ≡ end.Refused x → C
-    nowhere g x q d = absurd (let z = ap is (sym (ends-here g q) ∙ d) in omega arith)
-      where
-        is : End → ℕ
-        is (end.At y) = 0
-        is (end.Refused y) = 1
+    nowhere : {C : Type 0} (x : Refusal) → EndsExact debug m next (Err x) → C
+    nowhere x q = absurd (let z = ends-here (Err x) q in cc)
 
 -- i ways were passed, if all are there and exact
 pub record ExactReached (debug : Bool) (n : ℕ) (m : List ℕ) (i at next first : ℕ) (lent left : List ℕ) : Type 0 where
   pub so : (points ways : List Kind) (ws : List (Way (tile_format debug points ways))) (e : ℕ) → many (way (tile_format debug points ways)) n m at ≡ ok ws e → all_exact ws ≡ true
       → Reached (way (tile_format debug points ways)) m i at next first lent left
 
-module _ (debug : Bool) (n : ℕ) (m : List ℕ) (at first : ℕ) (lent : List ℕ) where
-  pub exact_none : ExactReached debug n m 0 at at first lent lent
-  exact_none = record { so = λ points ways ws e h t. reached-none (way (tile_format debug points ways)) m at first lent }
+module _ (debug : Bool) (n : ℕ) (m : List ℕ) (at first : ℕ) (lent : List ℕ) (i next : ℕ) (left : List ℕ) (r : ExactReached debug n m i at next first lent left) where
+  pub exact-more : (k : ℕ) → EndsExact debug m next (Ok k) → i < n → length m < 2 ^ 64 → ExactReached debug n m (i + 1) at k first lent (set left (first + i) next)
+  exact-more k q b small = record { so = λ points ways ws e h t. more debug points ways m small n at ws e h t i next first lent left (r.so points ways ws e h t) b k q }
 
-  module _ (i next : ℕ) (left : List ℕ) (r : ExactReached debug n m i at next first lent left) where
-    pub exact-more : (g : End) (k : ℕ) → EndsExact debug m next g → g ≡ end.At k → i < n → length m < 2 ^ 64 → ExactReached debug n m (i + 1) at k first lent (set left (first + i) next)
-    exact-more g k q d b small = record { so = λ points ways ws e h t. more debug points ways m small n at ws e h t i next first lent left (r.so points ways ws e h t) b g k q d }
-
-    pub exact-stop : (g : End) (x : Refusal) (left' : List ℕ) → EndsExact debug m next g → g ≡ end.Refused x → i < n → length m < 2 ^ 64 → ExactPut debug n m at first lent left'
-    exact-stop g x left' q d b small = record { put = λ points ways ws e h t. nowhere debug points ways m small n at ws e h t i next first lent left (r.so points ways ws e h t) b g x q d }
-
-    pub exact-done : i ≤ n → n ≤ i → ExactPut debug n m at first lent left
-    exact-done b c = let z : i ≡ n = omega arith in record { put = λ points ways ws e h t. (r.so points ways ws e h t).put ∙ ap (λ k. sets lent first (places_of (way (tile_format debug points ways)) k m at)) z }
-
--- of which this was said
-module _ (l : TileKinds) (n : ℕ) (exact : Bool) (m : List ℕ) (at first : ℕ) (lent left : List ℕ) where
-  pub by-sizes : exact ≡ true → ExactPut l.debug n m at first lent left → WaysPut l n exact m at first lent left
-  by-sizes h q = record { put = λ ws e d t. q.put l.points l.ways ws e d (t ∙ h) }
-
-  pub by-measure : ReadsPut (way (format_of l)) n m at first lent left → WaysPut l n exact m at first lent left
-  by-measure q = record { put = λ ws e d t. q.put ws e d }
+  pub exact-stop : (x : Refusal) (left' : List ℕ) → EndsExact debug m next (Err x) → i < n → length m < 2 ^ 64 → ExactPut debug n m at first lent left'
+  exact-stop x left' q b small = record { put = λ points ways ws e h t. nowhere debug points ways m small n at ws e h t i next first lent left (r.so points ways ws e h t) b x q }
 
 -- ways that are there start inside the map
 starts-inside : (F : Format) (L : Laws F) (m : List ℕ) {i e : ℕ} {ws : List (Way F)} → Chain (way F) m i ws e → 0 < length ws → i < length m
@@ -331,51 +297,25 @@ sized m kinds a n from i h b e =
     (sym (ap (λ (o : Head). o.start) u), sym (ap (λ (o : Head). o.size) u))
 
 -- where an exact way ends, by its signature and its size
-module _ (debug : Bool) (m : List ℕ) (at : ℕ) (g : OptionalSpanRead) (q : optional_span_res m g ≡ debug_signature debug m at) where
-  pub ends_nowhere : (x : Refusal) (r : End) → g ≡ span-read.Refused x → EndsExact debug m at r
+module _ (debug : Bool) (m : List ℕ) (at : ℕ) where
+  pub ends_nowhere : (x : Refusal) (r : Result ℕ Refusal) → refused x ≡ debug_signature debug m at → EndsExact debug m at r
   unfolding head
-  ends_nowhere x r d = record { ends = λ kinds h b e. no_ok (optional-span-no m g (debug_signature debug m at) (λ a n. and_then (noted_unsigned m n) (λ s k. head_rest kinds a s k m k)) (optional_span_refusal g) x q d refl ∙ e) }
+  ends_nowhere x r q = record { ends = λ kinds h b e. no_ok (refused-on x (debug_signature debug m at) (λ a n. and_then (noted_unsigned m n) (λ s k. head_rest kinds a s k m k)) q ∙ e) }
 
-  module _ (v : OptionalSpan) (n : ℕ) (d : g ≡ span-read.Value v n) (w : VbeRead) (f : vbe_res w ≡ noted_unsigned m n) where
+  module _ (v : Option Span) (n : ℕ) (q : ok (maybe_part m v) n ≡ debug_signature debug m at) where
     -- the head from its size on
-    on : (kinds : List Kind) → head debug kinds m at ≡ and_then (vbe_res w) (λ s k. head_rest kinds (maybe_part m v) s k m k)
+    on : (kinds : List Kind) (r : Res (Noted ℕ)) → r ≡ noted_unsigned m n → and_then r (λ s k. head_rest kinds (maybe_part m v) s k m k) ≡ head debug kinds m at
     unfolding head
-    on kinds =
-        ap (λ r. and_then r (λ a n. and_then (noted_unsigned m n) (λ s k. head_rest kinds a s k m k))) (sym q ∙ ap (optional_span_res m) d)
-        ∙ ap (λ r. and_then r (λ s k. head_rest kinds (maybe_part m v) s k m k)) (sym f)
+    on kinds r f =
+        ap (λ r. and_then r (λ s k. head_rest kinds (maybe_part m v) s k m k)) f
+        ∙ ap (λ r. and_then r (λ a n. and_then (noted_unsigned m n) (λ s k. head_rest kinds a s k m k))) q
 
-    pub ends-unsized : (x : Refusal) (r : End) → w ≡ vbe.Refused x → EndsExact debug m at r
-    ends-unsized x r z = record { ends = λ kinds h b e. no_ok (ap (λ y. and_then (vbe_res y) (λ s k. head_rest kinds (maybe_part m v) s k m k)) (sym z) ∙ sym (on kinds) ∙ e) }
+    pub ends-unsized : (x : Refusal) (r : Result ℕ Refusal) → refused x ≡ noted_unsigned m n → EndsExact debug m at r
+    ends-unsized x r f = record { ends = λ kinds h b e. no_ok (on kinds (refused x) f ∙ e) }
 
-    pub ends_at : (s : Number) (k r : ℕ) → w ≡ vbe.Value s k → r ≡ cut (k + s.value) → EndsExact debug m at (end.At r)
-    ends_at s k r z c = record {
+    pub ends_at : (s : Held ℕ) (k r : ℕ) → ok (noted_held s) k ≡ noted_unsigned m n → r ≡ cut (k + s.value) → EndsExact debug m at (Ok r)
+    ends_at s k r f c = record {
       ends = λ kinds h b e.
-          let j = sized m kinds (maybe_part m v) (noted s.value s.plain) k k h b (ap (λ y. and_then (vbe_res y) (λ s k. head_rest kinds (maybe_part m v) s k m k)) (sym z) ∙ sym (on kinds) ∙ e) in
+          let j = sized m kinds (maybe_part m v) (noted_held s) k k h b (on kinds (ok (noted_held s) k) f ∙ e) in
           rw (c, j.0, j.1) refl;
     }
-
--- room for so many
-pub no_room : (points ways len : ℕ) → len < points → false ≡ has_room points ways len
-no_room points ways len h = sym (lt-leb (points + ways) len (omega arith))
-
-pub room-is : (points ways len : ℕ) → points ≤ len → leb ways (len - points) ≡ has_room points ways len
-room-is points ways len h = go (leb ways (len - points)) refl
-  where
-    go : (b : Bool) → leb ways (len - points) ≡ b → b ≡ has_room points ways len
-    go true e = let z = leb-true ways (len - points) e in sym (le-leb (points + ways) len (omega arith))
-    go false e = let z = leb-false ways (len - points) e in sym (lt-leb (points + ways) len (omega arith))
-
-pub short-is : (points ways n : ℕ) → n ≡ cut (points + ways) → lent-refusal.Short (record { list1 = n; list2 = 0; list3 = 0; list4 = 0; list5 = 0; buffer = 0 }) ≡ too_short points ways
-short-is points ways n h = rw h refl
-
--- the test, as code makes it
-pub is_false : (b c : Bool) → not b ≡ true → b ≡ c → false ≡ c
-is_false true c h q = absurd (let z : ◌≡◌ {A = ℕ} 0 1 = cc in omega arith)
-is_false false c h q = q
-
-pub is_true : (b c : Bool) → not b ≡ false → b ≡ c → true ≡ c
-is_true true c h q = q
-is_true false c h q = absurd (let z : ◌≡◌ {A = ℕ} 0 1 = cc in omega arith)
-
-pub has_room_lem : (points ways len : ℕ) → true ≡ has_room points ways len → points + ways ≤ len
-has_room_lem points ways len h = leb-true (points + ways) len (sym h)

@@ -23,22 +23,20 @@ use Rattle.format.specs.Index.{answer}
 use Rattle.format.specs.Rows.{rows_of_interval, interval_table, empty_head, marked_head}
 use Rattle.format.specs.Tile as format
 use Rattle.format.specs.Tile.{Row, row, zoom_table, debug_signature, tile_head}
-use Rattle.types.specs.declared.End.TheVariants as end
-use Rattle.types.specs.declared.OptionalSpan.{OptionalSpan}
-use Rattle.types.proofs.BesideLaws.{beside-no}
+use Rattle.std.specs.Prelude.{Result, Option}
+use Rattle.std.specs.Result.{IsErr, IsErrAnd}
+use Rattle.byte_source.specs.declared.Span.{Span}
+use Rattle.byte_source.specs.Answers.{read_res}
+use Rattle.byte_source.proofs.ReadLaws.{refused-on, handed-up, loop-refused}
+use Rattle.byte_source.proofs.CutOffLaws.{renumbered-map}
+use Rattle.utils.specs.declared.Noted.{Noted as Held}
+use Rattle.utils.specs.Answers.{noted_by}
+use Rattle.types.specs.Types.{maybe_part}
 use Rattle.types.proofs.NotedLaws.{values_length, values-snoc}
 use Rattle.types.proofs.FillLaws.{map-append, fill_more}
-use Rattle.fields.specs.Fields.{optional_span_res, optional_span_refusal}
-use Rattle.fields.specs.declared.OptionalSpanRead.{OptionalSpanRead}
-use Rattle.fields.specs.declared.OptionalSpanRead.TheVariants as span-read
-use Rattle.fields.proofs.FieldLaws.{optional-span-no, optional-span-then}
-use Rattle.zoom_table.specs.Blocks.{zoom_row, noted_row, empty_row, filled_rows, rows_of, no_rows, shown_rows, TableIs, row_res, row_refusal}
-use Rattle.zoom_table.specs.declared.NotedRow.{NotedRow}
-use Rattle.zoom_table.specs.declared.ZoomTableRead.{ZoomTableRead}
-use Rattle.zoom_table.specs.declared.RowRead.{RowRead}
-use Rattle.zoom_table.specs.declared.RowRead.TheVariants as row_read
-use Rattle.zoom_table.proofs.BlockLaws.{row-no}
-use Rattle.zoom_table.proofs.CutOffLaws.{renumbered-map}
+use Rattle.zoom_table.specs.Blocks.{zoom_row, stored_row, empty_row, filled_rows, rows_of}
+use Rattle.zoom_table.specs.declared.ZoomRow.{ZoomRow}
+use Rattle.zoom_table.specs.declared.ZoomTable.{ZoomTable}
 use Rattle.tile.specs.Tile.{rows_read, RowsPut}
 
 -- the zoom table: zeros, or what stands behind the signature
@@ -59,27 +57,23 @@ zeros-filled n h =
     ∙ zeros-behind n 256 h
 
 module _ (empty debug : Bool) (low high : ℕ) (m : List ℕ) (at : ℕ) where
-  pub rows-zero : empty ≡ true → high - low < 256
-      → TableIs (rows_read empty debug low high m at) (record { rows = replicate 256 empty_row; count = high - low + 1; end = end.At at })
+  pub rows-zero : empty ≡ true → high - low < 256 → ◌≡◌ {A = Res ZoomTable} (ok (record { rows = replicate 256 empty_row; count = high - low + 1 }) at) (map_res rows_of (rows_read empty debug low high m at))
   unfolding rows_read
   rows-zero h b =
       rw h (same (rows_of_interval low high) (high - low + 1) (add-one (high - low)) (omega arith))
     where
-      same : (n k : ℕ) → k ≡ n → n ≤ 256 → TableIs (ok (empty_head n).table at) (record { rows = replicate 256 empty_row; count = k; end = end.At at })
-      same n k e b =
-          let q : rows_of (empty_head n).table ≡ record { rows = replicate 256 empty_row; count = k } =
-          ap (λ l. record { rows = l; count = length (empty_head n).table }) (zeros-filled n b)
-          ∙ ap (λ i. record { rows = replicate 256 empty_row; count = i }) (length-replicate n _ ∙ sym e) in
-          record { answer = ap (λ r. ok r at) (sym q); whole = sym q }
+      same : (n k : ℕ) → k ≡ n → n ≤ 256 → ◌≡◌ {A = Res ZoomTable} (ok (record { rows = replicate 256 empty_row; count = k }) at) (ok (rows_of (empty_head n).table) at)
+      same n k e b = let c : length (empty_head n).table ≡ n = length-replicate n _ in rw (zeros-filled n b, c, e)
 
-  module _ (f : empty ≡ false) (g : OptionalSpanRead) (q : optional_span_res m g ≡ debug_signature debug m at) (r : ZoomTableRead) where
-    pub rows-no : (x y : Refusal) → g ≡ span-read.Refused x → y ≡ optional_span_refusal g → shown_rows r ≡ no_rows → r.end ≡ end.Refused y → TableIs (rows_read empty debug low high m at) r
+  module _ (f : empty ≡ false) where
+    pub rows-no : (g : Result (ZoomTable × ℕ) Refusal) (x : Refusal) → IsErr g × IsErrAnd g (λ y. y ≡ x) → refused x ≡ debug_signature debug m at → read_res g ≡ map_res rows_of (rows_read empty debug low high m at)
     unfolding rows_read
-    rows-no x y h w v e = rw f (beside-no rows_of no_rows (and_then (debug_signature debug m at) (λ _ n. map_res values_of (interval_table low high m n))) (shown_rows r) r.end y v e (optional-span-no m g (debug_signature debug m at) (λ _ n. map_res values_of (interval_table low high m n)) y x q h w))
+    rows-no g x h q =
+        rw f (handed-up (λ a. a) g x _ h (ap (map_res rows_of) (refused-on x (debug_signature debug m at) (λ _ n. map_res values_of (interval_table low high m n)) q)))
 
-    pub rows_then : (v : OptionalSpan) (n : ℕ) → g ≡ span-read.Value v n → TableIs (map_res values_of (interval_table low high m n)) r → TableIs (rows_read empty debug low high m at) r
+    pub rows_then : (v : Option Span) (n : ℕ) (r : Res ZoomTable) → ok (maybe_part m v) n ≡ debug_signature debug m at → r ≡ map_res rows_of (map_res values_of (interval_table low high m n)) → r ≡ map_res rows_of (rows_read empty debug low high m at)
     unfolding rows_read
-    rows_then v n h t = rw f (optional-span-then rows_of no_rows (shown_rows r) r.end m g v n (debug_signature debug m at) (λ _ n. map_res values_of (interval_table low high m n)) q h (λ a k. t))
+    rows_then v n r q t = rw f (t ∙ ap (λ s. map_res rows_of (and_then s (λ _ n. map_res values_of (interval_table low high m n)))) q)
 
 -- a table that was read
 pub record Table (empty debug : Bool) (low high : ℕ) (m : List ℕ) (at : ℕ) (rows : List Row) : Type 0 where
@@ -137,35 +131,20 @@ put-more f l xs r =
 put-noted : (f : Row → ℕ) (l : List ℕ) (xs : List (Noted Row)) (r : Noted Row) → sets l 0 (mapped f (values_of (xs ++ (r ∷ [])))) ≡ set (sets l 0 (mapped f (values_of xs))) (length xs) (f r.value)
 put-noted f l xs r = rw (values-snoc xs r, ← (values_length xs)) (put-more f l (values_of xs) r.value)
 
-module _ (m : List ℕ) (i at n k : ℕ) (l l₀ : List ℕ) (f : Row → ℕ) (h : map_res (λ rows. sets l₀ 0 (mapped f (values_of rows))) (many row i m at) ≡ ok l n) (g : RowRead) (q : row_res g ≡ map_res noted_row (row m n)) where
-  pub row_put : (e : ℕ) (v : NotedRow) (x : NotedRow → ℕ) → ((r : Noted Row) → x (noted_row r) ≡ f r.value) → g ≡ row_read.Value v e → map_res (λ rows. sets l₀ 0 (mapped f (values_of rows))) (many row (i + 1) m at) ≡ ok (set l i (x v)) e
-  row_put e v x c d = fill_more (λ rows. sets l₀ 0 (mapped f (values_of rows))) (λ r. f r.value) (i + 1) (λ xs r _. put-noted f l₀ xs r) row m i at n l e (x v) h (one (row m n) (sym q ∙ ap row_res d)) (omega arith)
-    where
-      one : (r : Res (Noted Row)) → map_res noted_row r ≡ ok v e → map_res (λ r. f r.value) r ≡ ok (x v) e
-      one (ok r y) z = rw (← (c r)) (ap (map_res x) z)
-      one (no j w) z = no_ok z
+module _ (m : List ℕ) (i at n : ℕ) (l l₀ : List ℕ) (f : Row → ℕ) (h : map_res (λ rows. sets l₀ 0 (mapped f (values_of rows))) (many row i m at) ≡ ok l n) where
+  pub row_put : (v : Held ZoomRow) (e : ℕ) → ok (noted_by stored_row v) e ≡ row m n → map_res (λ rows. sets l₀ 0 (mapped f (values_of rows))) (many row (i + 1) m at) ≡ ok (set l i (f (stored_row v.value))) e
+  row_put v e q =
+      fill_more (λ rows. sets l₀ 0 (mapped f (values_of rows))) (λ r. f r.value) (i + 1) (λ xs r _. put-noted f l₀ xs r) row m i at n l e (f (stored_row v.value)) h (ap (map_res (λ r. f r.value)) (sym q)) (omega arith)
 
 -- what no read gives
 put-none : (stored : Res (List Row)) (x : Refusal) (p w p' w' : List ℕ) → refused x ≡ stored → RowsPut stored p w p' w'
 put-none stored x p w p' w' h = record { points = λ rows e k. no_ok (h ∙ k); ways = λ rows e k. no_ok (h ∙ k) }
 
 module _ (m : List ℕ) (i at n k : ℕ) (p w p₀ w₀ : List ℕ) (h : map_res (λ rows. put_points p₀ (values_of rows)) (many row i m at) ≡ ok p n) where
-  pub put-stops : (g : RowRead) (e : Refusal) (p' w' : List ℕ) → row_res g ≡ map_res noted_row (row m n) → g ≡ row_read.Refused e → i < k → RowsPut (map_res values_of (many row k m at)) p₀ w₀ p' w'
-  put-stops g e p' w' q d b =
-      put-none (map_res values_of (many row k m at)) (row_refusal g) p₀ w₀ p' w'
-      (ap (map_res values_of) (row-no (λ rows. put_points p₀ (values_of rows)) m i at n k p g (row_refusal g) e h q d refl b))
-
-  pub put-done : map_res (λ rows. put_ways w₀ (values_of rows)) (many row i m at) ≡ ok w n → i ≤ k → k ≤ i → RowsPut (map_res values_of (many row k m at)) p₀ w₀ p w
-  put-done j b c =
-      let e : i ≡ k = omega arith in
-      record {
-        points = λ rows y z. stored (put_points p₀) (many row k m at) p rows y (rw e at h) z;
-        ways = λ rows y z. stored (put_ways w₀) (many row k m at) w rows y (rw e at j) z;
-      }
-    where
-      stored : (f : List Row → List ℕ) (r : Res (List (Noted Row))) (l : List ℕ) (rows : List Row) (y : ℕ) → map_res (λ t. f (values_of t)) r ≡ ok l n → map_res values_of r ≡ ok rows y → l ≡ f rows
-      stored f (ok t x) l rows y d z = sym (ok-val d) ∙ ap f (ok-val z)
-      stored f (no a v) l rows y d z = no_ok d
+  pub put-stops : (e : Refusal) (p' w' : List ℕ) → refused e ≡ row m n → i < k → RowsPut (map_res values_of (many row k m at)) p₀ w₀ p' w'
+  put-stops e p' w' q b =
+      put-none (map_res values_of (many row k m at)) e p₀ w₀ p' w'
+      (ap (map_res values_of) (loop-refused row (λ rows. put_points p₀ (values_of rows)) (λ a. a) m i k at n p e (sym h) (ap (map_res (λ a. a)) q) b))
 
 -- zero rows
 zero_more : (n : ℕ) → (empty_head (suc n)).table ≡ (empty_head n).table ++ (record { points = 0; ways = 0 } ∷ [])
@@ -180,14 +159,6 @@ zero-put f l l₀ i e h =
     ∙ ap (λ t. sets l₀ 0 (mapped f t)) (sym (zero_more i))
     ∙ ap (λ k. sets l₀ 0 (mapped f (empty_head k).table)) (sym (add-one i))
 
-pub zeros-done : (i k : ℕ) (p w p₀ w₀ : List ℕ) → p ≡ put_points p₀ (empty_head i).table → w ≡ put_ways w₀ (empty_head i).table → i ≤ k → k ≤ i → RowsPut (answer (empty_head k).table) p₀ w₀ p w
-zeros-done i k p w p₀ w₀ h j b c =
-    let e : i ≡ k = omega arith in
-    record {
-      points = λ rows y z. (rw e at h) ∙ ap (put_points p₀) (ok-val z);
-      ways = λ rows y z. (rw e at j) ∙ ap (put_ways w₀) (ok-val z);
-    }
-
 module _ (empty debug : Bool) (low high : ℕ) (m : List ℕ) (at : ℕ) (p w p' w' : List ℕ) where
   pub zeros-put : (k : ℕ) → empty ≡ true → k ≡ high - low + 1 → RowsPut (answer (empty_head k).table) p w p' w' → RowsPut (rows_read empty debug low high m at) p w p' w'
   unfolding rows_read
@@ -200,18 +171,18 @@ module _ (empty debug : Bool) (low high : ℕ) (m : List ℕ) (at : ℕ) (p w p'
       }
 
   -- behind the signature
-  module _ (f : empty ≡ false) (g : OptionalSpanRead) (q : optional_span_res m g ≡ debug_signature debug m at) where
-    pub no-signature : (x : Refusal) → g ≡ span-read.Refused x → RowsPut (rows_read empty debug low high m at) p w p' w'
+  module _ (f : empty ≡ false) where
+    pub no-signature : (x : Refusal) → refused x ≡ debug_signature debug m at → RowsPut (rows_read empty debug low high m at) p w p' w'
     unfolding rows_read
-    no-signature x h = rw f (put-none (and_then (debug_signature debug m at) (λ _ n. map_res values_of (interval_table low high m n))) (optional_span_refusal g) p w p' w' (optional-span-no m g (debug_signature debug m at) (λ _ n. map_res values_of (interval_table low high m n)) (optional_span_refusal g) x q h refl))
+    no-signature x q = rw f (put-none (and_then (debug_signature debug m at) (λ _ n. map_res values_of (interval_table low high m n))) x p w p' w' (refused-on x (debug_signature debug m at) (λ _ n. map_res values_of (interval_table low high m n)) q))
 
-    pub signature-past : (v : OptionalSpan) (n k : ℕ) → low ≤ high → g ≡ span-read.Value v n → k ≡ high - low + 1 → RowsPut (map_res values_of (many row k m n)) p w p' w' → RowsPut (rows_read empty debug low high m at) p w p' w'
+    pub signature-past : (v : Option Span) (n k : ℕ) → low ≤ high → ok (maybe_part m v) n ≡ debug_signature debug m at → k ≡ high - low + 1 → RowsPut (map_res values_of (many row k m n)) p w p' w' → RowsPut (rows_read empty debug low high m at) p w p' w'
     unfolding rows_read interval_table zoom_table
-    signature-past v n k o h u r = rw f (record { points = λ rows e k. r.points rows e (same rows e k); ways = λ rows e k. r.ways rows e (same rows e k) })
+    signature-past v n k o q u r = rw f (record { points = λ rows e k. r.points rows e (same rows e k); ways = λ rows e k. r.ways rows e (same rows e k) })
       where
         same : (rows : List Row) (e : ℕ) → and_then (debug_signature debug m at) (λ _ n. map_res values_of (interval_table low high m n)) ≡ ok rows e → map_res values_of (many row k m n) ≡ ok rows e
         same rows e z =
-            let d = ap (λ r. and_then r (λ _ y. map_res values_of (interval_table low high m y))) (ap (optional_span_res m) (sym h) ∙ q) in
+            let d = ap (λ r. and_then r (λ _ y. map_res values_of (interval_table low high m y))) q in
             let c = ap (λ b. map_res values_of (cond b (zoom_table (rows_of_interval low high) m n) (no 13 []))) (le-leb low high o) in
             let r = many row (rows_of_interval low high) m n in
             ap (λ i. map_res values_of (many row i m n)) (u ∙ add-one (high - low))

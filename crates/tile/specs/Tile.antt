@@ -1,14 +1,13 @@
 -- A collected tile (document 01, "The stream and the collected tile": "Collecting decodes every row and answers the zoom table,
 -- first-way offset, feature counts, and (added) whether every stored size is the decoded length"; request 6 adds whether every number was
 -- plain, request 8 where each feature starts). The machine is `collect` of crate agreement.
-use Rattle.std.specs.Prelude.{ℕ, zero, suc, ◌+◌, Bool, true, false, ◌&&◌, ◌≡◌, List, [], ◌∷◌, ◌++◌, map as mapped, leb, length, take, replicate}
+use Rattle.std.specs.Prelude.{ℕ, zero, suc, ◌+◌, Bool, true, ◌&&◌, ◌≡◌, List, [], ◌∷◌, ◌++◌, map as mapped, leb, length, take, Result, Ok, Err}
 use Rattle.std.proofs.lemmas.List.Edits.{sets}
-use Rattle.parsing.specs.Parse.{Res, ok, Parser, ◌>>=◌, return, pick, and_then, map_res, many, end_of, list_of, Maybe, none}
-use Rattle.error.specs.Refusals.{refused, lent_refused, lengths}
+use Rattle.parsing.specs.Parse.{Res, ok, no, Parser, ◌>>=◌, return, pick, and_then, map_res, many, end_of, list_of, Maybe}
+use Rattle.error.specs.Refusals.{lent_refused, lengths}
 use Rattle.error.specs.declared.LentRefusal.{LentRefusal}
 use Rattle.error.specs.declared.LentRefusal.TheVariants.{Short}
 use Rattle.error.specs.declared.Refusal.{Refusal}
-use Rattle.error.specs.declared.Refusal.TheVariants.{Source}
 use Rattle.arithmetic.specs.Cut.{cut}
 use Rattle.utils.specs.Vbe.{values_of}
 use Rattle.format.specs.Header.{Interval}
@@ -18,10 +17,7 @@ use Rattle.format.specs.Rows.{rows_of_interval, interval_table, empty_head, mark
 use Rattle.format.specs.Tile.{Row, TileHead, debug_signature, point, Head, head}
 use Rattle.tag.specs.declared.Kind.{Kind}
 use Rattle.types.specs.Types.{optional_span}
-use Rattle.types.specs.declared.End.{End}
-use Rattle.types.specs.declared.End.TheVariants as end
-use Rattle.types.specs.Beside.{view_or}
-use Rattle.zoom_table.specs.Blocks.{empty_row, filled_rows}
+use Rattle.zoom_table.specs.Blocks.{filled_rows}
 use Rattle.zoom_table.specs.declared.ZoomRow.{ZoomRow}
 use Rattle.agreement.specs.Format.{Format}
 use Rattle.agreement.specs.TileFormat.{tile_format}
@@ -30,14 +26,7 @@ use Rattle.tile_layout.specs.TileLayout.{TileKinds, format_of}
 use Rattle.tile_walk.specs.TileWalk.{said_ways}
 use Rattle.tile_walk.specs.declared.WaysSaid.{WaysSaid}
 use Rattle.tile.specs.declared.Tile.{Tile}
-use Rattle.tile.specs.declared.TileAnswer.{TileAnswer}
-use Rattle.tile.specs.declared.TileAnswer.TheVariants as tile-answer
-use Rattle.tile.specs.declared.TileRead.{TileRead}
 use Rattle.tile.specs.declared.TileSummary.{TileSummary}
-use Rattle.tile.specs.declared.SummaryRead.{SummaryRead}
-use Rattle.tile.specs.declared.SummaryRead.TheVariants as summary
-use Rattle.tile.specs.declared.MeasuredRead.{MeasuredRead}
-use Rattle.tile.specs.declared.MeasuredRead.TheVariants as measured
 
 -- what is shown of a tile that was collected: its features are fetched
 abbrev pub shown_tile : {F : Format} → StoredTile F → Tile
@@ -50,19 +39,6 @@ shown_tile {F} t = record {
   ways = length t.ways;
   exact = all_exact t.ways;
   plain = t.head.plain && (plain_points F t.points && plain_ways t.ways);
-}
-
--- where collecting is refused
-abbrev pub empty_tile : Tile
-empty_tile = record {
-  signature = optional_span none;
-  zoom_table = replicate 256 empty_row;
-  rows = 0;
-  first_way_offset = 0;
-  points = 0;
-  ways = 0;
-  exact = false;
-  plain = false;
 }
 
 -- sub file (8), grid (14), tile (8), its entry and the next one (19), interval (13), then the tile's bytes, if it is not marked empty
@@ -99,14 +75,13 @@ listing = record {
 abbrev pub listed : Res Tile → (places lent : List ℕ) → Replied (List ℕ) (Res Tile)
 listed stored places lent = deliver_to listing (λ t. t) (λ _. places) stored lent
 
-abbrev pub tile_res : TileAnswer → Tile → Res Tile
-tile_res tile-answer.Collected t = answer t
-tile_res (tile-answer.Refused r) t = lent_refused r
+abbrev pub tile_res : Result Tile LentRefusal → Res Tile
+tile_res (Ok t) = answer t
+tile_res (Err r) = lent_refused r
 
 -- the answer to a call that collects, where the definitions say `stored` and `places`, and the list after the call
-pub record TileIs (stored : Res Tile) (places lent : List ℕ) (r : TileRead) (left : List ℕ) : Type 0 where
-  pub answer : ◌≡◌ {A = Replied (List ℕ) (Res Tile)} (record { answer = tile_res r.answer r.tile; lists = left }) (listed stored places lent)
-  pub whole : r.tile ≡ view_or (λ t. t) empty_tile (listed stored places lent).answer
+abbrev pub TileIs : (stored : Res Tile) → (places lent : List ℕ) → Result Tile LentRefusal → (left : List ℕ) → Type 0
+TileIs stored places lent r left = ◌≡◌ {A = Replied (List ℕ) (Res Tile)} (record { answer = tile_res r; lists = left }) (listed stored places lent)
 
 -- The same without an array: what is said of a tile besides its rows,
 abbrev pub summary_of : Tile → TileSummary
@@ -130,9 +105,14 @@ row_points l = mapped (λ (r : ZoomRow). r.points) l
 abbrev pub row_ways : List ZoomRow → List ℕ
 row_ways l = mapped (λ (r : ZoomRow). r.ways) l
 
-abbrev pub summary_res : SummaryRead → Res TileSummary
-summary_res (summary.Value s) = answer s
-summary_res (summary.Refused r) = lent_refused r
+abbrev pub summary_res : Result TileSummary LentRefusal → Res TileSummary
+summary_res (Ok s) = answer s
+summary_res (Err r) = lent_refused r
+
+-- what is made of the value, or what there was before a refusal
+abbrev pub view_or : {A C : Type 0} → (A → C) → C → Res A → C
+view_or view empty (ok a e) = view a
+view_or view empty (no n v) = empty
 
 -- the lists that a call is lent: two for the rows, one for the places
 pub record TileLists : Type 0 where
@@ -144,7 +124,7 @@ abbrev pub lent_tile : (points ways places : List ℕ) → TileLists
 lent_tile p w l = record { points = p; ways = w; places = l }
 
 -- the answer and the lists after the call; entries behind the rows and places keep their values, and with a refusal all do
-pub record CollectIs (stored : Res Tile) (places : List ℕ) (lent : TileLists) (r : SummaryRead) (left : TileLists) : Type 0 where
+pub record CollectIs (stored : Res Tile) (places : List ℕ) (lent : TileLists) (r : Result TileSummary LentRefusal) (left : TileLists) : Type 0 where
   pub answer : summary_res r ≡ map_res summary_of (listed stored places lent.places).answer
   pub points : left.points ≡ view_or (λ t. sets lent.points 0 (row_points (rows_of_tile t))) lent.points (listed stored places lent.places).answer
   pub ways : left.ways ≡ view_or (λ t. sets lent.ways 0 (row_ways (rows_of_tile t))) lent.ways (listed stored places lent.places).answer
@@ -163,14 +143,6 @@ collect_at l empty low high at m = shown_from (stored_at l empty low high at m)
 
 abbrev pub places_at : TileKinds → (empty : Bool) → (low high at : ℕ) → List ℕ → List ℕ
 places_at l empty low high at m = list_of (map_res (feature_places (format_of l) m) (stored_at l empty low high at m))
-
-abbrev pub measured_res : MeasuredRead → Res TileSummary
-measured_res (measured.Value s start) = ok s start
-measured_res (measured.Refused r) = refused r
-
-abbrev pub measured_refusal : MeasuredRead → Refusal
-measured_refusal (measured.Value s start) = Source
-measured_refusal (measured.Refused r) = r
 
 -- whether a list has room for these features, as whole numbers, and the refusal if it has not
 abbrev pub has_room : (points ways len : ℕ) → Bool
@@ -219,5 +191,5 @@ pub record PlacesPut (l : TileKinds) (m : List ℕ) (start : ℕ) (s : TileSumma
   pub put : (t : StoredTile (format_of l)) (e : ℕ) (H : Parser TileHead) (at : ℕ) → collect H (format_of l) m at ≡ ok t e → start ≡ t.start → s ≡ summary_of (shown_tile t) → left ≡ sets lent 0 (feature_places (format_of l) m t)
 
 -- where a way ends whose head can be read and whose stored size is its decoded length
-pub record EndsExact (debug : Bool) (m : List ℕ) (at : ℕ) (r : End) : Type 0 where
-  pub ends : (kinds : List Kind) (h : Head) (b : ℕ) → head debug kinds m at ≡ ok h b → r ≡ end.At (cut (h.start + h.size))
+pub record EndsExact (debug : Bool) (m : List ℕ) (at : ℕ) (r : Result ℕ Refusal) : Type 0 where
+  pub ends : (kinds : List Kind) (h : Head) (b : ℕ) → head debug kinds m at ≡ ok h b → r ≡ Ok (cut (h.start + h.size))

@@ -9,28 +9,25 @@ ghost use Rattle.format.specs.Rows.{empty_head};
 ghost use Rattle.format.specs.Tile.{row};
 ghost use Rattle.types.specs.Types.{grid_of};
 ghost use Rattle.index.specs.Answers.{interval_found};
-ghost use Rattle.zoom_table.specs.Blocks.{TableIs};
+ghost use Rattle.byte_source.specs.Answers.{read_res};
+ghost use Rattle.zoom_table.specs.Blocks.{rows_of};
 ghost use Rattle.agreement.specs.Collected.{way};
 ghost use Rattle.tile_layout.specs.TileLayout.{kinds_of, format_of};
-ghost use Rattle.tile_walk.specs.TileWalk.{ways_res};
-ghost use Rattle.tile.specs.Tile.{empty_tile, rows_read, walked, collect_at, collect_tile, tile_places, TileIs, summary_of, measured_res, measured_refusal, has_room, too_short, RowsPut, ReadsPut, ExactPut, WaysPut, PlacesPut, EndsExact, lent_tile, CollectIs};
+ghost use Rattle.tile.specs.Tile.{rows_read, walked, collect_at, collect_tile, tile_places, TileIs, summary_of, has_room, too_short, RowsPut, ReadsPut, ExactPut, WaysPut, PlacesPut, EndsExact, lent_tile, CollectIs};
 
+use byte_source::{Read, Span};
 use error::{Lengths, LentRefusal, Refusal};
-use fields::OptionalSpanRead;
-use index::IntervalRead;
-use tile_head::TileHeadRead;
 use tile_layout::TileLayout;
-use tile_place::{FoundTile, PlaceRead};
-use tile_walk::{PointsRead, WaysRead, WaysSaid};
-use types::{End, Grid, OptionalSpan};
-use utils::VbeRead;
-use zoom_table::{RowRead, Sums, ZoomRow, ZoomTableRead};
+use tile_place::FoundTile;
+use tile_walk::WaysSaid;
+use types::{Grid, ZoomInterval};
+use zoom_table::{Sums, ZoomRow, ZoomTable};
 
 // A collected tile. `zoom_table` has `rows` rows from the front, zeros behind them. `exact`: every way's stored size is its decoded
 // length. `plain`: every number of the tile was.
 #[derive(Clone, Copy)]
 pub struct Tile {
-    pub signature: OptionalSpan,
+    pub signature: Option<Span>,
     pub zoom_table: [ZoomRow; 256],
     pub rows: usize,
     pub first_way_offset: u64,
@@ -40,23 +37,10 @@ pub struct Tile {
     pub plain: bool,
 }
 
-#[derive(Clone, Copy)]
-pub enum TileAnswer {
-    Collected,
-    Refused(LentRefusal),
-}
-
-// Where collecting is refused, the tile is empty.
-#[derive(Clone, Copy)]
-pub struct TileRead {
-    pub tile: Tile,
-    pub answer: TileAnswer,
-}
-
 // What is said of a collected tile besides its rows.
 #[derive(Clone, Copy)]
 pub struct TileSummary {
-    pub signature: OptionalSpan,
+    pub signature: Option<Span>,
     pub first_way_offset: u64,
     pub points: u64,
     pub ways: u64,
@@ -65,67 +49,23 @@ pub struct TileSummary {
     pub plain: bool,
 }
 
-#[derive(Clone, Copy)]
-pub enum SummaryRead {
-    Value(TileSummary),
-    Refused(LentRefusal),
-}
-
-// The same before a list is looked at, with the place behind the tile's head, where its points start.
-#[derive(Clone, Copy)]
-enum MeasuredRead {
-    Value(TileSummary, usize),
-    Refused(Refusal),
-}
-
-fn measured_refusal(got: MeasuredRead) -> Refusal
-    ensures { result ≡ measured_refusal got }
-{
-    match got {
-        MeasuredRead::Refused(r) => r,
-        MeasuredRead::Value(_, _) => Refusal::Source,
-    }
-}
-
-fn refused_tile(refusal: LentRefusal) -> TileRead
-    ensures { (result.tile ≡ empty_tile) × (result.answer ≡ TileAnswer.Refused refusal) }
-{
-    let empty = ZoomRow { points: 0, ways: 0 };
-    TileRead {
-        tile: Tile {
-            signature: OptionalSpan::Absent,
-            zoom_table: [empty; 256],
-            rows: 0,
-            first_way_offset: 0,
-            points: 0,
-            ways: 0,
-            exact: false,
-            plain: false,
-        },
-        answer: TileAnswer::Refused(refusal),
-    }
-}
-
 // The zoom table of a tile. One that its index marks empty has a zero row for each level.
-fn read_rows(map: &[u8], place: FoundTile, debug: bool) -> ZoomTableRead
+fn read_rows(map: &[u8], place: FoundTile, debug: bool) -> Read<ZoomTable>
     requires { place.min_zoom ≤ place.max_zoom }
-    ensures { TableIs (rows_read place.empty debug place.min_zoom place.max_zoom map.now place.at) result }
+    ensures { read_res result ≡ map_res rows_of (rows_read place.empty debug place.min_zoom place.max_zoom map.now place.at) }
 {
     let at = place.at as usize;
     let min = place.min_zoom;
     let max = place.max_zoom;
     if place.empty {
         let zero = ZoomRow { points: 0, ways: 0 };
-        return ZoomTableRead {
+        let table = ZoomTable {
             rows: [zero; 256],
             count: (max - min) as usize + 1,
-            end: End::At(at),
         };
+        return Ok((table, at));
     }
-    let got = fields::read_signature(map, at, debug);
-    let OptionalSpanRead::Value(_, at) = got else {
-        return zoom_table::refused_table(fields::optional_span_refusal(got));
-    };
+    let (_, at) = fields::read_signature(map, at, debug)?;
     zoom_table::read_zoom_table(map, at, min, max)
 }
 
@@ -138,63 +78,52 @@ fn walk(
     offset: u64,
     layout: TileLayout,
     letters: &[u8],
-) -> WaysRead
-    ensures { ways_res result ≡ walked (kinds_of layout letters.now) map.now at sums.all_points sums.all_ways offset }
+) -> Read<WaysSaid>
+    ensures { read_res result ≡ walked (kinds_of layout letters.now) map.now at sums.all_points sums.all_ways offset }
 {
     let ways = sums.all_ways;
-    let got = tile_walk::measure_points(map, at, sums.all_points, layout, letters);
-    let PointsRead::Value(plain, _) = got else {
-        return WaysRead::Refused(tile_walk::points_refusal(got));
-    };
+    let (plain, _) = tile_walk::measure_points(map, at, sums.all_points, layout, letters)?;
     let first = arithmetic::saturating_add_usize(at, offset as usize);
     if ways == 0 {
-        return WaysRead::Value(WaysSaid { exact: true, plain }, first);
+        return Ok((WaysSaid { exact: true, plain }, first));
     }
-    let got = tile_walk::measure_ways(map, first, ways, layout, letters);
-    let WaysRead::Value(said, behind) = got else {
-        return WaysRead::Refused(tile_walk::ways_refusal(got));
+    let (said, behind) = tile_walk::measure_ways(map, first, ways, layout, letters)?;
+    let said = WaysSaid {
+        exact: said.exact,
+        plain: plain & said.plain,
     };
-    WaysRead::Value(
-        WaysSaid {
-            exact: said.exact,
-            plain: types::both(plain, said.plain),
-        },
-        behind,
-    )
+    Ok((said, behind))
 }
 
-// What is said of the tile at a place that was found.
-fn summarize(map: &[u8], place: FoundTile, layout: TileLayout, letters: &[u8]) -> MeasuredRead
+// What is said of the tile at a place that was found, and where its points start, behind its head.
+fn summarize(map: &[u8], place: FoundTile, layout: TileLayout, letters: &[u8]) -> Read<TileSummary>
     requires { place.min_zoom ≤ place.max_zoom }
-    ensures { measured_res result ≡ map_res summary_of (collect_at (kinds_of layout letters.now) place.empty place.min_zoom place.max_zoom place.at map.now) }
+    ensures { read_res result ≡ map_res summary_of (collect_at (kinds_of layout letters.now) place.empty place.min_zoom place.max_zoom place.at map.now) }
 {
     let min = place.min_zoom;
     let max = place.max_zoom;
-    let rows = (max - min) as usize + 1;
     let at = place.at as usize;
-    let got = tile_head::read_tile_head(map, at, place.empty, layout.debug, min, max, max);
-    let TileHeadRead::Value(head, start) = got else {
-        return MeasuredRead::Refused(tile_head::tile_head_refusal(got));
-    };
+    let (head, start) = tile_head::read_tile_head(
+        map,
+        at,
+        place.empty,
+        layout.debug,
+        min,
+        max,
+        max,
+    )?;
     let sums = head.sums;
-    let walked = walk(map, start, sums, head.offset, layout, letters);
-    let WaysRead::Value(said, _) = walked else {
-        return MeasuredRead::Refused(tile_walk::ways_refusal(walked));
+    let (said, _) = walk(map, start, sums, head.offset, layout, letters)?;
+    let summary = TileSummary {
+        signature: head.signature,
+        first_way_offset: head.offset,
+        points: sums.all_points,
+        ways: sums.all_ways,
+        rows: (max - min) as usize + 1,
+        exact: said.exact,
+        plain: head.plain & said.plain,
     };
-    let plain = types::both(head.plain, said.plain);
-    let signature = head.signature;
-    MeasuredRead::Value(
-        TileSummary {
-            signature,
-            first_way_offset: head.offset,
-            points: sums.all_points,
-            ways: sums.all_ways,
-            rows,
-            exact: said.exact,
-            plain,
-        },
-        start,
-    )
+    Ok((summary, start))
 }
 
 // Whether a list has room for the places of so many points and ways.
@@ -202,10 +131,7 @@ fn has_room(points: u64, ways: u64, len: usize) -> bool
     ensures { result ≡ has_room points ways len }
 {
     let room = len as u64;
-    if room < points {
-        return false;
-    }
-    ways <= room - points
+    points <= room && ways <= room - points
 }
 
 // The refusal that gives the length needed.
@@ -236,16 +162,13 @@ fn put_point_places(
     ensures { ReadsPut (format_of (kinds_of layout letters.now)).point n map.now at 0 places.old places.new }
 {
     let mut next = at;
-    let mut i = 0;
-    while i < n {
+    for i in 0..n {
         let got = poi::read_poi(map, next, layout.debug, letters, layout.poi_tags);
-        let end = got.end;
-        let End::At(after) = end else {
+        let Ok((_, after)) = got else {
             return;
         };
         places[i as usize] = next as u64;
         next = after;
-        i += 1;
     }
 }
 
@@ -263,48 +186,37 @@ fn put_measured_places(
     ensures { ReadsPut (way (format_of (kinds_of layout letters.now))) n map.now at first places.old places.new }
 {
     let mut next = at;
-    let mut i = 0;
-    while i < n {
-        let got = tile_walk::measure_ways(map, next, 1, layout, letters);
-        let WaysRead::Value(_, after) = got else {
+    for i in 0..n {
+        let Ok((_, after)) = tile_walk::measure_ways(map, next, 1, layout, letters) else {
             return;
         };
         places[(first + i) as usize] = next as u64;
         next = after;
-        i += 1;
     }
 }
 
 // Where a way ends whose stored size is exact: nothing behind its size is read.
-fn exact_end(map: &[u8], at: usize, debug: bool) -> End
+fn exact_end(map: &[u8], at: usize, debug: bool) -> Result<usize, Refusal>
     ensures { EndsExact debug map.now at result }
 {
-    let got = fields::read_signature(map, at, debug);
-    let OptionalSpanRead::Value(_, at) = got else {
-        return End::Refused(Refusal::Source);
-    };
-    let got = utils::read_vbe_u_int(map, at);
-    let VbeRead::Value(size, start) = got else {
-        return End::Refused(Refusal::Source);
-    };
-    End::At(arithmetic::saturating_add_usize(start, size.value as usize))
+    let (_, at) = fields::read_signature(map, at, debug)?;
+    let (size, start) = utils::read_vbe_u_int(map, at)?;
+    Ok(arithmetic::saturating_add_usize(start, size.value as usize))
 }
 
-// Where each of n ways starts, by their stored sizes, which are exact.
+// Where each of n ways starts, by their stored sizes, which are exact. A loop of its own: its promise is of exact ways alone, of any
+// kinds of tags.
 fn put_exact_places(map: &[u8], at: usize, n: u64, debug: bool, places: &mut [u64], first: u64)
     requires { first + n ≤ length places.old }
     ensures { ExactPut debug n map.now at first places.old places.new }
 {
     let mut next = at;
-    let mut i = 0;
-    while i < n {
-        let end = exact_end(map, next, debug);
-        let End::At(after) = end else {
+    for i in 0..n {
+        let Ok(after) = exact_end(map, next, debug) else {
             return;
         };
         places[(first + i) as usize] = next as u64;
         next = after;
-        i += 1;
     }
 }
 
@@ -353,41 +265,32 @@ pub fn read_tile(
     map: &[u8],
     layout: TileLayout,
     letters: &[u8],
-    found: IntervalRead,
+    found: Option<ZoomInterval>,
     grid: Grid,
     tile: usize,
     places: &mut [u64],
-) -> TileRead
+) -> Result<Tile, LentRefusal>
     ensures { TileIs (collect_tile (kinds_of layout letters.now) (interval_found found) (grid_of grid) tile map.now) (tile_places (kinds_of layout letters.now) (interval_found found) (grid_of grid) tile map.now) places.old result places.new }
 {
-    let got = tile_place::find_tile(map, layout.debug, found, grid, tile);
-    let PlaceRead::At(place) = got else {
-        return refused_tile(LentRefusal::Refused(tile_place::place_refusal(got)));
-    };
-    let read = summarize(map, place, layout, letters);
-    let MeasuredRead::Value(summary, start) = read else {
-        return refused_tile(LentRefusal::Refused(measured_refusal(read)));
-    };
+    let place = tile_place::find_tile(map, layout.debug, found, grid, tile)?;
+    let (summary, start) = summarize(map, place, layout, letters)?;
     if !has_room(summary.points, summary.ways, places.len()) {
-        return refused_tile(too_short(summary.points, summary.ways));
+        return Err(too_short(summary.points, summary.ways));
     }
-    put_places(map, start, summary, layout, letters, places);
-    let table = read_rows(map, place, layout.debug);
-    let signature = summary.signature;
+    // The rows were read before, for their sums: they are not refused here.
+    let (table, _) = read_rows(map, place, layout.debug)?;
     let zoom_table = table.rows;
-    TileRead {
-        tile: Tile {
-            signature,
-            zoom_table,
-            rows: summary.rows,
-            first_way_offset: summary.first_way_offset,
-            points: summary.points,
-            ways: summary.ways,
-            exact: summary.exact,
-            plain: summary.plain,
-        },
-        answer: TileAnswer::Collected,
-    }
+    put_places(map, start, summary, layout, letters, places);
+    Ok(Tile {
+        signature: summary.signature,
+        zoom_table,
+        rows: summary.rows,
+        first_way_offset: summary.first_way_offset,
+        points: summary.points,
+        ways: summary.ways,
+        exact: summary.exact,
+        plain: summary.plain,
+    })
 }
 
 // `count` rows from `at` on, to the fronts of two lists.
@@ -396,16 +299,14 @@ fn put_rows(map: &[u8], at: usize, count: usize, points: &mut [u64; 256], ways: 
     ensures { RowsPut (map_res values_of (many row count map.now at)) points.old ways.old points.new ways.new }
 {
     let mut next = at;
-    let mut i = 0;
-    while i < count {
-        let got = zoom_table::read_row(map, next);
-        let RowRead::Value(one, after) = got else {
+    for i in 0..count {
+        let Ok((row, after)) = zoom_table::read_row(map, next) else {
             return;
         };
+        let one = row.value;
         points[i] = one.points;
         ways[i] = one.ways;
         next = after;
-        i += 1;
     }
 }
 
@@ -414,11 +315,9 @@ fn put_zeros(count: usize, points: &mut [u64; 256], ways: &mut [u64; 256])
     requires { count ≤ 256 }
     ensures { RowsPut (answer (empty_head count).table) points.old ways.old points.new ways.new }
 {
-    let mut i = 0;
-    while i < count {
+    for i in 0..count {
         points[i] = 0;
         ways[i] = 0;
-        i += 1;
     }
 }
 
@@ -438,8 +337,7 @@ fn put_table(
         put_zeros(count, points, ways);
         return;
     }
-    let got = fields::read_signature(map, place.at as usize, debug);
-    let OptionalSpanRead::Value(_, at) = got else {
+    let Ok((_, at)) = fields::read_signature(map, place.at as usize, debug) else {
         return;
     };
     put_rows(map, at, count, points, ways);
@@ -451,27 +349,21 @@ pub fn collect(
     map: &[u8],
     layout: TileLayout,
     letters: &[u8],
-    found: IntervalRead,
+    found: Option<ZoomInterval>,
     grid: Grid,
     tile: usize,
     points: &mut [u64; 256],
     ways: &mut [u64; 256],
     places: &mut [u64],
-) -> SummaryRead
+) -> Result<TileSummary, LentRefusal>
     ensures { CollectIs (collect_tile (kinds_of layout letters.now) (interval_found found) (grid_of grid) tile map.now) (tile_places (kinds_of layout letters.now) (interval_found found) (grid_of grid) tile map.now) (lent_tile points.old ways.old places.old) result (lent_tile points.new ways.new places.new) }
 {
-    let got = tile_place::find_tile(map, layout.debug, found, grid, tile);
-    let PlaceRead::At(place) = got else {
-        return SummaryRead::Refused(LentRefusal::Refused(tile_place::place_refusal(got)));
-    };
-    let read = summarize(map, place, layout, letters);
-    let MeasuredRead::Value(summary, start) = read else {
-        return SummaryRead::Refused(LentRefusal::Refused(measured_refusal(read)));
-    };
+    let place = tile_place::find_tile(map, layout.debug, found, grid, tile)?;
+    let (summary, start) = summarize(map, place, layout, letters)?;
     if !has_room(summary.points, summary.ways, places.len()) {
-        return SummaryRead::Refused(too_short(summary.points, summary.ways));
+        return Err(too_short(summary.points, summary.ways));
     }
     put_places(map, start, summary, layout, letters, places);
     put_table(map, place, layout.debug, points, ways);
-    SummaryRead::Value(summary)
+    Ok(summary)
 }

@@ -1,53 +1,42 @@
 -- A tile's head, and definitions that go on from it.
 use Prim.Native.Nat.{ℕ, suc, ◌-◌, ◌≤◌, ◌<◌}
-use mathlib.Core.Path.{◌≡◌, refl, sym, ap, ◌∙◌}
+use mathlib.Core.Path.{◌≡◌, ap, ◌∙◌}
 use mathlib.Core.Bool.{Bool, true, false, ◌&&◌}
 use mathlib.Core.List.{List, []}
-use borrow.Author.Rules.{rules}
 use borrow.Author.Tests.{le-leb, lt-leb}
+use Rattle.byte_source.specs.declared.Span.{Span}
+use Rattle.std.specs.Prelude.{Option}
 use Rattle.parsing.specs.Parse.{Res, ok, no, and_then, map_res, Part, Maybe}
-use Rattle.parsing.proofs.Steps.{then-then}
-use Rattle.parsing.proofs.Views.{viewed, view-stop}
 use Rattle.error.specs.Refusals.{refused}
 use Rattle.error.specs.declared.Refusal.{Refusal}
-use Rattle.byte_source.proofs.ReadLaws.{taken, ViewPasses, view-passes, ViewStops, view-stops}
-use Rattle.utils.specs.Vbe.{Noted, values_of, all_plain}
-use Rattle.utils.specs.declared.Number.{Number}
-use Rattle.utils.proofs.NumberLaws.{vbe-ok, vbe-no}
-use Rattle.format.specs.Tile.{Row, zoom_table, tile_head}
+use Rattle.byte_source.proofs.ReadLaws.{reads, view-on, view-refused}
+use Rattle.utils.specs.Vbe.{Noted, noted, values_of, all_plain, noted_unsigned}
+use Rattle.format.specs.CutOff.{where_read, where_byte, of_head}
+use Rattle.utils.specs.declared.Noted.{Noted as Held}
+use Rattle.format.specs.Tile.{Row, zoom_table, tile_head, debug_signature}
 use Rattle.format.specs.Rows.{interval_table, rows_upto, marked_head, interval_head}
 use Rattle.format.proofs.EmptyLaws.{no-points, no-ways, no-points-of, no-ways-of}
-use Rattle.types.specs.Types.{optional_span}
-use Rattle.types.specs.declared.OptionalSpan.{OptionalSpan}
-use Rattle.fields.proofs.FieldLaws.{optional-span-ok, optional-span-no}
-use Rattle.zoom_table.specs.Blocks.{noted_sums, sums_res, sums_refusal}
-use Rattle.zoom_table.specs.declared.NotedSums.{NotedSums}
-use Rattle.zoom_table.specs.declared.SumsRead.{SumsRead}
-use Rattle.zoom_table.specs.declared.SumsRead.TheVariants as sums
-use Rattle.tile_head.specs.TileHead.{head_at, head_res, head_refusal, no_features}
+use Rattle.types.specs.Types.{optional_span, maybe_part}
+use Rattle.fields.proofs.FieldLaws.{optional-span-on}
+use Rattle.zoom_table.specs.Blocks.{noted_sums}
+use Rattle.zoom_table.specs.declared.Sums.{Sums}
+use Rattle.tile_head.specs.TileHead.{head_at, no_features}
 use Rattle.tile_head.specs.declared.TileHead.{TileHead}
-use Rattle.tile_head.specs.declared.TileHeadRead.{TileHeadRead}
-use Rattle.tile_head.specs.declared.TileHeadRead.TheVariants as head
-
-pub head-refused : (g : TileHeadRead) (e : Refusal) → g ≡ head.Refused e → e ≡ head_refusal g
-head-refused g e h = taken head_refusal h refl
-
-pub ruleset refusals = (rules, head-refused)
 
 -- the zoom table of an interval that is not reversed
-module _ {B : Type 0} (m : List ℕ) (at low high zoom : ℕ) (g : SumsRead) (f : List (Noted Row) → ℕ → Res B) (o : low ≤ high) (q : sums_res g ≡ map_res (noted_sums low high zoom) (interval_table low high m at)) where
-  table_is : sums_res g ≡ map_res (noted_sums low high zoom) (zoom_table (suc (high - low)) m at)
+module _ {B : Type 0} (m : List ℕ) (at low high zoom : ℕ) (f : List (Noted Row) → ℕ → Res B) (o : low ≤ high) where
+  table_is : map_res (noted_sums low high zoom) (interval_table low high m at) ≡ map_res (noted_sums low high zoom) (zoom_table (suc (high - low)) m at)
   unfolding interval_table
-  table_is = q ∙ rw (le-leb low high o)
+  table_is = rw (le-leb low high o)
 
-  pub sums-ok : (v : NotedSums) (n : ℕ) (x : Res B) → g ≡ sums.Value v n → ((a : List (Noted Row)) → v ≡ noted_sums low high zoom a → x ≡ f a n) → x ≡ and_then (zoom_table (suc (high - low)) m at) f
-  sums-ok v n x h p = viewed (noted_sums low high zoom) (zoom_table (suc (high - low)) m at) f (sym table_is ∙ ap sums_res h) p
+  pub sums-on : (v : Held Sums) (n : ℕ) (x : Res B) → ok (noted v.value v.plain) n ≡ map_res (noted_sums low high zoom) (interval_table low high m at) → ((a : List (Noted Row)) → noted v.value v.plain ≡ noted_sums low high zoom a → x ≡ f a n) → x ≡ and_then (zoom_table (suc (high - low)) m at) f
+  sums-on v n x q p = view-on (noted_sums low high zoom) (noted v.value v.plain) n (zoom_table (suc (high - low)) m at) f x (q ∙ table_is) p
 
-  pub sums-no : (e' e : Refusal) → g ≡ sums.Refused e → e' ≡ sums_refusal g → refused e' ≡ and_then (zoom_table (suc (high - low)) m at) f
-  sums-no e' e h p = ap refused (p ∙ ap sums_refusal h) ∙ view-stop (noted_sums low high zoom) (zoom_table (suc (high - low)) m at) f (sym table_is ∙ ap sums_res h)
+  pub sums-refused : (e : Refusal) → refused e ≡ map_res (noted_sums low high zoom) (interval_table low high m at) → refused e ≡ and_then (zoom_table (suc (high - low)) m at) f
+  sums-refused e q = view-refused (noted_sums low high zoom) e (zoom_table (suc (high - low)) m at) f (q ∙ table_is)
 
-pub head-made : (s : OptionalSpan) (v : NotedSums) (o : Number) (low high zoom n : ℕ) (b : Bool) (a : Maybe Part) (t : List (Noted Row)) → s ≡ optional_span a → v ≡ noted_sums low high zoom t → b ≡ (v.plain && o.plain) → ◌≡◌ {A = Res TileHead} (ok (record { signature = s; sums = v.sums; offset = o.value; plain = b }) n) (ok (head_at low high zoom (record { signature = a; table = values_of t; offset = o.value; plain = all_plain t && o.plain })) n)
-head-made s v o low high zoom n b a t h k p = rw (h, p, k)
+pub head-made : (s : Option Span) (v : Held Sums) (o : Held ℕ) (low high zoom n : ℕ) (a : Maybe Part) (t : List (Noted Row)) → s ≡ optional_span a → noted v.value v.plain ≡ noted_sums low high zoom t → ◌≡◌ {A = Res TileHead} (ok (record { signature = s; sums = v.value; offset = o.value; plain = v.plain && o.plain }) n) (ok (head_at low high zoom (record { signature = a; table = values_of t; offset = o.value; plain = all_plain t && o.plain })) n)
+head-made s v o low high zoom n a t h k = rw (h, ap (λ (z : Noted Sums). z.value) k, ap (λ (z : Noted Sums). z.plain) k)
 
 -- the test of the interval comes first, then the mark
 module _ (empty debug : Bool) (low high zoom : ℕ) (m : List ℕ) (at : ℕ) where
@@ -66,12 +55,16 @@ module _ (empty debug : Bool) (low high zoom : ℕ) (m : List ℕ) (at : ℕ) wh
   unfolding interval_head marked_head
   head-ordered x o e h = h ∙ rw (le-leb low high o, e)
 
-pub ruleset heads = (rules, then-then, head-reversed, head-empty, head-ordered, optional-span-ok, optional-span-no, sums-ok, sums-no, vbe-ok, vbe-no, head-made)
+pub ruleset heads = (reads, head-reversed, head-empty, head-ordered, optional-span-on, sums-on, sums-refused, head-made)
 
--- a head that was read, in a definition that goes on from it
-module _ {B : Type 0} (low high zoom : ℕ) where
-  pub head_ok : ViewPasses B head_res (head_at low high zoom) head.Value
-  head_ok = view-passes B head_res (head_at low high zoom) head.Value (λ v n. refl)
+-- behind the signature and the zoom table: stated here, where little is known, since the search among all that the code knows stops at its limits
+module _ (debug : Bool) (low high zoom : ℕ) (m : List ℕ) (at : ℕ) (s : Option Span) (i : ℕ) (v : Held Sums) (j : ℕ) (o : low ≤ high)
+    (p : ok (maybe_part m s) i ≡ of_head where_read (debug_signature debug) m at) (q : ok (noted v.value v.plain) j ≡ map_res (noted_sums low high zoom) (interval_table low high m i)) where
+  pub offset-refused : (e : Refusal) → refused e ≡ of_head where_byte noted_unsigned m j → refused e ≡ map_res (head_at low high zoom) (tile_head debug (suc (high - low)) m at)
+  unfolding tile_head
+  offset-refused e h = search heads depth 12
 
-  pub head-no : ViewStops B head_res (head_at low high zoom) head_refusal head.Refused
-  head-no = view-stops B head_res (head_at low high zoom) head_refusal head.Refused (λ e. refl) (λ e. refl)
+  pub offset-on : (w : Held ℕ) (n : ℕ) → ok (noted w.value w.plain) n ≡ of_head where_byte noted_unsigned m j
+      → ok (record { signature = s; sums = v.value; offset = w.value; plain = v.plain && w.plain }) n ≡ map_res (head_at low high zoom) (tile_head debug (suc (high - low)) m at)
+  unfolding tile_head
+  offset-on w n h = search heads depth 12

@@ -1,27 +1,14 @@
 -- A tile's head as it is handed out (document 01, tile.rs and visit.rs), from what is stored.
 use Rattle.std.specs.Prelude.{ℕ, true}
-use Rattle.parsing.specs.Parse.{Res, ok, none}
-use Rattle.error.specs.Refusals.{refused}
-use Rattle.error.specs.declared.Refusal.{Refusal}
-use Rattle.error.specs.declared.Refusal.TheVariants.{Source}
+use Rattle.parsing.specs.Parse.{none}
 use Rattle.format.specs.Tile as format
 use Rattle.types.specs.Types.{optional_span}
 use Rattle.zoom_table.specs.Blocks.{zoom_sums}
 use Rattle.tile_head.specs.declared.TileHead.{TileHead}
-use Rattle.tile_head.specs.declared.TileHeadRead.{TileHeadRead}
-use Rattle.tile_head.specs.declared.TileHeadRead.TheVariants as head
 
 -- of a tile of the levels from low to high, at a zoom
 abbrev pub head_at : (low high zoom : ℕ) → format.TileHead → TileHead
 head_at low high zoom h = record { signature = optional_span h.signature; sums = zoom_sums low high zoom h.table; offset = h.offset; plain = h.plain }
-
-abbrev pub head_res : TileHeadRead → Res TileHead
-head_res (head.Value v n) = ok v n
-head_res (head.Refused r) = refused r
-
-abbrev pub head_refusal : TileHeadRead → Refusal
-head_refusal (head.Value v n) = Source
-head_refusal (head.Refused r) = r
 
 -- What a private function makes, which need not be believed: the head of a tile that its index marks empty
 abbrev pub no_features : TileHead

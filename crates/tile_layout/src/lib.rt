@@ -35,7 +35,5 @@ pub fn layout_with(flags: u8, poi_tags: TagTable, way_tags: TagTable) -> TileLay
 pub fn layout_of(header: MapHeader) -> TileLayout
     ensures { result ≡ layout_of header }
 {
-    let poi_tags = header.poi_tags;
-    let way_tags = header.way_tags;
-    layout_with(header.flags, poi_tags, way_tags)
+    layout_with(header.flags, header.poi_tags, header.way_tags)
 }

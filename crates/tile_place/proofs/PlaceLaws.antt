@@ -7,7 +7,6 @@ use mathlib.Core.Bool.{Bool, true, false, cond}
 use mathlib.Core.List.{List, []}
 use lib.Dec.{leb, ltb, eqb}
 use lib.ListN.{length, take, drop}
-use borrow.Author.Rules.{rules}
 use borrow.Author.Tests.{le-leb, lt-leb, leb-true, le-ltb, lt-ltb, eq-eqb, ne_eqb}
 use Rattle.parsing.specs.Parse.{Res, ok, no, and_then, map_res, renumbered, Maybe, none, some}
 use Rattle.parsing.specs.Good.{split, ok-val, ok_at, no_ok}
@@ -15,29 +14,14 @@ use Rattle.parsing.proofs.Views.{view-stop}
 use Rattle.error.specs.Refusals.{refused}
 use Rattle.error.specs.declared.Refusal.{Refusal}
 use Rattle.arithmetic.specs.Cut.{cut}
-use Rattle.byte_source.specs.Answers.{number_res, number_refusal}
 use Rattle.byte_source.specs.BigEndian.{big_endian_of, big_endian}
-use Rattle.byte_source.specs.declared.NumberRead.{NumberRead}
-use Rattle.byte_source.specs.declared.NumberRead.TheVariants as number
-use Rattle.byte_source.proofs.ReadLaws.{taken}
 use Rattle.format.specs.Header.{Interval}
 use Rattle.format.specs.Index.{answer, answered, Grid, good_grid, tiles_of, grid_tiles, Entry, entry, entry_at, next_offset, Located, located_entry, located, locate_in, locate}
-use Rattle.index.specs.Answers.{grid_res, grid_refusal, held_entry, held_res, entry_res, entry_refusal}
+use Rattle.index.specs.Answers.{held_entry, held_res}
 use Rattle.index.specs.declared.TileIndexEntry.{TileIndexEntry}
-use Rattle.index.specs.declared.EntryRead.{EntryRead}
-use Rattle.index.specs.declared.EntryRead.TheVariants as read
-use Rattle.index.specs.declared.GridRead.{GridRead}
-use Rattle.index.specs.declared.GridRead.TheVariants as grid-read
 use Rattle.index.proofs.AnswerLaws as index
-use Rattle.tile_place.specs.Places.{place_of, place_res, place_refusal, next_after, place_there}
+use Rattle.tile_place.specs.Places.{place_of, next_after, place_there}
 use Rattle.tile_place.specs.declared.FoundTile.{FoundTile}
-use Rattle.tile_place.specs.declared.PlaceRead.{PlaceRead}
-use Rattle.tile_place.specs.declared.PlaceRead.TheVariants as place
-
-pub place-refused : (g : PlaceRead) (e : Refusal) → g ≡ place.Refused e → e ≡ place_refusal g
-place-refused g e h = taken place_refusal h refl
-
-pub ruleset refusals = (rules, place-refused)
 
 -- an entry is five bytes, so the next one stands right behind it
 entry-end : (start : ℕ) (m : List ℕ) (i : ℕ) (e : Entry) (x : ℕ) → entry start m i ≡ ok e x → x ≡ i + 5
@@ -56,7 +40,7 @@ module _ (d : Bool) (z : Interval) (tile tiles : ℕ) (m : List ℕ) where
   unfolding next_offset
   next_last e = rw (eq-eqb (tile + 1) tiles e)
 
-  module _ (o : tile + 1 ≢ tiles) (g : EntryRead) (q : entry_res g ≡ held_res (entry z.start m (entry_at d z.start (tile + 1)))) where
+  module _ (o : tile + 1 ≢ tiles) where
     next-by : next_after d z tile tiles m ≡ map_res (λ (e : TileIndexEntry). e.offset) (held_res (entry z.start m (entry_at d z.start (tile + 1))))
     unfolding next_offset
     next-by = rw (ne_eqb (tile + 1) tiles o) (same (entry z.start m (entry_at d z.start (tile + 1))))
@@ -65,11 +49,11 @@ module _ (d : Bool) (z : Interval) (tile tiles : ℕ) (m : List ℕ) where
         same (ok e x) = refl
         same (no n v) = refl
 
-    pub next-no : (x y : Refusal) → g ≡ read.Refused x → y ≡ entry_refusal g → refused y ≡ next_after d z tile tiles m
-    next-no x y h w = ap refused (w ∙ ap entry_refusal h) ∙ ap (λ a. map_res (λ (e : TileIndexEntry). e.offset) (entry_res a)) (sym h) ∙ ap (map_res (λ (e : TileIndexEntry). e.offset)) q ∙ sym next-by
+    pub next-no : (e : Refusal) → refused e ≡ held_res (entry z.start m (entry_at d z.start (tile + 1))) → refused e ≡ next_after d z tile tiles m
+    next-no e q = ap (map_res (λ (e : TileIndexEntry). e.offset)) q ∙ sym next-by
 
-    pub next-at : (v : TileIndexEntry) → g ≡ read.Entry v → ok v.offset 0 ≡ next_after d z tile tiles m
-    next-at v h = ap (λ a. map_res (λ (e : TileIndexEntry). e.offset) (entry_res a)) (sym h) ∙ ap (map_res (λ (e : TileIndexEntry). e.offset)) q ∙ sym next-by
+    pub next-at : (v : TileIndexEntry) → answer v ≡ held_res (entry z.start m (entry_at d z.start (tile + 1))) → answer v.offset ≡ next_after d z tile tiles m
+    next-at v q = ap (map_res (λ (e : TileIndexEntry). e.offset)) q ∙ sym next-by
 
 -- a place that the code made
 made : (z : Interval) (a : Entry) (v : TileIndexEntry) (n at : ℕ) (empty : Bool) → v ≡ held_entry a → empty ≡ eqb v.offset n → at ≡ cond empty 0 v.offset_abs
@@ -77,21 +61,21 @@ made : (z : Interval) (a : Entry) (v : TileIndexEntry) (n at : ℕ) (empty : Boo
 made z a v n at empty h f p = rw (p, f, h)
 
 -- the place, by what was learnt of the entry, of the next one, and of the order of the zoom levels
-module _ (d : Bool) (z : Interval) (tile tiles : ℕ) (m : List ℕ) (g : EntryRead) (q : entry_res g ≡ held_res (entry z.start m (entry_at d z.start tile))) where
+module _ (d : Bool) (z : Interval) (tile tiles : ℕ) (m : List ℕ) where
   abbrev on_entry : Entry → ℕ → Res Located
   on_entry e i =
       and_then (next_offset z (eqb (tile + 1) tiles) m i) (λ n j.
       cond (leb z.min z.max) (ok (record { interval = z; entry = e; empty = eqb e.offset n }) j) (no 13 []))
 
-  pub no_own : (x y : Refusal) → g ≡ read.Refused x → y ≡ entry_refusal g → refused y ≡ place_there d z tile tiles m
+  pub no_own : (x : Refusal) → refused x ≡ held_res (entry z.start m (entry_at d z.start tile)) → refused x ≡ place_there d z tile tiles m
   unfolding located_entry
-  no_own x y h w = ap refused (w ∙ ap entry_refusal h) ∙ go (entry z.start m (entry_at d z.start tile)) (ap entry_res (sym h) ∙ q)
+  no_own x q = go (entry z.start m (entry_at d z.start tile)) q
     where
       go : (r : Res Entry) → refused x ≡ held_res r → refused x ≡ map_res place_of (answered (and_then r on_entry))
       go (ok a n) e = no_ok e
       go (no n v) e = cc
 
-  module _ (v : TileIndexEntry) (h : g ≡ read.Entry v) (k : NumberRead) (w : number_res k ≡ next_after d z tile tiles m) where
+  module _ (v : TileIndexEntry) (q : answer v ≡ held_res (entry z.start m (entry_at d z.start tile))) where
     -- the stored entry
     record Own (r : Res Entry) : Type 0 where
       value : Entry
@@ -99,7 +83,7 @@ module _ (d : Bool) (z : Interval) (tile tiles : ℕ) (m : List ℕ) (g : EntryR
       same : r ≡ ok value (entry_at d z.start (tile + 1))
 
     own : Own (entry z.start m (entry_at d z.start tile))
-    own = go (entry z.start m (entry_at d z.start tile)) refl (ap entry_res (sym h) ∙ q)
+    own = go (entry z.start m (entry_at d z.start tile)) refl q
       where
         go : (r : Res Entry) → entry z.start m (entry_at d z.start tile) ≡ r → answer v ≡ held_res r → Own r
         go (ok a x) f e =
@@ -112,27 +96,27 @@ module _ (d : Bool) (z : Interval) (tile tiles : ℕ) (m : List ℕ) (g : EntryR
     unfolding located_entry
     there = ap (λ r. map_res place_of (answered (and_then r on_entry))) own.same
 
-    pub no-next : (x y : Refusal) → k ≡ number.Refused x → y ≡ number_refusal k → refused y ≡ place_there d z tile tiles m
-    no-next x y e u = ap refused (u ∙ ap number_refusal e) ∙ go (next_offset z (eqb (tile + 1) tiles) m (entry_at d z.start (tile + 1))) (ap number_res (sym e) ∙ w) ∙ sym there
+    pub no-next : (x : Refusal) → refused x ≡ next_after d z tile tiles m → refused x ≡ place_there d z tile tiles m
+    no-next x w = go (next_offset z (eqb (tile + 1) tiles) m (entry_at d z.start (tile + 1))) w ∙ sym there
       where
         go : (r : Res ℕ) → refused x ≡ answered r
             → refused x ≡ map_res place_of (answered (and_then r (λ n j. cond (leb z.min z.max) (ok (record { interval = z; entry = own.value; empty = eqb own.value.offset n }) j) (no 13 []))))
         go (ok n j) f = no_ok f
         go (no n u) f = cc
 
-    module _ (n x : ℕ) (e : k ≡ number.Value n x) where
+    module _ (n : ℕ) (w : answer n ≡ next_after d z tile tiles m) where
       -- the rest, by the order of the zoom levels
       abbrev rest : Bool → Res FoundTile
       rest c = cond c (answer (place_of (record { interval = z; entry = own.value; empty = eqb own.value.offset n }))) (no 13 [])
 
       known : place_there d z tile tiles m ≡ rest (leb z.min z.max)
-      known = there ∙ go (next_offset z (eqb (tile + 1) tiles) m (entry_at d z.start (tile + 1))) (ap number_res (sym e) ∙ w)
+      known = there ∙ go (next_offset z (eqb (tile + 1) tiles) m (entry_at d z.start (tile + 1))) w
         where
           by_order : (c : Bool) (a j : ℕ) → n ≡ a → map_res place_of (answered (cond c (ok (record { interval = z; entry = own.value; empty = eqb own.value.offset a }) j) (no 13 []))) ≡ rest c
           by_order true a j f = rw f
           by_order false a j f = refl
 
-          go : (r : Res ℕ) → ok n x ≡ answered r
+          go : (r : Res ℕ) → answer n ≡ answered r
               → map_res place_of (answered (and_then r (λ n j. cond (leb z.min z.max) (ok (record { interval = z; entry = own.value; empty = eqb own.value.offset n }) j) (no 13 [])))) ≡ rest (leb z.min z.max)
           go (ok a j) f = by_order (leb z.min z.max) a j (ok-val f)
           go (no a u) f = no_ok (sym f)
@@ -145,34 +129,34 @@ module _ (d : Bool) (z : Interval) (tile tiles : ℕ) (m : List ℕ) (g : EntryR
       found empty at l f p = made z own.value v n at empty own.held f p ∙ sym (known ∙ ap rest (le-leb z.min z.max l))
 
 -- grid and tile first
-module _ (d : Bool) (z : Interval) (grid : Grid) (tile : ℕ) (m : List ℕ) (g : GridRead) (q : grid_res g ≡ grid_tiles grid) where
+module _ (d : Bool) (z : Interval) (grid : Grid) (tile : ℕ) (m : List ℕ) where
   abbrev in_grid : Res ℕ → Res FoundTile
   in_grid r = map_res place_of (answered (and_then r (λ n _. cond (ltb tile n) (located_entry z (eqb (tile + 1) n) m (entry_at d z.start tile)) (no 8 []))))
 
-  by-grid : (g' : GridRead) → g ≡ g' → map_res place_of (locate_in d z grid tile m) ≡ in_grid (grid_res g')
+  by-grid : (r : Res ℕ) → r ≡ grid_tiles grid → map_res place_of (locate_in d z grid tile m) ≡ in_grid r
   unfolding locate_in located
-  by-grid g' h = ap in_grid (sym q ∙ ap grid_res h)
+  by-grid r q = ap in_grid (sym q)
 
-  pub no-grid : (x y : Refusal) → g ≡ grid-read.Refused x → y ≡ grid_refusal g → refused y ≡ map_res place_of (locate_in d z grid tile m)
-  no-grid x y h w = ap refused (w ∙ ap grid_refusal h) ∙ sym (by-grid (grid-read.Refused x) h)
+  pub no-grid : (x : Refusal) → refused x ≡ grid_tiles grid → refused x ≡ map_res place_of (locate_in d z grid tile m)
+  no-grid x q = sym (by-grid (refused x) q)
 
-  module _ (n : ℕ) (h : g ≡ grid-read.Tiles n) where
+  module _ (n : ℕ) (q : answer n ≡ grid_tiles grid) where
     pub no_tile : n ≤ tile → no 8 [] ≡ map_res place_of (locate_in d z grid tile m)
-    no_tile l = sym (by-grid (grid-read.Tiles n) h ∙ rw (le-ltb tile n l))
+    no_tile l = sym (by-grid (answer n) q ∙ rw (le-ltb tile n l))
 
     pub in-tile : (x : Res FoundTile) → tile < n → x ≡ place_there d z tile n m → x ≡ map_res place_of (locate_in d z grid tile m)
-    in-tile x l e = e ∙ sym (by-grid (grid-read.Tiles n) h ∙ rw (lt-ltb tile n l))
+    in-tile x l e = e ∙ sym (by-grid (answer n) q ∙ rw (lt-ltb tile n l))
 
 pub ruleset places = index.reads
 
 -- a place that was found, in a definition that goes on from it
 module _ {B : Type 0} where
-  pub place_ok : (g : PlaceRead) (v : FoundTile) (r : Res Located) (f : Located → Res B) (x : Res B) → place_res g ≡ map_res place_of r → g ≡ place.At v → ((a : Located) → v ≡ place_of a → x ≡ f a) → x ≡ and_then r (λ a _. f a)
-  place_ok g v (ok a n) f x q h p = p a (ok-val (ap place_res (sym h) ∙ q))
-  place_ok g v (no n w) f x q h p = no_ok (sym (ap place_res (sym h) ∙ q))
+  pub place-on : (v : FoundTile) (r : Res Located) (f : Located → Res B) (x : Res B) → answer v ≡ map_res place_of r → ((a : Located) → v ≡ place_of a → x ≡ f a) → x ≡ and_then r (λ a _. f a)
+  place-on v (ok a n) f x q p = p a (ok-val q)
+  place-on v (no n w) f x q p = no_ok (sym q)
 
-  pub place-no : (g : PlaceRead) (e' e : Refusal) (r : Res Located) (f : Located → ℕ → Res B) → place_res g ≡ map_res place_of r → g ≡ place.Refused e → e' ≡ place_refusal g → refused e' ≡ and_then r f
-  place-no g e' e r f q h p = ap refused (p ∙ ap place_refusal h) ∙ view-stop place_of r f (sym q ∙ ap place_res h)
+  pub place-refused : (e : Refusal) (r : Res Located) (f : Located → ℕ → Res B) → refused e ≡ map_res place_of r → refused e ≡ and_then r f
+  place-refused e r f q = view-stop place_of r f (sym q)
 
 -- a tile that was located: it is in its grid, its entry was read, and its interval is not reversed
 pub record Found (grid : Grid) (tile : ℕ) (z : Interval) (m : List ℕ) (i : ℕ) (l : Located) : Type 0 where

@@ -1,15 +1,10 @@
 -- A tile's place as the code holds it (document 01, "Order for a tile").
 use Rattle.std.specs.Prelude.{ℕ, ◌+◌, Bool, cond, List, eqb}
 use Rattle.parsing.specs.Parse.{Res, map_res}
-use Rattle.error.specs.Refusals.{refused}
-use Rattle.error.specs.declared.Refusal.{Refusal}
-use Rattle.error.specs.declared.Refusal.TheVariants.{Source}
 use Rattle.arithmetic.specs.Cut.{cut}
 use Rattle.format.specs.Header.{Interval}
-use Rattle.format.specs.Index.{answer, answered, entry_at, next_offset, Located, located_entry}
+use Rattle.format.specs.Index.{answered, entry_at, next_offset, Located, located_entry}
 use Rattle.tile_place.specs.declared.FoundTile.{FoundTile}
-use Rattle.tile_place.specs.declared.PlaceRead.{PlaceRead}
-use Rattle.tile_place.specs.declared.PlaceRead.TheVariants as place
 
 abbrev pub place_of : Located → FoundTile
 place_of l = record {
@@ -19,14 +14,6 @@ place_of l = record {
   is_water = l.entry.water;
   empty = l.empty;
 }
-
-abbrev pub place_res : PlaceRead → Res FoundTile
-place_res (place.At p) = answer p
-place_res (place.Refused r) = refused r
-
-abbrev pub place_refusal : PlaceRead → Refusal
-place_refusal (place.At p) = Source
-place_refusal (place.Refused r) = r
 
 -- What private functions find, which need not be believed: the next tile's offset, and the place of a tile that is there
 abbrev pub next_after : (debug : Bool) → Interval → (tile tiles : ℕ) → List ℕ → Res ℕ

@@ -1,33 +1,10 @@
 -- The walk over a tile's points and ways: whether every stored size is the decoded length (document 01, "The stream and the collected
 -- tile"), and whether every number was plain (request 6 of document 02).
 use Rattle.std.specs.Prelude.{ℕ, List, Bool}
-use Rattle.parsing.specs.Parse.{Res, ok, map_res, many}
-use Rattle.error.specs.Refusals.{refused}
-use Rattle.error.specs.declared.Refusal.{Refusal}
-use Rattle.error.specs.declared.Refusal.TheVariants.{Source}
+use Rattle.parsing.specs.Parse.{Res, map_res, many}
 use Rattle.agreement.specs.Collected.{Way, way, exact, all_exact, plain_way, plain_points, plain_ways}
 use Rattle.tile_layout.specs.TileLayout.{TileKinds, format_of}
-use Rattle.tile_walk.specs.declared.PointsRead.{PointsRead}
-use Rattle.tile_walk.specs.declared.PointsRead.TheVariants as points
 use Rattle.tile_walk.specs.declared.WaysSaid.{WaysSaid}
-use Rattle.tile_walk.specs.declared.WaysRead.{WaysRead}
-use Rattle.tile_walk.specs.declared.WaysRead.TheVariants as ways
-
-abbrev pub points_res : PointsRead → Res Bool
-points_res (points.Value b n) = ok b n
-points_res (points.Refused r) = refused r
-
-abbrev pub points_refusal : PointsRead → Refusal
-points_refusal (points.Value b n) = Source
-points_refusal (points.Refused r) = r
-
-abbrev pub ways_res : WaysRead → Res WaysSaid
-ways_res (ways.Value s n) = ok s n
-ways_res (ways.Refused r) = refused r
-
-abbrev pub ways_refusal : WaysRead → Refusal
-ways_refusal (ways.Value s n) = Source
-ways_refusal (ways.Refused r) = r
 
 -- whether every number of n points was plain
 abbrev pub plain_of : TileKinds → List ℕ → (n at : ℕ) → Res Bool

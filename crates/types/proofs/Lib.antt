@@ -1,4 +1,3 @@
 pub mod TypeLaws
-pub mod BesideLaws
 pub mod FillLaws
 pub mod NotedLaws

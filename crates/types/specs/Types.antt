@@ -1,9 +1,6 @@
 -- The records that are handed out, from what is stored (document 01, types.rs).
-use Rattle.std.specs.Prelude.{ℕ, ℤ, List, map as mapped, take}
-use Rattle.parsing.specs.Parse.{Res, ok, Part, Maybe, none, some}
-use Rattle.error.specs.Refusals.{refused}
-use Rattle.error.specs.declared.Refusal.{Refusal}
-use Rattle.error.specs.declared.Refusal.TheVariants.{Source}
+use Rattle.std.specs.Prelude.{ℕ, ℤ, List, map as mapped, take, Option, Some, None}
+use Rattle.parsing.specs.Parse.{Part, Maybe, none, some}
 use Rattle.byte_source.specs.declared.Span.{Span}
 use Rattle.byte_source.specs.Answers.{part_in}
 use Rattle.utils.specs.Degree.{degrees}
@@ -14,14 +11,6 @@ use Rattle.types.specs.declared.Position.{Position}
 use Rattle.types.specs.declared.ZoomInterval.{ZoomInterval}
 use Rattle.types.specs.declared.MapHeader.{MapHeader}
 use Rattle.types.specs.declared.Grid.{Grid}
-use Rattle.types.specs.declared.OptionalPosition.{OptionalPosition}
-use Rattle.types.specs.declared.OptionalPosition.TheVariants as position
-use Rattle.types.specs.declared.OptionalSpan.{OptionalSpan}
-use Rattle.types.specs.declared.OptionalSpan.TheVariants as span
-use Rattle.types.specs.declared.OptionalByte.{OptionalByte}
-use Rattle.types.specs.declared.OptionalByte.TheVariants as byte
-use Rattle.types.specs.declared.End.{End}
-use Rattle.types.specs.declared.End.TheVariants as end
 
 -- a zoom interval that the code holds
 abbrev pub interval_of : ZoomInterval → Interval
@@ -47,32 +36,23 @@ abbrev pub node_position : Node → Position
 node_position n = position_of n.latitude n.longitude
 
 -- a position is either absent or given as degrees
-abbrev pub optional_position : Maybe Node → OptionalPosition
-optional_position none = position.Absent
-optional_position (some n) = position.At (node_position n)
+abbrev pub optional_position : Maybe Node → Option Position
+optional_position none = None
+optional_position (some n) = Some (node_position n)
 
 -- where a part of the map is
 abbrev pub span_of : Part → Span
 span_of p = record { start = p.start; size = p.size }
 
-abbrev pub optional_span : Maybe Part → OptionalSpan
-optional_span none = span.Absent
-optional_span (some p) = span.At (span_of p)
+abbrev pub optional_span : Maybe Part → Option Span
+optional_span none = None
+optional_span (some p) = Some (span_of p)
 
 -- and back: the part of the map m that it is
-abbrev pub maybe_part : List ℕ → OptionalSpan → Maybe Part
-maybe_part m span.Absent = none
-maybe_part m (span.At s) = some (part_in m s)
+abbrev pub maybe_part : List ℕ → Option Span → Maybe Part
+maybe_part m None = none
+maybe_part m (Some s) = some (part_in m s)
 
-abbrev pub optional_byte : Maybe ℕ → OptionalByte
-optional_byte none = byte.Absent
-optional_byte (some b) = byte.At b
-
--- a value that stands beside the place where its read ended
-abbrev pub end_res : {A : Type 0} → A → End → Res A
-end_res a (end.At n) = ok a n
-end_res a (end.Refused r) = refused r
-
-abbrev pub end_refusal : End → Refusal
-end_refusal (end.At n) = Source
-end_refusal (end.Refused r) = r
+abbrev pub optional_byte : Maybe ℕ → Option ℕ
+optional_byte none = None
+optional_byte (some b) = Some b

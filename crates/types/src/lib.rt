@@ -1,11 +1,10 @@
-// types.rs: the records that are handed out, and what stands for a value that may be absent.
+// types.rs: the records that are handed out.
 #![tactic(auto)]
 
-ghost use Rattle.std.specs.Prelude.{◌≡◌, ◌&&◌};
-ghost use Rattle.types.specs.Types.{end_refusal, position_of};
+ghost use Rattle.std.specs.Prelude.{◌≡◌};
+ghost use Rattle.types.specs.Types.{position_of};
 
 use byte_source::Span;
-use error::Refusal;
 use utils::Microdegrees;
 
 // In degrees.
@@ -13,24 +12,6 @@ use utils::Microdegrees;
 pub struct Position {
     pub latitude: f64,
     pub longitude: f64,
-}
-
-#[derive(Clone, Copy)]
-pub enum OptionalPosition {
-    Absent,
-    At(Position),
-}
-
-#[derive(Clone, Copy)]
-pub enum OptionalSpan {
-    Absent,
-    At(Span),
-}
-
-#[derive(Clone, Copy)]
-pub enum OptionalByte {
-    Absent,
-    At(u8),
 }
 
 #[derive(Clone, Copy)]
@@ -78,10 +59,10 @@ pub struct HeaderFields {
     pub creation_date: u64,
     pub bounding_box: BoundingBox,
     pub projection: Span,
-    pub map_start_position: OptionalPosition,
-    pub language_preference: OptionalSpan,
-    pub comment: OptionalSpan,
-    pub created_by: OptionalSpan,
+    pub map_start_position: Option<Position>,
+    pub language_preference: Option<Span>,
+    pub comment: Option<Span>,
+    pub created_by: Option<Span>,
     pub poi_tags: TagTable,
     pub way_tags: TagTable,
     pub header_size: u32,
@@ -89,7 +70,7 @@ pub struct HeaderFields {
     pub tile_size: u16,
     pub flags: u8,
     pub num_zoom_intervals: u8,
-    pub start_zoom_level: OptionalByte,
+    pub start_zoom_level: Option<u8>,
 }
 
 // The file header. Texts are parts of the map; the intervals are filled from the front.
@@ -101,15 +82,15 @@ pub struct MapHeader {
     pub tile_size: u16,
     pub flags: u8,
     pub num_zoom_intervals: u8,
-    pub start_zoom_level: OptionalByte,
+    pub start_zoom_level: Option<u8>,
     pub file_size: u64,
     pub creation_date: u64,
     pub bounding_box: BoundingBox,
     pub projection: Span,
-    pub map_start_position: OptionalPosition,
-    pub language_preference: OptionalSpan,
-    pub comment: OptionalSpan,
-    pub created_by: OptionalSpan,
+    pub map_start_position: Option<Position>,
+    pub language_preference: Option<Span>,
+    pub comment: Option<Span>,
+    pub created_by: Option<Span>,
     pub poi_tags: TagTable,
     pub way_tags: TagTable,
     pub zoom_interval_configuration: [ZoomInterval; 255],
@@ -124,22 +105,6 @@ pub struct Grid {
     pub y_max: i32,
 }
 
-// Where a read ended, where its value stands beside the answer.
-#[derive(Clone, Copy)]
-pub enum End {
-    At(usize),
-    Refused(Refusal),
-}
-
-pub fn end_refusal(got: End) -> Refusal
-    ensures { result ≡ end_refusal got }
-{
-    match got {
-        End::Refused(r) => r,
-        End::At(_) => Refusal::Source,
-    }
-}
-
 // The position of two stored coordinates.
 pub fn position_of(latitude: Microdegrees, longitude: Microdegrees) -> Position
     ensures { result ≡ position_of latitude.0 longitude.0 }
@@ -150,14 +115,4 @@ pub fn position_of(latitude: Microdegrees, longitude: Microdegrees) -> Position
         latitude: y.0,
         longitude: x.0,
     }
-}
-
-// Whether both hold: of what is read in two parts, whether all its numbers were plain.
-pub fn both(a: bool, b: bool) -> bool
-    ensures { result ≡ (a && b) }
-{
-    if a {
-        return b;
-    }
-    false
 }

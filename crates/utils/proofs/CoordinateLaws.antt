@@ -1,5 +1,5 @@
 -- A coordinate that was read is exact as a float.
-use Rattle.std.proofs.Common.{◌^◌, ◌≤◌, leb, [], ℤ, nat_abs, leb-true}
+use Rattle.std.proofs.Common.{◌^◌, ◌≤◌, leb, [], nat_abs, leb-true}
 use Rattle.parsing.specs.Good.{Post, bind-post, return_post, fail-post, pick_post}
 use Rattle.utils.specs.Vbe.{noted_signed, noted_coordinate}
 

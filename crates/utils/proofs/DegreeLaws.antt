@@ -1,5 +1,5 @@
 -- Numbers of magnitude at most 2 ^ 53 as floats.
-use Rattle.std.proofs.Common.{◌≡◌, ℕ, zero, suc, ◌^◌, ◌≤◌, Bool, true, false, cond, T, leb, ℤ, pos, negsuc, nat_abs, refl, ap, arith, le→leb, lt→ltb, w64, SFits, ltb-false, ltb-true, le-leb, leb-true}
+use Rattle.std.proofs.Common.{◌≡◌, ℕ, suc, ◌^◌, ◌≤◌, Bool, true, false, cond, T, leb, ℤ, pos, negsuc, nat_abs, refl, ap, arith, le→leb, lt→ltb, w64, SFits, ltb-false, ltb-true, le-leb, leb-true}
 use lib.Signed.{lt_z}
 use borrow.Author.Tests.{lt-leb}
 use lib.Ieee.{binary64, in_float, of_bits, of_int}

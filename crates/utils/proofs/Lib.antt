@@ -1,5 +1,5 @@
 pub mod VbeLaws
 pub mod SignedLaws
 pub mod DegreeLaws
-pub mod NumberLaws
 pub mod CoordinateLaws
+pub mod NumberLaws

@@ -4,8 +4,7 @@ use native.Mathlib.Nat.{pow-succ', one-le-pow}
 use lib.Signed.{mag}
 use borrow.Author.Tests.{eqb-false}
 use Rattle.parsing.specs.Parse.{Res, ok, no, and_then, map_res, byte, Part, part}
-use Rattle.parsing.specs.Good.{Post, split, ok-val, bind-post, then-post, return_post, fail-post, pick_post}
-use Rattle.parsing.proofs.Steps.{byte-here, byte_past}
+use Rattle.parsing.specs.Good.{Post, bind-post, then-post, return_post, fail-post, pick_post}
 use Rattle.utils.specs.Vbe.{Groups, groups, below, last_group, Noted, noted, plain_unsigned, plain_signed, noted_unsigned, noted_signed, noted_text, unsigned, text, signed_of}
 
 -- v below the weight of the next group, and left groups to come

@@ -1,8 +1,8 @@
 -- Document 01, utils.rs; format document, "Technical Notes": numbers of variable length are groups of 7 bits, lowest first, with
 -- the top bit set on all but the last byte, at most 9 bytes. A text is a length, at most 2 ^ 20, then its bytes.
 use Rattle.std.specs.Prelude.{ℕ, zero, suc, ◌+◌, ◌*◌, ◌/◌, ◌%◌, ◌^◌, Bool, true, cond, ◌&&◌, List, [], ◌∷◌, ℤ, pos, neg_ℤ, ◌==◌, nat_le, nat_lt, unsigned_abs}
-use Rattle.parsing.specs.Parse.{Res, ok, no, Parser, ◌>>=◌, return, fail, pick, byte, Part, part}
-use Rattle.parsing.specs.Good.{Good, Strict, bind-good, pick_good, return-good, strict-left}
+use Rattle.parsing.specs.Parse.{Parser, ◌>>=◌, return, fail, pick, byte, Part, part}
+use Rattle.parsing.specs.Good.{Good, Strict}
 use Rattle.parsing.proofs.GoodLaws.{goods, stricts, byte-good, byte-strict}
 
 -- the data, the sign, and the weight of the last byte's data: 128 for each byte before it

@@ -5,38 +5,19 @@ ghost use Rattle.std.specs.Prelude.{◌≡◌, ◌+◌, ◌-◌, ◌^◌, ◌<�
 ghost use Rattle.std.specs.Float.Ieee as Ieee;
 ghost use Rattle.parsing.specs.Parse.{map_res, part};
 ghost use Rattle.std.specs.Float.{binary64};
-ghost use Rattle.byte_source.specs.Answers.{number_res, span_res};
+ghost use Rattle.byte_source.specs.Answers.{read_by, read_res, part_in};
 ghost use Rattle.utils.specs.Vbe.{noted, groups, unsigned, noted_unsigned, plain_unsigned, noted_signed, plain_signed, signed_of, noted_coordinate, noted_text, text};
 ghost use Rattle.utils.specs.Degree.{degrees};
-ghost use Rattle.utils.specs.Answers.{groups_res, vbe_res, vbe_refusal, signed_res, signed_refusal, micro_res, micro_refusal, text_res, text_refusal};
+ghost use Rattle.utils.specs.Answers.{groups_held, noted_held, noted_by, microdegrees, noted_part};
 
-use byte_source::{NumberRead, Span, SpanRead};
+use byte_source::{Read, Span};
 use error::Refusal;
 
-// A number, and whether its encoding was plain.
+// What was read, and whether every number of it was plain.
 #[derive(Clone, Copy)]
-pub struct Number {
-    pub value: u64,
+pub struct Noted<T> {
+    pub value: T,
     pub plain: bool,
-}
-
-#[derive(Clone, Copy)]
-pub enum VbeRead {
-    Value(Number, usize),
-    Refused(Refusal),
-}
-
-// A number with a sign, and whether its encoding was plain.
-#[derive(Clone, Copy)]
-pub struct Signed {
-    pub value: i64,
-    pub plain: bool,
-}
-
-#[derive(Clone, Copy)]
-pub enum SignedRead {
-    Value(Signed, usize),
-    Refused(Refusal),
 }
 
 // Microdegrees, as stored.
@@ -47,73 +28,12 @@ pub struct Microdegrees(pub i64);
 #[derive(Clone, Copy)]
 pub struct Degrees(pub f64);
 
-// A coordinate as stored, and whether its encoding was plain.
+// The data of a number's bytes, its sign, and the last byte's weight.
 #[derive(Clone, Copy)]
-pub struct Coordinate {
-    pub value: Microdegrees,
-    pub plain: bool,
-}
-
-#[derive(Clone, Copy)]
-pub enum MicroRead {
-    Value(Coordinate, usize),
-    Refused(Refusal),
-}
-
-// A text as a part of the map, and whether the encoding of its length was plain.
-#[derive(Clone, Copy)]
-pub struct Text {
-    pub span: Span,
-    pub plain: bool,
-}
-
-#[derive(Clone, Copy)]
-pub enum TextRead {
-    Value(Text, usize),
-    Refused(Refusal),
-}
-
-// The data of a number's bytes, its sign, the last byte's weight, and the place behind it.
-#[derive(Clone, Copy)]
-enum GroupsRead {
-    Value(u64, u64, u64, usize),
-    Refused(Refusal),
-}
-
-pub fn vbe_refusal(got: VbeRead) -> Refusal
-    ensures { result ≡ vbe_refusal got }
-{
-    match got {
-        VbeRead::Refused(r) => r,
-        VbeRead::Value(_, _) => Refusal::Source,
-    }
-}
-
-pub fn signed_refusal(got: SignedRead) -> Refusal
-    ensures { result ≡ signed_refusal got }
-{
-    match got {
-        SignedRead::Refused(r) => r,
-        SignedRead::Value(_, _) => Refusal::Source,
-    }
-}
-
-pub fn micro_refusal(got: MicroRead) -> Refusal
-    ensures { result ≡ micro_refusal got }
-{
-    match got {
-        MicroRead::Refused(r) => r,
-        MicroRead::Value(_, _) => Refusal::Source,
-    }
-}
-
-pub fn text_refusal(got: TextRead) -> Refusal
-    ensures { result ≡ text_refusal got }
-{
-    match got {
-        TextRead::Refused(r) => r,
-        TextRead::Value(_, _) => Refusal::Source,
-    }
+struct Groups {
+    magnitude: u64,
+    sign: u64,
+    weight: u64,
 }
 
 fn wide(x: u8) -> u64
@@ -123,87 +43,74 @@ fn wide(x: u8) -> u64
 }
 
 // The last byte's data is its remainder by `last`.
-fn read_groups(map: &[u8], at: usize, last: u64) -> GroupsRead
+fn read_groups(map: &[u8], at: usize, last: u64) -> Read<Groups>
     requires { (0 < last) × (last ≤ 128) }
-    ensures { groups_res result ≡ groups last 9 map.now at }
+    ensures { read_by groups_held result ≡ groups last 9 map.now at }
 {
+    if map.len() <= at {
+        return Err(Refusal::Source);
+    }
     let mut v: u64 = 0;
     let mut w: u64 = 1;
-    let mut next = at;
-    let mut left: u64 = 9;
-    while 0 < left {
-        if map.len() <= next {
-            return GroupsRead::Refused(Refusal::Source);
+    for i in 0..9 {
+        if map.len() <= at + i {
+            return Err(Refusal::Source);
         }
-        let b = wide(map[next]);
+        let b = wide(map[at + i]);
         if b < 128 {
-            return GroupsRead::Value(v + w * (b % last), b / last, w, next + 1);
+            let groups = Groups {
+                magnitude: v + w * (b % last),
+                sign: b / last,
+                weight: w,
+            };
+            return Ok((groups, at + i + 1));
         }
         v += w * (b % 128);
         w *= 128;
-        next += 1;
-        left -= 1;
     }
-    GroupsRead::Refused(Refusal::NumberTooLong)
+    Err(Refusal::NumberTooLong)
 }
 
 fn plain_unsigned(v: u64, w: u64) -> bool
     ensures { result ≡ plain_unsigned v w }
 {
-    if w == 1 {
-        return true;
-    }
-    w <= v
+    w == 1 || w <= v
 }
 
 // A number of more bytes than one.
-fn long_unsigned(map: &[u8], at: usize) -> VbeRead
-    ensures { vbe_res result ≡ noted_unsigned map.now at }
+fn long_unsigned(map: &[u8], at: usize) -> Read<Noted<u64>>
+    ensures { read_by noted_held result ≡ noted_unsigned map.now at }
 {
-    let got = read_groups(map, at, 128);
-    match got {
-        GroupsRead::Value(v, _, w, n) => {
-            VbeRead::Value(
-                Number {
-                    value: v,
-                    plain: plain_unsigned(v, w),
-                },
-                n,
-            )
-        }
-        GroupsRead::Refused(r) => VbeRead::Refused(r),
-    }
+    let (groups, next) = read_groups(map, at, 128)?;
+    let value = groups.magnitude;
+    let plain = plain_unsigned(value, groups.weight);
+    Ok((Noted { value, plain }, next))
 }
 
 // Groups of 7 bits, lowest first. Most numbers have one byte.
-pub fn read_vbe_u_int(map: &[u8], at: usize) -> VbeRead
-    ensures { vbe_res result ≡ noted_unsigned map.now at }
+pub fn read_vbe_u_int(map: &[u8], at: usize) -> Read<Noted<u64>>
+    ensures { read_by noted_held result ≡ noted_unsigned map.now at }
 {
     if map.len() <= at {
-        return VbeRead::Refused(Refusal::Source);
+        return Err(Refusal::Source);
     }
     let b = wide(map[at]);
     if b < 128 {
-        return VbeRead::Value(
-            Number {
-                value: b,
-                plain: true,
-            },
-            at + 1,
-        );
+        let number = Noted {
+            value: b,
+            plain: true,
+        };
+        return Ok((number, at + 1));
     }
     long_unsigned(map, at)
 }
 
 // The value alone.
-pub fn read_number(map: &[u8], at: usize) -> NumberRead
-    ensures { number_res result ≡ unsigned map.now at }
+pub fn read_number(map: &[u8], at: usize) -> Read<u64>
+    ensures { read_res result ≡ unsigned map.now at }
 {
-    let got = read_vbe_u_int(map, at);
-    match got {
-        VbeRead::Value(v, n) => NumberRead::Value(v.value, n),
-        VbeRead::Refused(r) => NumberRead::Refused(r),
-    }
+    let (number, next) = read_vbe_u_int(map, at)?;
+    Ok((number.value, next))
 }
 
 // The number of this magnitude, negative unless `sign` is 0.
@@ -232,65 +139,51 @@ fn plain_signed(v: u64, sign: u64, w: u64) -> bool
     w <= 2 * v
 }
 
-fn long_signed(map: &[u8], at: usize) -> SignedRead
-    ensures { signed_res result ≡ noted_signed map.now at }
+fn long_signed(map: &[u8], at: usize) -> Read<Noted<i64>>
+    ensures { read_by noted_held result ≡ noted_signed map.now at }
 {
-    let got = read_groups(map, at, 64);
-    match got {
-        GroupsRead::Value(v, s, w, n) => {
-            SignedRead::Value(
-                Signed {
-                    value: signed_of(v, s),
-                    plain: plain_signed(v, s, w),
-                },
-                n,
-            )
-        }
-        GroupsRead::Refused(r) => SignedRead::Refused(r),
-    }
+    let (groups, next) = read_groups(map, at, 64)?;
+    let number = Noted {
+        value: signed_of(groups.magnitude, groups.sign),
+        plain: plain_signed(groups.magnitude, groups.sign, groups.weight),
+    };
+    Ok((number, next))
 }
 
 // The same with a sign: the last byte's 40 is the sign, its 3F the data.
-pub fn read_vbe_s_int(map: &[u8], at: usize) -> SignedRead
-    ensures { signed_res result ≡ noted_signed map.now at }
+pub fn read_vbe_s_int(map: &[u8], at: usize) -> Read<Noted<i64>>
+    ensures { read_by noted_held result ≡ noted_signed map.now at }
 {
     if map.len() <= at {
-        return SignedRead::Refused(Refusal::Source);
+        return Err(Refusal::Source);
     }
     let b = wide(map[at]);
     if b < 128 {
-        return SignedRead::Value(
-            Signed {
-                value: signed_of(b % 64, b / 64),
-                plain: plain_signed(b % 64, b / 64, 1),
-            },
-            at + 1,
-        );
+        let number = Noted {
+            value: signed_of(b % 64, b / 64),
+            plain: plain_signed(b % 64, b / 64, 1),
+        };
+        return Ok((number, at + 1));
     }
     long_signed(map, at)
 }
 
 // A coordinate as stored. Above 2^53 a float would not hold it.
-pub fn read_microdegrees(map: &[u8], at: usize) -> MicroRead
-    ensures { micro_res result ≡ noted_coordinate map.now at }
+pub fn read_microdegrees(map: &[u8], at: usize) -> Read<Noted<Microdegrees>>
+    ensures { read_by (noted_by microdegrees) result ≡ noted_coordinate map.now at }
 {
-    let got = read_vbe_s_int(map, at);
-    let SignedRead::Value(v, next) = got else {
-        return MicroRead::Refused(signed_refusal(got));
-    };
+    let (v, next) = read_vbe_s_int(map, at)?;
     if v.value < -9007199254740992 {
-        return MicroRead::Refused(Refusal::CoordinateTooLarge);
+        return Err(Refusal::CoordinateTooLarge);
     }
     if 9007199254740992 < v.value {
-        return MicroRead::Refused(Refusal::CoordinateTooLarge);
+        return Err(Refusal::CoordinateTooLarge);
     }
-    MicroRead::Value(
-        Coordinate {
-            value: Microdegrees(v.value),
-            plain: v.plain,
-        },
-        next,
-    )
+    let coordinate = Noted {
+        value: Microdegrees(v.value),
+        plain: v.plain,
+    };
+    Ok((coordinate, next))
 }
 
 // The one conversion between the two units: one division.
@@ -314,40 +207,31 @@ fn nearest(v: i64) -> f64
 }
 
 // n bytes as a part of the map, with what is said of the length before them.
-pub fn read_part(map: &[u8], at: usize, n: usize, plain: bool) -> TextRead
-    ensures { text_res map.now result ≡ map_res (λ b. noted b plain) (part n map.now at) }
+pub fn read_part(map: &[u8], at: usize, n: usize, plain: bool) -> Read<Noted<Span>>
+    ensures { read_by (noted_part map.now) result ≡ map_res (λ b. noted b plain) (part n map.now at) }
 {
-    let got = byte_source::read_bytes(map, at, n);
-    match got {
-        SpanRead::Value(span, next) => TextRead::Value(Text { span, plain }, next),
-        SpanRead::Refused(r) => TextRead::Refused(r),
-    }
+    let (value, next) = byte_source::read_bytes(map, at, n)?;
+    Ok((Noted { value, plain }, next))
 }
 
 // A text: a length, at most 2^20, then its bytes, as a part of the map.
-pub fn read_text(map: &[u8], at: usize) -> TextRead
-    ensures { text_res map.now result ≡ noted_text map.now at }
+pub fn read_text(map: &[u8], at: usize) -> Read<Noted<Span>>
+    ensures { read_by (noted_part map.now) result ≡ noted_text map.now at }
 {
-    let got = read_vbe_u_int(map, at);
-    let VbeRead::Value(n, start) = got else {
-        return TextRead::Refused(vbe_refusal(got));
-    };
+    let (n, start) = read_vbe_u_int(map, at)?;
     if 1048576 < n.value {
-        return TextRead::Refused(Refusal::TextTooLong);
+        return Err(Refusal::TextTooLong);
     }
     read_part(map, start, n.value as usize, n.plain)
 }
 
 // The text alone, by its length's value: what a walk over many texts reads.
-pub fn read_vbe_u(map: &[u8], at: usize) -> SpanRead
-    ensures { span_res map.now result ≡ text map.now at }
+pub fn read_vbe_u(map: &[u8], at: usize) -> Read<Span>
+    ensures { read_by (part_in map.now) result ≡ text map.now at }
 {
-    let got = read_number(map, at);
-    let NumberRead::Value(n, start) = got else {
-        return SpanRead::Refused(byte_source::number_refusal(got));
-    };
+    let (n, start) = read_number(map, at)?;
     if 1048576 < n {
-        return SpanRead::Refused(Refusal::TextTooLong);
+        return Err(Refusal::TextTooLong);
     }
     byte_source::read_bytes(map, start, n as usize)
 }

@@ -2,46 +2,42 @@
 use Prim.Native.Nat.{ℕ}
 use mathlib.Core.Path.{◌≡◌, refl, sym, ap, ◌∙◌}
 use mathlib.Core.Bool.{Bool, true, false, ◌&&◌}
-use mathlib.Core.List.{List}
+use mathlib.Core.List.{List, []}
 use lib.Ieee.{Float}
 use borrow.Author.Rules.{rules}
 use Rattle.parsing.specs.Parse.{Res, ok, no, map_res}
 use Rattle.parsing.specs.Good.{ok-val, ok_at, no_ok}
 use Rattle.error.specs.Refusals.{lent_number, lent_values, lent_refused}
 use Rattle.error.specs.declared.LentRefusal.{LentRefusal}
-use Rattle.error.specs.declared.LentRefusal.TheVariants as lent-refusal
 use Rattle.error.specs.declared.Refusal.TheVariants.{OutOfTurn}
 use Rattle.format.specs.Lent.{LentLists, Reply, fits, deliver}
 use Rattle.format.specs.WayData.{way_data}
 use Rattle.format.specs.BodyLists.{body_lists}
 use Rattle.format.specs.Tile.{data_block_count, Body, body}
-use Rattle.types.specs.declared.OptionalSpan.{OptionalSpan}
 use Rattle.fields.specs.Fields.{streamed_span}
 use Rattle.fields.proofs.StreamLaws.{Gives, any, gives-bind, gives-return, streamed-view}
 use Rattle.way_fields.proofs.StreamLaws.{Texts, fields_within}
-use Rattle.way.specs.Way.{body_of, written_res, written_refusal, body_reply}
+use Rattle.way.specs.Way.{body_of}
 use Rattle.way.specs.declared.WayBody.{WayBody}
-use Rattle.way.specs.declared.WayBodyWritten.{WayBodyWritten}
-use Rattle.way.specs.declared.WayBodyWritten.TheVariants as body-written
 use Rattle.way_data.specs.Reply.{lent}
+use Rattle.byte_source.specs.declared.Span.{Span}
+use Rattle.byte_source.proofs.ReadLaws.{met}
+use Rattle.std.specs.Prelude.{Result, Ok, Err, Option}
+use Rattle.std.specs.Result.{IsErr, IsErrAnd}
 use Rattle.agreement.specs.Calls.{got_body, refused, Step, lending}
 use Rattle.agreement.specs.Stream.{idle, waits, on_body, on_accept, on_decline}
 use Rattle.agreement.proofs.Remaining.{lent_reply}
 use Rattle.agreement.specs.TileFormat as tile
-use Rattle.visit.specs.Visit.{end_of, TileState, turn_state, state_of, ShownAnswer, shown_body, shown_step, accept_step, streamed_body, decline_step}
+use Rattle.visit.specs.Visit.{end_of, TileState, state_of, ShownAnswer, shown_body, shown_step, Accepted, answered_of, accept_of, accept_step, streamed_body, decline_step}
 use Rattle.visit.specs.declared.TileEnd.{TileEnd}
 use Rattle.visit.specs.declared.Remaining.{Remaining}
 use Rattle.visit.specs.declared.WaitingWay.{WaitingWay}
 use Rattle.visit.specs.declared.Turn.TheVariants as turn
 use Rattle.visit.specs.declared.Stream.{Stream}
 use Rattle.visit.specs.declared.StreamedBody.{StreamedBody}
-use Rattle.visit.specs.declared.AcceptAnswer.TheVariants as accept-answer
-use Rattle.visit.specs.declared.Accepted.{Accepted}
-use Rattle.visit.specs.declared.DeclineAnswer.TheVariants as decline-answer
-use Rattle.visit.specs.declared.Declined.{Declined}
 
 -- a body's texts
-pub body-made : (m : List ℕ) (h : Bool) (b : WayBody) (s t u : OptionalSpan) (p : Bool) → s ≡ streamed_span m b.name → t ≡ streamed_span m b.house_number → u ≡ streamed_span m b.reference → p ≡ (h && b.plain) → ◌≡◌ {A = StreamedBody} (record { name = s; house_number = t; reference = u; label_position = b.label_position; blocks = b.blocks; nodes = b.nodes; plain = p }) (streamed_body m h b)
+pub body-made : (m : List ℕ) (h : Bool) (b : WayBody) (s t u : Option Span) (p : Bool) → s ≡ streamed_span m b.name → t ≡ streamed_span m b.house_number → u ≡ streamed_span m b.reference → p ≡ (h && b.plain) → ◌≡◌ {A = StreamedBody} (record { name = s; house_number = t; reference = u; label_position = b.label_position; blocks = b.blocks; nodes = b.nodes; plain = p }) (streamed_body m h b)
 body-made m h b s t u p i k q o = rw (i, k, q, o)
 
 -- what the code streams of a body that was read is what the machine's body shows
@@ -84,62 +80,75 @@ module _ (l : LentLists) where
       read_of true b n h = h
       read_of false b n h = no_ok h
 
-module _ (m : List ℕ) (s : Stream) (c₀ c : List ℕ) (la₀ lo₀ la lo : List Float) where
+-- the way that waits
+module _ (m : List ℕ) (w : WaitingWay) (e : TileEnd) (c₀ c : List ℕ) (la₀ lo₀ la lo : List Float) where
   abbrev before : LentLists
   before = lent c₀ la₀ lo₀
 
   abbrev after : LentLists
   after = lent c la lo
 
+  abbrev waiting : TileState
+  waiting = waits w.ways w.past w.body w.head_plain (end_of e)
+
   abbrev step : Step ShownAnswer (TileState)
-  step = shown_step (on_accept body body_lists tile.whole_body tile.note_body m (state_of s) before)
+  step = shown_step (on_accept body body_lists tile.whole_body tile.note_body m waiting before)
 
-  pub accept-idle : (q : Remaining) (r : Accepted) → s.turn ≡ turn.Idle q → r.answer ≡ accept-answer.Refused (lent-refusal.Refused OutOfTurn) → r.stream ≡ s → accept_step r c₀ la₀ lo₀ ≡ step
-  accept-idle q r e a t = rw (a, t, e)
+  abbrev read : Res Body
+  read = body m w.body
 
-  module _ (w : WaitingWay) (e : s.turn ≡ turn.Waits w) (g : WayBodyWritten) (q : body_reply g c la lo ≡ deliver body_of body_lists (body m w.body) (lent c₀ la₀ lo₀)) where
-    abbrev read : Res Body
-    read = body m w.body
+  -- the step, by the lists and the answer of what was delivered
+  abbrev step_of : LentLists → Res Body → Step ShownAnswer (TileState)
+  step_of l r = shown_step (on_body tile.whole_body tile.note_body w.ways w.past w.body w.head_plain (end_of e) l r)
 
-    -- the step, by the lists and the answer of what was delivered
-    abbrev step_of : LentLists → Res Body → Step ShownAnswer (TileState)
-    step_of l r = shown_step (on_body tile.whole_body tile.note_body w.ways w.past w.body w.head_plain (end_of s.end) l r)
-
-    step_is : step ≡ step_of (lent_body before read).lists (lent_body before read).answer
-    step_is = ap (λ t. shown_step (on_accept body body_lists tile.whole_body tile.note_body m (turn_state t (end_of s.end)) before)) e
-
+  -- what is known of the read, whose answer is g
+  module _ (g : Res WayBody) (q : ◌≡◌ {A = Reply (Res WayBody)} (record { answer = g; lists = after }) (deliver body_of body_lists (body m w.body) (lent c₀ la₀ lo₀))) where
     lists-are : after ≡ (lent_body before read).lists
     lists-are = ap (λ (a : Reply (Res WayBody)). a.lists) q ∙ (same before read).lists
 
-    answer-is : written_res g ≡ map_res body_of (lent_body before read).answer
+    answer-is : g ≡ map_res body_of (lent_body before read).answer
     answer-is = ap (λ (a : Reply (Res WayBody)). a.answer) q ∙ (same before read).answer
 
-    pub accept-no : (r : Accepted) (x y : LentRefusal) → g ≡ body-written.Refused x → y ≡ written_refusal g → r.answer ≡ accept-answer.Refused y → r.stream ≡ s → accept_step r c la lo ≡ step
-    accept-no r x y h v a t =
-        let k : y ≡ x = v ∙ ap written_refusal h in
-        rw (a, t, k, e) (refuses (lent_body before read).answer (ap written_res (sym h) ∙ answer-is) ∙ ap (λ l. step_of l (lent_body before read).answer) lists-are)
-      where
-        refuses : (r : Res Body) → lent_refused x ≡ map_res body_of r → lending (refused (lent_number x) (lent_values x)) after (waits w.ways w.past w.body w.head_plain (end_of s.end)) ≡ step_of after r
-        refuses (ok d n) q = no_ok q
-        refuses (no n v) q = cc
+  pub accept-no : (r : Result (StreamedBody × Stream) LentRefusal) (x : LentRefusal) → ◌≡◌ {A = Reply (Res WayBody)} (record { answer = lent_refused x; lists = after }) (deliver body_of body_lists (body m w.body) (lent c₀ la₀ lo₀))
+      → IsErr r × IsErrAnd r (λ y. y ≡ x) → accept_of r waiting c la lo ≡ step
+  accept-no r x q h =
+      ap (λ g. accept_of g waiting c la lo) (met h) ∙ refuses (lent_body before read).answer (answer-is (lent_refused x) q) ∙ ap (λ l. step_of l (lent_body before read).answer) (lists-are (lent_refused x) q)
+    where
+      refuses : (r : Res Body) → lent_refused x ≡ map_res body_of r → lending (refused (lent_number x) (lent_values x)) after waiting ≡ step_of after r
+      refuses (ok d n) q = no_ok q
+      refuses (no n v) q = cc
 
-    pub accept-ok : (v : WayBody) (n : ℕ) (b : StreamedBody) (z : TileEnd) → g ≡ body-written.Value v n → b ≡ streamed_body m w.head_plain v → end_of z ≡ tile.note_plain b.plain (end_of s.end)
-        → accept_step (record { answer = accept-answer.Body b; stream = record { turn = turn.Idle (record { points = 0; ways = w.ways; at = n; way = n }); end = z } }) c la lo ≡ step
-    accept-ok v n b z h u y = gives (lent_body before read).answer refl (ap written_res (sym h) ∙ answer-is) ∙ ap (λ l. step_of l (lent_body before read).answer) lists-are ∙ sym step_is
-      where
-        gives : (r : Res Body) → (lent_body before read).answer ≡ r → ok v n ≡ map_res body_of r → lending (got_body b) after (idle 0 w.ways n n (end_of z)) ≡ step_of after r
-        gives (no k x) f q = no_ok (sym q)
-        gives (ok d k) f q =
-            let j : b ≡ shown_body (tile.whole_body w.head_plain d) = u ∙ ap (streamed_body m w.head_plain) (ok-val q) ∙ body-streamed m w.head_plain w.body d k ((same before read).read d k f) in
-            let i : n ≡ k = ok_at q in
-            let o : end_of z ≡ tile.note_body (tile.whole_body w.head_plain d) (end_of s.end) = y ∙ ap (λ (x : StreamedBody). tile.note_plain x.plain (end_of s.end)) j in
-            rw (o, j, i)
+  pub accept-ok : (v : WayBody) (n : ℕ) (b : StreamedBody) (z : TileEnd) → ◌≡◌ {A = Reply (Res WayBody)} (record { answer = ok v n; lists = after }) (deliver body_of body_lists (body m w.body) (lent c₀ la₀ lo₀))
+      → b ≡ streamed_body m w.head_plain v → end_of z ≡ tile.note_plain b.plain (end_of e)
+      → accept_of (Ok (b, record { turn = turn.Idle (record { points = 0; ways = w.ways; at = n; way = n }); end = z })) waiting c la lo ≡ step
+  accept-ok v n b z q u y = gives (lent_body before read).answer refl (answer-is (ok v n) q) ∙ ap (λ l. step_of l (lent_body before read).answer) (lists-are (ok v n) q)
+    where
+      gives : (r : Res Body) → (lent_body before read).answer ≡ r → ok v n ≡ map_res body_of r → lending (got_body b) after (idle 0 w.ways n n (end_of z)) ≡ step_of after r
+      gives (no k x) f q = no_ok (sym q)
+      gives (ok d k) f q =
+          let j : b ≡ shown_body (tile.whole_body w.head_plain d) = u ∙ ap (streamed_body m w.head_plain) (ok-val q) ∙ body-streamed m w.head_plain w.body d k ((same before read).read d k f) in
+          let i : n ≡ k = ok_at q in
+          let o : end_of z ≡ tile.note_body (tile.whole_body w.head_plain d) (end_of e) = y ∙ ap (λ (x : StreamedBody). tile.note_plain x.plain (end_of e)) j in
+          rw (o, j, i)
 
-pub ruleset accepts = (rules, accept-idle, accept-no, accept-ok)
+module _ (m : List ℕ) (s : Stream) (c₀ c : List ℕ) (la₀ lo₀ la lo : List Float) where
+  pub accept-idle : (q : Remaining) → s.turn ≡ turn.Idle q → lending (refused 16 []) (lent c₀ la₀ lo₀) (state_of s) ≡ shown_step (on_accept body body_lists tile.whole_body tile.note_body m (state_of s) (lent c₀ la₀ lo₀))
+  accept-idle q e = rw e
+
+  answers-accept : (g : Result (StreamedBody × Stream) LentRefusal) → accept_step (answered_of g s) c la lo ≡ accept_of g (state_of s) c la lo
+  answers-accept (Ok (b, t)) = refl
+  answers-accept (Err r) = refl
+
+  pub accept-waits : (w : WaitingWay) (g : Result (StreamedBody × Stream) LentRefusal) (r : Accepted) → s.turn ≡ turn.Waits w
+      → accept_of g (waits w.ways w.past w.body w.head_plain (end_of s.end)) c la lo ≡ shown_step (on_accept body body_lists tile.whole_body tile.note_body m (waits w.ways w.past w.body w.head_plain (end_of s.end)) (lent c₀ la₀ lo₀))
+      → r ≡ answered_of g s → accept_step r c la lo ≡ shown_step (on_accept body body_lists tile.whole_body tile.note_body m (state_of s) (lent c₀ la₀ lo₀))
+  accept-waits w g r e h z = ap (λ (x : Accepted). accept_step x c la lo) z ∙ answers-accept g ∙ rw e h
 
 module _ (s : Stream) where
-  pub decline-idle : (q : Remaining) → s.turn ≡ turn.Idle q → decline_step (record { answer = decline-answer.Refused OutOfTurn; stream = s }) ≡ shown_step (on_decline (state_of s))
+  pub decline-idle : (q : Remaining) → s.turn ≡ turn.Idle q → decline_step (record { answer = Err OutOfTurn; stream = s }) ≡ shown_step (on_decline (state_of s))
   decline-idle q e = rw e
 
-  pub decline-waits : (w : WaitingWay) → s.turn ≡ turn.Waits w → decline_step (record { answer = decline-answer.Declined; stream = record { turn = turn.Idle (record { points = 0; ways = w.ways; at = w.past; way = w.past }); end = s.end } }) ≡ shown_step (on_decline (state_of s))
+  pub decline-waits : (w : WaitingWay) → s.turn ≡ turn.Waits w → decline_step (record { answer = Ok tt; stream = record { turn = turn.Idle (record { points = 0; ways = w.ways; at = w.past; way = w.past }); end = s.end } }) ≡ shown_step (on_decline (state_of s))
   decline-waits w e = rw e
+
+pub ruleset turns = (rules, accept-idle, decline-idle, decline-waits)

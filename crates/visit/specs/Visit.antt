@@ -1,19 +1,21 @@
 -- The stream as the code holds it, and its answers (document 01, visit.rs and "The stream and the collected tile"). The machine is
 -- `stream` of crate agreement; what it answers is stored features, and here is what is shown of them.
-use Rattle.std.specs.Prelude.{ℕ, Bool, false, ◌&&◌, ◌≡◌, List, Float, length}
+use Rattle.std.specs.Prelude.{ℕ, Bool, ◌&&◌, ◌≡◌, List, Float, length, Result, Ok, Err}
 use Rattle.parsing.specs.Parse.{Res, and_then, Maybe}
-use Rattle.error.specs.Refusals as error
+use Rattle.error.specs.declared.Refusal.{Refusal}
+use Rattle.error.specs.declared.LentRefusal.{LentRefusal}
 use Rattle.error.specs.Refusals.{number_of, values_of, lent_number, lent_values}
 use Rattle.format.specs.Header.{Interval}
-use Rattle.format.specs.Index.{answer, answered, Grid, locate, tile_at}
+use Rattle.format.specs.Index.{answered, Grid, locate, tile_at}
 use Rattle.format.specs.Rows.{rows_upto, located_head, interval_head}
 use Rattle.format.specs.Streamed.{streamed_maybe, streamed_point}
 use Rattle.format.specs.Tile.{Point, Head, Body}
 use Rattle.format.specs.WayData.{concat, node_count}
+use Rattle.index.specs.Answers.{answer_by}
 use Rattle.types.specs.Types.{optional_span, optional_position}
-use Rattle.tagged.specs.TagIds.{tag_ids, no_tags}
+use Rattle.tagged.specs.TagIds.{tag_ids}
 use Rattle.fields.specs.Fields.{streamed_span}
-use Rattle.poi.specs.Poi.{poi_of, empty_poi}
+use Rattle.poi.specs.Poi.{poi_of}
 use Rattle.poi.specs.declared.Poi.{Poi}
 use Rattle.tile_place.specs.declared.FoundTile.{FoundTile}
 use Rattle.way.specs.declared.WayBody.{WayBody}
@@ -27,19 +29,11 @@ use Rattle.visit.specs.declared.TileEnd.{TileEnd}
 use Rattle.visit.specs.declared.Turn.{Turn}
 use Rattle.visit.specs.declared.Turn.TheVariants as turn
 use Rattle.visit.specs.declared.Stream.{Stream}
-use Rattle.visit.specs.declared.OpenRead.{OpenRead}
-use Rattle.visit.specs.declared.OpenRead.TheVariants as open-read
 use Rattle.visit.specs.declared.StreamedHead.{StreamedHead}
 use Rattle.visit.specs.declared.StreamedBody.{StreamedBody}
-use Rattle.visit.specs.declared.NextAnswer.{NextAnswer}
-use Rattle.visit.specs.declared.NextAnswer.TheVariants as next-answer
-use Rattle.visit.specs.declared.NextStep.{NextStep}
-use Rattle.visit.specs.declared.AcceptAnswer.{AcceptAnswer}
-use Rattle.visit.specs.declared.AcceptAnswer.TheVariants as accept-answer
-use Rattle.visit.specs.declared.Accepted.{Accepted}
-use Rattle.visit.specs.declared.DeclineAnswer.{DeclineAnswer}
-use Rattle.visit.specs.declared.DeclineAnswer.TheVariants as decline-answer
-use Rattle.visit.specs.declared.Declined.{Declined}
+use Rattle.visit.specs.declared.Given.{Given}
+use Rattle.visit.specs.declared.Given.TheVariants as given
+use Rattle.visit.specs.declared.Answered.{Answered}
 
 -- the state
 abbrev pub end_of : TileEnd → tile.TileEnd
@@ -63,9 +57,8 @@ open_tile l i s g t zoom m =
     answered (open_stream (located_head l.debug a) (rows_upto a.interval.min a.interval.max zoom)
     (tile.tile_end s a.entry.water) m (tile_at a)))
 
-abbrev pub open_res : OpenRead → Res (TileState)
-open_res (open-read.Stream s) = answer (state_of s)
-open_res (open-read.Refused r) = error.refused r
+abbrev pub open_res : Result Stream Refusal → Res (TileState)
+open_res g = answer_by state_of g
 
 -- what is shown of a feature: no signature, no delta form, and each text that is not valid UTF-8 is empty
 abbrev pub shown_point : Point → Poi
@@ -94,55 +87,58 @@ shown a = map_answer shown_point shown_head shown_body (λ z. z) a
 abbrev pub shown_step : {S : Type 0} → Step (Answer Point Head Body tile.TileEnd) S → Step ShownAnswer S
 shown_step s = record { reply = record { answer = shown s.reply.answer; lists = s.reply.lists }; left = s.left }
 
--- where there is no way
-abbrev pub no_head : StreamedHead
-no_head = record { bitmap = 0; layer = no_tags.layer; tag_ids = no_tags.ids; plain = false }
+-- next
+abbrev pub next_answer : Result Given Refusal → ShownAnswer
+next_answer (Ok (given.Point p)) = got_point p
+next_answer (Ok (given.Way h)) = got_head h
+next_answer (Ok (given.End z)) = ended (end_of z)
+next_answer (Err r) = refused (number_of r) (values_of r)
 
--- next: the point and the head stand beside the answer (an enum holds no array), and are empty where it is none
-abbrev pub next_answer : NextAnswer → Poi → StreamedHead → ShownAnswer
-next_answer next-answer.Point p h = got_point p
-next_answer next-answer.Way p h = got_head h
-next_answer (next-answer.End z) p h = ended (end_of z)
-next_answer (next-answer.Refused r) p h = refused (number_of r) (values_of r)
+abbrev pub NextStep : Type 0
+NextStep = Answered (Result Given Refusal)
 
-abbrev pub poi_in : ShownAnswer → Poi
-poi_in (got_point p) = p
-poi_in (got_head h) = empty_poi
-poi_in (got_body b) = empty_poi
-poi_in declined = empty_poi
-poi_in (ended z) = empty_poi
-poi_in (refused n v) = empty_poi
+abbrev pub next_step : NextStep → Step ShownAnswer (TileState)
+next_step r = plain (next_answer r.answer) (state_of r.stream)
 
-abbrev pub head_in : ShownAnswer → StreamedHead
-head_in (got_point p) = no_head
-head_in (got_head h) = h
-head_in (got_body b) = no_head
-head_in declined = no_head
-head_in (ended z) = no_head
-head_in (refused n v) = no_head
-
-pub record NextIs (step : Step ShownAnswer (TileState)) (r : NextStep) : Type 0 where
-  pub answer : plain (next_answer r.answer r.poi r.head) (state_of r.stream) ≡ step
-  pub poi : r.poi ≡ poi_in step.reply.answer
-  pub head : r.head ≡ head_in step.reply.answer
+abbrev pub NextIs : (step : Step ShownAnswer (TileState)) → NextStep → Type 0
+NextIs step r = next_step r ≡ step
 
 -- accept, with the lists after the call
-abbrev pub accept_answer : AcceptAnswer → ShownAnswer
-accept_answer (accept-answer.Body b) = got_body b
-accept_answer (accept-answer.Refused r) = refused (lent_number r) (lent_values r)
+abbrev pub accept_answer : Result StreamedBody LentRefusal → ShownAnswer
+accept_answer (Ok b) = got_body b
+accept_answer (Err r) = refused (lent_number r) (lent_values r)
+
+abbrev pub Accepted : Type 0
+Accepted = Answered (Result StreamedBody LentRefusal)
 
 abbrev pub accept_step : Accepted → List ℕ → List Float → List Float → Step ShownAnswer (TileState)
 accept_step r counts lats lons = lending (accept_answer r.answer) (lent counts lats lons) (state_of r.stream)
 
 -- decline
-abbrev pub decline_answer : DeclineAnswer → ShownAnswer
-decline_answer decline-answer.Declined = declined
-decline_answer (decline-answer.Refused r) = refused (number_of r) (values_of r)
+abbrev pub decline_answer : Result (Unit {0}) Refusal → ShownAnswer
+decline_answer (Ok u) = declined
+decline_answer (Err r) = refused (number_of r) (values_of r)
+
+abbrev pub Declined : Type 0
+Declined = Answered (Result (Unit {0}) Refusal)
 
 abbrev pub decline_step : Declined → Step ShownAnswer (TileState)
 decline_step r = plain (decline_answer r.answer) (state_of r.stream)
 
--- What private functions make, which need not be believed: what is streamed of a body that is handed out with raw texts, and of whose head
+-- What private functions make, which need not be believed: a value with the stream behind it, where a refusal leaves the stream as it was
+abbrev pub answered_of : {T E : Type 0} → Result (T × Stream) E → Stream → Answered (Result T E)
+answered_of (Ok (v, t)) s = record { answer = Ok v; stream = t }
+answered_of (Err e) s = record { answer = Err e; stream = s }
+
+abbrev pub next_of : Result (Given × Stream) Refusal → TileState → Step ShownAnswer (TileState)
+next_of (Ok (n, t)) s = plain (next_answer (Ok n)) (state_of t)
+next_of (Err r) s = plain (next_answer (Err r)) s
+
+abbrev pub accept_of : Result (StreamedBody × Stream) LentRefusal → TileState → List ℕ → List Float → List Float → Step ShownAnswer (TileState)
+accept_of (Ok (b, t)) s counts lats lons = lending (accept_answer (Ok b)) (lent counts lats lons) (state_of t)
+accept_of (Err r) s counts lats lons = lending (accept_answer (Err r)) (lent counts lats lons) s
+
+-- what is streamed of a body that is handed out with raw texts, and of whose head
 -- this was said
 abbrev pub streamed_body : List ℕ → Bool → WayBody → StreamedBody
 streamed_body m head b = record {

@@ -1,4 +1,8 @@
 -- From the decisions of a rule to the stream that it drives.
+use Rattle.index.specs.Answers.{answer_res}
+use Rattle.std.specs.Prelude.{Result}
+use Rattle.error.specs.declared.Refusal.{Refusal}
+use Rattle.visit.specs.declared.Stream.{Stream}
 use mathlib.Core.Path.{◌≡◌, refl, sym, ap, subst, ◌∙◌}
 use mathlib.Core.Bool.{Bool}
 use mathlib.Core.List.{List, ◌∷◌}
@@ -14,15 +18,13 @@ use Rattle.zooming.specs.Zooming as zooming
 use Rattle.tile_layout.specs.TileLayout.{TileKinds, kinds_of, format_of}
 use Rattle.tile_layout.specs.declared.TileLayout.{TileLayout}
 use Rattle.visit.specs.Visit.{TileState, open_tile, open_res}
-use Rattle.visit.specs.declared.OpenRead.{OpenRead}
 use Rattle.selection.specs.Selects.{selected}
 use Rattle.selection.proofs.DrivenLaws.{selected-is-stream}
 use Rattle.wanted.specs.Taken.{Taken, accepts}
-use Rattle.wanted.specs.Wanted.{wanted_state, wanted_tile, wanted_res}
+use Rattle.wanted.specs.Wanted.{wanted_state, wanted_tile}
 use Rattle.wanted.specs.WantedSays.{decided, StreamedAs, no-ways, by-head, with-body}
 use Rattle.wanted.specs.DrivenLists.{DecidesAs, on_none, on-more, DeliveredIsDriven, DrivenWants, WantedDriven}
 use Rattle.wanted.specs.declared.WantedFigures.{WantedFigures}
-use Rattle.wanted.specs.declared.WantedRead.{WantedRead}
 use Rattle.wanted.proofs.StreamLaws.{delivered-is-stream}
 use Rattle.wanted.proofs.SaysLaws.{known, opened-value, after-opening}
 
@@ -81,11 +83,11 @@ driven-wants k m ds w e s q =
     }
 
 -- the theorem: the first premise is the contract of `wanted`, the second that of `visit::open`, for any sub file number s
-pub wanted-driven : (l : TileLayout) (letters : List ℕ) (i : Maybe Interval) (s : ℕ) (g : Grid) (t zoom : ℕ) (ds m : List ℕ) (r : WantedRead) (o : OpenRead)
-    → wanted_res r ≡ wanted_tile l letters i g t zoom ds m → open_res o ≡ open_tile l i s g t zoom m
+pub wanted-driven : (l : TileLayout) (letters : List ℕ) (i : Maybe Interval) (s : ℕ) (g : Grid) (t zoom : ℕ) (ds m : List ℕ) (r : (Result WantedFigures Refusal)) (o : (Result Stream Refusal))
+    → answer_res r ≡ wanted_tile l letters i g t zoom ds m → open_res o ≡ open_tile l i s g t zoom m
     → WantedDriven (kinds_of l letters) m ds r o
 wanted-driven l letters i s g t zoom ds m r o q p = record {
   value = λ w e.
       let k = kinds_of l letters in
-      opened-value k m ds (DrivenWants k m ds w) w (driven-wants k m ds w 0) o (ap wanted_res (sym e) ∙ after-opening l letters i s g t zoom ds m r o q p);
+      opened-value k m ds (DrivenWants k m ds w) w (driven-wants k m ds w 0) o (ap answer_res (sym e) ∙ after-opening l letters i s g t zoom ds m r o q p);
 }

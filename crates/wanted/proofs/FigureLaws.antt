@@ -12,38 +12,21 @@ use Rattle.parsing.proofs.Loops.{fold_more, fold-no}
 use Rattle.error.specs.Refusals.{refused, number_of, values_of}
 use Rattle.error.specs.declared.Refusal.{Refusal}
 use Rattle.arithmetic.specs.Cut.{cut}
-use Rattle.byte_source.proofs.ReadLaws.{taken}
+use Rattle.byte_source.proofs.ReadLaws.{handed-up, view-refused}
 use Rattle.tag.specs.declared.Kind.{Kind}
 use Rattle.format.specs.Tile.{Head, Body, point, head, body}
-use Rattle.types.specs.Types.{end_res, end_refusal, optional_span}
-use Rattle.types.specs.declared.End.TheVariants as end
-use Rattle.poi.specs.Poi.{poi_of, PoiIs}
+use Rattle.types.specs.Types.{optional_span}
+use Rattle.poi.specs.Poi.{poi_of}
 use Rattle.poi.specs.declared.Poi.{Poi}
-use Rattle.poi.specs.declared.PoiRead.{PoiRead}
-use Rattle.way_head.specs.WayHead.{head_of, HeadIs}
+use Rattle.way_head.specs.WayHead.{head_of}
 use Rattle.way_head.specs.declared.WayHead.{WayHead}
-use Rattle.way_head.specs.declared.WayHeadRead.{WayHeadRead}
-use Rattle.way.specs.Way.{body_of, body_res, body_refusal}
+use Rattle.way.specs.Way.{body_of}
 use Rattle.way.specs.declared.WayBody.{WayBody}
-use Rattle.way.specs.declared.WayBodyRead.{WayBodyRead}
-use Rattle.way.specs.declared.WayBodyRead.TheVariants as body-read
 use Rattle.agreement.proofs.Stored.{Stored, stored, stopped}
 use Rattle.tile_layout.specs.TileLayout.{TileKinds, format_of}
 use Rattle.wanted.specs.Taken.{accepts, Taken, taken_way, taken_ways, with_maybe, bodies}
-use Rattle.wanted.specs.Wanted.{greatest, text_size, point_text, body_text, blocks_in, nodes_in, text_res, text_refusal, ways_res, ways_refusal, body_figures, one_way, all_ways, joined, span_size, figures_of}
-use Rattle.wanted.specs.declared.TextRead.{TextRead}
-use Rattle.wanted.specs.declared.TextRead.TheVariants as text-read
+use Rattle.wanted.specs.Wanted.{greatest, text_size, point_text, body_text, blocks_in, nodes_in, body_figures, one_way, all_ways, joined, span_size, figures_of}
 use Rattle.wanted.specs.declared.WayFigures.{WayFigures}
-use Rattle.wanted.specs.declared.WaysRead.{WaysRead}
-use Rattle.wanted.specs.declared.WaysRead.TheVariants as ways-read
-
-pub text-refused : (g : TextRead) (e : Refusal) → g ≡ text-read.Refused e → e ≡ text_refusal g
-text-refused g e h = taken text_refusal h refl
-
-pub ways-refused : (g : WaysRead) (e : Refusal) → g ≡ ways-read.Refused e → e ≡ ways_refusal g
-ways-refused g e h = taken ways_refusal h refl
-
-pub ruleset refusals = (rules, text-refused, ways-refused)
 
 -- a decision behind the end declines
 pub behind-end : (ds : List ℕ) (k : ℕ) → length ds ≤ k → false ≡ accepts ds k
@@ -55,20 +38,15 @@ span-size none = refl
 span-size (some p) = refl
 
 -- one point
-module _ (m : List ℕ) (debug : Bool) (kinds : List Kind) (at : ℕ) (g : PoiRead) (b : PoiIs (point debug kinds m at) g) where
-  pub point-stops : (x y : Refusal) → g.end ≡ end.Refused x → y ≡ end_refusal g.end → refused y ≡ map_res point_text (point debug kinds m at)
-  point-stops x y h w =
-      let k = stopped poi_of (number_of x) (values_of x) (point debug kinds m at) (ap (end_res g.poi) (sym h) ∙ b.answer) in
-      ap refused (w ∙ ap end_refusal h) ∙ rw k
-
-  pub point-ends : (n x y t : ℕ) → g.end ≡ end.At n → x ≡ span_size g.poi.name → y ≡ span_size g.poi.house_number → t ≡ max x y → ok t n ≡ map_res point_text (point debug kinds m at)
-  point-ends n x y t h p q r =
-      let s = stored poi_of g.poi n (point debug kinds m at) (ap (end_res g.poi) (sym h) ∙ b.answer) in
-      let u : x ≡ text_size s.value.name = p ∙ ap (λ (z : Poi). span_size z.name) s.shown ∙ span-size s.value.name in
-      let v : y ≡ text_size s.value.house_number = q ∙ ap (λ (z : Poi). span_size z.house_number) s.shown ∙ span-size s.value.house_number in
+module _ (m : List ℕ) (debug : Bool) (kinds : List Kind) (at : ℕ) where
+  pub point-ends : (p : Poi) (n x y t : ℕ) → ok p n ≡ map_res poi_of (point debug kinds m at) → x ≡ span_size p.name → y ≡ span_size p.house_number → t ≡ max x y → ok t n ≡ map_res point_text (point debug kinds m at)
+  point-ends p n x y t b i j r =
+      let s = stored poi_of p n (point debug kinds m at) b in
+      let u : x ≡ text_size s.value.name = i ∙ ap (λ (z : Poi). span_size z.name) s.shown ∙ span-size s.value.name in
+      let v : y ≡ text_size s.value.house_number = j ∙ ap (λ (z : Poi). span_size z.house_number) s.shown ∙ span-size s.value.house_number in
       rw (s.same, r, u, v)
 
-pub ruleset point-reads = (rules, point-stops, point-ends)
+pub ruleset point-reads = (rules, handed-up, view-refused, point-ends)
 
 -- points
 greatest-more : {A : Type 0} (f : A → ℕ) (xs : List A) (v : A) → greatest f (xs ++ (v ∷ [])) ≡ max (greatest f xs) (f v)
@@ -76,14 +54,12 @@ greatest-more f [] v = omega arith
 greatest-more f (x ∷ xs) v = let h = greatest-more f xs v in omega arith
 
 module _ (m : List ℕ) (debug : Bool) (kinds : List Kind) (i at longest n : ℕ) (e : ok longest n ≡ map_res (greatest point_text) (many (point debug kinds) i m at)) where
-  module _ (g : TextRead) (q : text_res g ≡ map_res point_text (point debug kinds m n)) where
-    pub texts-more : (s k c : ℕ) → g ≡ text-read.Value s k → c ≡ max longest s → ok c k ≡ map_res (greatest point_text) (many (point debug kinds) (i + 1) m at)
-    texts-more s k c h w =
-        ap (λ x. ok x k) w ∙ sym (fold_more (point debug kinds) m (greatest point_text) point_text max (greatest-more point_text) i at (sym e) (sym q ∙ ap text_res h))
+  pub texts-more : (s k c : ℕ) → ok s k ≡ map_res point_text (point debug kinds m n) → c ≡ max longest s → ok c k ≡ map_res (greatest point_text) (many (point debug kinds) (i + 1) m at)
+  texts-more s k c q w =
+      ap (λ x. ok x k) w ∙ sym (fold_more (point debug kinds) m (greatest point_text) point_text max (greatest-more point_text) i at (sym e) (sym q))
 
-    pub texts-no : (k : ℕ) (x y : Refusal) → g ≡ text-read.Refused x → y ≡ text_refusal g → i < k → refused y ≡ map_res (greatest point_text) (many (point debug kinds) k m at)
-    texts-no k x y h w l =
-        ap refused (w ∙ ap text_refusal h) ∙ sym (fold-no (point debug kinds) m (greatest point_text) point_text i k at (sym e) (sym q ∙ ap text_res h) l)
+  pub texts-no : (k : ℕ) (x : Refusal) → refused x ≡ map_res point_text (point debug kinds m n) → i < k → refused x ≡ map_res (greatest point_text) (many (point debug kinds) k m at)
+  texts-no k x q l = sym (fold-no (point debug kinds) m (greatest point_text) point_text i k at (sym e) (sym q) l)
 
   pub texts-done : (k : ℕ) → i ≤ k → k ≤ i → ok longest n ≡ map_res (greatest point_text) (many (point debug kinds) k m at)
   texts-done k l l' = let z : i ≡ k = omega arith in rw z at e
@@ -91,7 +67,7 @@ module _ (m : List ℕ) (debug : Bool) (kinds : List Kind) (i at longest n : ℕ
 pub texts-start : (m : List ℕ) (debug : Bool) (kinds : List Kind) (at : ℕ) → ok 0 at ≡ map_res (greatest point_text) (many (point debug kinds) 0 m at)
 texts-start m debug kinds at = refl
 
-pub ruleset text-loops = (rules, texts-start, texts-more, texts-no, texts-done)
+pub ruleset text-loops = (rules, handed-up, texts-start, texts-more, texts-no, texts-done)
 
 -- the body of an accepted way
 pub same-figures : {a a' b b' c c' d d' : ℕ} → a ≡ a' → b ≡ b' → c ≡ c' → d ≡ d'
@@ -111,19 +87,13 @@ one-body b =
     let r = span-size b.fields.reference in
     same-figures refl (omega arith) (omega arith) (omega arith)
 
-module _ (m : List ℕ) (at : ℕ) (g : WayBodyRead) (q : body_res g ≡ map_res body_of (body m at)) where
-  pub body-stops : (x y : Refusal) → g ≡ body-read.Refused x → y ≡ body_refusal g → refused y ≡ map_res (λ b. body_figures (b ∷ [])) (body m at)
-  body-stops x y h w =
-      let k = stopped body_of (number_of x) (values_of x) (body m at) (ap body_res (sym h) ∙ q) in
-      ap refused (w ∙ ap body_refusal h) ∙ rw k
+pub body-ends : (m : List ℕ) (at : ℕ) (v : WayBody) (n : ℕ) (f : WayFigures) → ok v n ≡ map_res body_of (body m at) → f ≡ figures_of v → ok f n ≡ map_res (λ b. body_figures (b ∷ [])) (body m at)
+body-ends m at v n f q w =
+    let s = stored body_of v n (body m at) q in
+    let u : f ≡ body_figures (s.value ∷ []) = w ∙ ap figures_of s.shown ∙ one-body s.value in
+    rw (s.same, u)
 
-  pub body-ends : (v : WayBody) (n : ℕ) (f : WayFigures) → g ≡ body-read.Value v n → f ≡ figures_of v → ok f n ≡ map_res (λ b. body_figures (b ∷ [])) (body m at)
-  body-ends v n f h w =
-      let s = stored body_of v n (body m at) (ap body_res (sym h) ∙ q) in
-      let u : f ≡ body_figures (s.value ∷ []) = w ∙ ap figures_of s.shown ∙ one-body s.value in
-      rw (s.same, u)
-
-pub ruleset body-Reads = (rules, body-stops, body-ends)
+pub ruleset body-reads = (rules, handed-up, view-refused, body-ends)
 
 -- one way
 abbrev by : Bool → List Kind → List Kind → TileKinds
@@ -133,28 +103,26 @@ through : (r : Res Body) (h : Head) (k : TileKinds) → map_res (λ b. body_figu
 through (ok b e) h k = refl
 through (no n v) h k = refl
 
-module _ (m : List ℕ) (debug : Bool) (points ways : List Kind) (at : ℕ) (g : WayHeadRead) (b : HeadIs (head debug ways m at) g) where
+module _ (m : List ℕ) (debug : Bool) (points ways : List Kind) (at : ℕ) where
   abbrev result : Bool → Res WayFigures
   result c = map_res (one_way (by debug points ways)) (taken_way (format_of (by debug points ways)) c m at)
 
-  pub head-stops : (c : Bool) (x y : Refusal) → g.end ≡ end.Refused x → y ≡ end_refusal g.end → refused y ≡ result c
-  head-stops c x y h w =
-      let k = stopped head_of (number_of x) (values_of x) (head debug ways m at) (ap (end_res g.head) (sym h) ∙ b.answer) in
-      ap refused (w ∙ ap end_refusal h) ∙ rw k
+  pub head-stops : (c : Bool) (x : Refusal) → refused x ≡ map_res head_of (head debug ways m at) → refused x ≡ result c
+  head-stops c x q = let k = stopped head_of (number_of x) (values_of x) (head debug ways m at) q in rw k
 
-  module _ (n : ℕ) (h : g.end ≡ end.At n) where
-    got : Stored head_of g.head n (head debug ways m at)
-    got = stored head_of g.head n (head debug ways m at) (ap (end_res g.head) (sym h) ∙ b.answer)
+  module _ (v : WayHead) (n : ℕ) (q : ok v n ≡ map_res head_of (head debug ways m at)) where
+    got : Stored head_of v n (head debug ways m at)
+    got = stored head_of v n (head debug ways m at) q
 
-    pub way-accepted : (c : Bool) (r : WaysRead) → c ≡ true → ways_res r ≡ map_res (λ b. body_figures (b ∷ [])) (body m n) → ways_res r ≡ result c
-    way-accepted c r t q = q ∙ rw (got.same, t) (through (body m n) got.value (by debug points ways))
+    pub way-accepted : (c : Bool) (x : Res WayFigures) → c ≡ true → x ≡ map_res (λ b. body_figures (b ∷ [])) (body m n) → x ≡ result c
+    way-accepted c x t e = e ∙ rw (got.same, t) (through (body m n) got.value (by debug points ways))
 
-    pub way-declined : (c : Bool) (past : ℕ) (f : WayFigures) → c ≡ false → past ≡ cut (g.head.start + g.head.size) → f ≡ body_figures [] → ok f past ≡ result c
-    way-declined c past f t p q =
+    pub way-declined : (c : Bool) (past : ℕ) (f : WayFigures) → c ≡ false → past ≡ cut (v.start + v.size) → f ≡ body_figures [] → ok f past ≡ result c
+    way-declined c past f t p e =
         let u : past ≡ cut (got.value.start + got.value.size) = p ∙ ap (λ (w : WayHead). cut (w.start + w.size)) got.shown in
-        rw (got.same, t, u, q)
+        rw (got.same, t, u, e)
 
-pub ruleset way-reads = (rules, head-stops, way-accepted, way-declined)
+pub ruleset way-reads = (rules, handed-up, head-stops, way-accepted, way-declined)
 
 -- ways: those that were read, and what is left to read
 max_none : (x y : ℕ) → max (max x 0) y ≡ max x y
@@ -204,18 +172,18 @@ module _ (k : TileKinds) (m : List ℕ) (ds : List ℕ) where
     pub ways-done : n ≤ i → ok a next ≡ t
     ways-done l = let h : n - i ≡ 0 = omega arith in ap (λ x. ok x next) (nothing_left a) ∙ (rw h at e)
 
-    module _ (l : i < n) (c : Bool) (d : c ≡ accepts ds i) (g : WaysRead) (q : ways_res g ≡ map_res (one_way k) (taken_way (format_of k) c m next)) where
+    module _ (l : i < n) (c : Bool) (d : c ≡ accepts ds i) where
       one_way_lem : rest a i n next ≡ map_res (λ ws. joined a (all_ways k ws)) (and_then (taken_way (format_of k) c m next) (λ w x. and_then (taken_ways (format_of k) ds (i + 1) (n - (i + 1)) m x) (λ l y. ok (w ∷ l) y)))
       one_way_lem = let h : n - i ≡ suc (n - (i + 1)) = omega arith in rw (h, d, add-one i)
 
-      pub ways-no : (x y : Refusal) → g ≡ ways-read.Refused x → y ≡ ways_refusal g → refused y ≡ t
-      ways-no x y h w =
-          let s = stopped (one_way k) (number_of x) (values_of x) (taken_way (format_of k) c m next) (ap ways_res (sym h) ∙ q) in
-          ap refused (w ∙ ap ways_refusal h) ∙ sym (rw s at one_way_lem) ∙ e
+      pub ways-no : (x : Refusal) → refused x ≡ map_res (one_way k) (taken_way (format_of k) c m next) → refused x ≡ t
+      ways-no x q =
+          let s = stopped (one_way k) (number_of x) (values_of x) (taken_way (format_of k) c m next) q in
+          sym (rw s at one_way_lem) ∙ e
 
-      module _ (o : WayFigures) (after : ℕ) (h : g ≡ ways-read.Value o after) where
+      module _ (o : WayFigures) (after : ℕ) (q : ok o after ≡ map_res (one_way k) (taken_way (format_of k) c m next)) where
         got-way : Stored (one_way k) o after (taken_way (format_of k) c m next)
-        got-way = stored (one_way k) o after (taken_way (format_of k) c m next) (ap ways_res (sym h) ∙ q)
+        got-way = stored (one_way k) o after (taken_way (format_of k) c m next) q
 
         pub at_most_one : o.ways ≤ 1
         at_most_one = rw got-way.shown (few got-way.value.body)

@@ -1,4 +1,8 @@
 -- From the contracts of `wanted` and `visit::open` to the stream.
+use Rattle.index.specs.Answers.{answer_res}
+use Rattle.std.specs.Prelude.{Result, Ok, Err}
+use Rattle.error.specs.declared.Refusal.{Refusal}
+use Rattle.visit.specs.declared.Stream.{Stream}
 use mathlib.Core.Path.{◌≡◌, refl, sym, ap, ◌∙◌}
 use mathlib.Core.Bool.{true}
 use mathlib.Core.List.{List, [], ◌∷◌}
@@ -24,13 +28,10 @@ use Rattle.agreement.proofs.Stored.{stopped}
 use Rattle.tile_layout.specs.TileLayout.{TileKinds, kinds_of, format_of}
 use Rattle.tile_layout.specs.declared.TileLayout.{TileLayout}
 use Rattle.visit.specs.Visit.{TileState, state_of, open_tile, open_res}
-use Rattle.visit.specs.declared.OpenRead.{OpenRead}
-use Rattle.visit.specs.declared.OpenRead.TheVariants as open-read
 use Rattle.wanted.specs.Taken.{Delivered, delivered, bodies}
-use Rattle.wanted.specs.Wanted.{greatest, blocks_in, nodes_in, figures, wanted_state, wanted_after, wanted_tile, wanted_res}
+use Rattle.wanted.specs.Wanted.{greatest, blocks_in, nodes_in, figures, wanted_state, wanted_after, wanted_tile}
 use Rattle.wanted.specs.WantedSays.{Each, none_left, and-each, LongAs, Wants, OpenedWith, opened, RefusedToo, at-opening, at_call, WantedSays}
 use Rattle.wanted.specs.declared.WantedFigures.{WantedFigures}
-use Rattle.wanted.specs.declared.WantedRead.{WantedRead}
 use Rattle.wanted.proofs.StreamLaws.{delivered-is-stream}
 
 -- lists as long as the largest are long enough for each
@@ -83,15 +84,15 @@ module _ (k : TileKinds) (m : List ℕ) (ds : List ℕ) where
       }
 
   -- figures come of a stream that opens
-  pub opened-value : (P : TileState → Type 0) (w : WantedFigures) → ((s : TileState) → wanted_state k ds m s ≡ ok w 0 → P s) → (o : OpenRead)
+  pub opened-value : (P : TileState → Type 0) (w : WantedFigures) → ((s : TileState) → wanted_state k ds m s ≡ ok w 0 → P s) → (o : (Result Stream Refusal))
       → answer w ≡ and_then (open_res o) (λ s _. wanted_state k ds m s) → OpenedWith P o
-  opened-value P w p (open-read.Stream s) q = opened (p (state_of s) (sym q))
-  opened-value P w p (open-read.Refused r) q = no_ok (sym q)
+  opened-value P w p (Ok s) q = opened (p (state_of s) (sym q))
+  opened-value P w p (Err r) q = no_ok (sym q)
 
-  refused-too : (n : ℕ) (v : List ℕ) (o : OpenRead) → no n v ≡ and_then (open_res o) (λ s _. wanted_state k ds m s) → RefusedToo k m ds n v o
-  refused-too n v (open-read.Stream s) q =
+  refused-too : (n : ℕ) (v : List ℕ) (o : (Result Stream Refusal)) → no n v ≡ and_then (open_res o) (λ s _. wanted_state k ds m s) → RefusedToo k m ds n v o
+  refused-too n v (Ok s) q =
       at_call ((delivered-is-stream (format_of k) m ds (state_of s)).refuses n v (stopped (figures k) n v (delivered (format_of k) ds m (state_of s)) q))
-  refused-too n v (open-read.Refused r) q = let a : number_of r ≡ n = cc in let b : values_of r ≡ v = cc in at-opening a b
+  refused-too n v (Err r) q = let a : number_of r ≡ n = cc in let b : values_of r ≡ v = cc in at-opening a b
 
 -- the stream delivers the same whatever its sub file's number is, which goes into its end alone
 module _ (l : TileLayout) (i : Maybe Interval) (s : ℕ) (g : Grid) (t zoom : ℕ) (k : TileKinds) (ds : List ℕ) (m : List ℕ) where
@@ -114,9 +115,9 @@ module _ (l : TileLayout) (i : Maybe Interval) (s : ℕ) (g : Grid) (t zoom : �
   any-sub-file = by_place (locate l.debug i g t m)
 
 -- what `wanted` answers, by what `visit::open` gives for the same tile and zoom
-module _ (l : TileLayout) (letters : List ℕ) (i : Maybe Interval) (s : ℕ) (g : Grid) (t zoom : ℕ) (ds m : List ℕ) (r : WantedRead) (o : OpenRead)
-    (q : wanted_res r ≡ wanted_tile l letters i g t zoom ds m) (p : open_res o ≡ open_tile l i s g t zoom m) where
-  pub after-opening : wanted_res r ≡ wanted_after l letters ds m (open_res o)
+module _ (l : TileLayout) (letters : List ℕ) (i : Maybe Interval) (s : ℕ) (g : Grid) (t zoom : ℕ) (ds m : List ℕ) (r : (Result WantedFigures Refusal)) (o : (Result Stream Refusal))
+    (q : answer_res r ≡ wanted_tile l letters i g t zoom ds m) (p : open_res o ≡ open_tile l i s g t zoom m) where
+  pub after-opening : answer_res r ≡ wanted_after l letters ds m (open_res o)
   unfolding wanted_tile
   after-opening = q ∙ sym (any-sub-file l i s g t zoom (kinds_of l letters) ds m) ∙ ap (wanted_after l letters ds m) (sym p)
 
@@ -125,6 +126,6 @@ module _ (l : TileLayout) (letters : List ℕ) (i : Maybe Interval) (s : ℕ) (g
   wanted-says =
       let k = kinds_of l letters in
       record {
-        value = λ w e. opened-value k m ds (Wants k m ds w) w (wants k m ds w 0) o (ap wanted_res (sym e) ∙ after-opening);
-        refusal = λ x e. refused-too k m ds (number_of x) (values_of x) o (ap wanted_res (sym e) ∙ after-opening);
+        value = λ w e. opened-value k m ds (Wants k m ds w) w (wants k m ds w 0) o (ap answer_res (sym e) ∙ after-opening);
+        refusal = λ x e. refused-too k m ds (number_of x) (values_of x) o (ap answer_res (sym e) ∙ after-opening);
       }

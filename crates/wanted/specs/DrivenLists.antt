@@ -1,6 +1,9 @@
 -- Request 1's lists for a stream that goes by a rule (requests 9 and 10, crate selection): where the decisions are the rule's own on the ways
 -- that are delivered, lists of the lengths that are wanted by them never lead to 15 there. First of a tile of any format, then from the contracts
 -- of `wanted` and `visit::open`.
+use Rattle.std.specs.Prelude.{Result, Ok}
+use Rattle.error.specs.declared.Refusal.{Refusal}
+use Rattle.visit.specs.declared.Stream.{Stream}
 use Rattle.std.specs.Prelude.{◌≡◌, Bool, true, List, [], ◌∷◌, ℕ, suc, length}
 use Rattle.parsing.specs.Parse.{ok}
 use Rattle.format.specs.Lent.{LentLists, fits}
@@ -9,7 +12,6 @@ use Rattle.agreement.specs.Stream.{StreamState}
 use Rattle.zooming.specs.Zooming.{Way}
 use Rattle.tile_layout.specs.TileLayout.{TileKinds, format_of}
 use Rattle.visit.specs.Visit.{TileState}
-use Rattle.visit.specs.declared.OpenRead.{OpenRead}
 use Rattle.selection.specs.Driven.{DrivenWell, accepted}
 use Rattle.selection.specs.Selects.{selected}
 use Rattle.selection.specs.declared.Selection.{Selection}
@@ -17,8 +19,6 @@ use Rattle.wanted.specs.Taken.{accepts, Taken, Delivered, delivered, bodies}
 use Rattle.wanted.specs.Wanted.{figures}
 use Rattle.wanted.specs.WantedSays.{StreamedAs, Each, LongAs, OpenedWith}
 use Rattle.wanted.specs.declared.WantedFigures.{WantedFigures}
-use Rattle.wanted.specs.declared.WantedRead.{WantedRead}
-use Rattle.wanted.specs.declared.WantedRead.TheVariants as wanted_read
 
 -- the decisions on these ways, of which the first is way k, are the rule's
 pub data DecidesAs (F : Format) (rule : F.Head → Bool) (ds : List ℕ) : (k : ℕ) → List (Taken F) → Type 0 where
@@ -55,5 +55,5 @@ pub record DrivenWants (k : TileKinds) (m : List ℕ) (ds : List ℕ) (w : Wante
       → Drives (format_of k) m (selected sel classes) s lent what
 
 -- what an answer of `wanted` says of the stream that `visit::open` gives for the same tile and zoom
-pub record WantedDriven (k : TileKinds) (m : List ℕ) (ds : List ℕ) (r : WantedRead) (o : OpenRead) : Type 0 where
-  pub value : (w : WantedFigures) → r ≡ wanted_read.Value w → OpenedWith (DrivenWants k m ds w) o
+pub record WantedDriven (k : TileKinds) (m : List ℕ) (ds : List ℕ) (r : (Result WantedFigures Refusal)) (o : (Result Stream Refusal)) : Type 0 where
+  pub value : (w : WantedFigures) → r ≡ Ok w → OpenedWith (DrivenWants k m ds w) o

@@ -1,28 +1,18 @@
 -- What a Mapsforge tile's stream will want under a list of decisions: request 1, document 02.
-use Rattle.std.specs.Prelude.{List, [], ◌∷◌, ℕ, ◌+◌, max, length}
-use Rattle.parsing.specs.Parse.{Res, ok, and_then, map_res, Part, Maybe, none, some}
-use Rattle.error.specs.Refusals.{refused}
-use Rattle.error.specs.declared.Refusal.{Refusal}
-use Rattle.error.specs.declared.Refusal.TheVariants.{Source}
+use Rattle.std.specs.Prelude.{List, [], ◌∷◌, ℕ, ◌+◌, max, length, Option, Some, None}
+use Rattle.byte_source.specs.declared.Span.{Span}
+use Rattle.parsing.specs.Parse.{Res, and_then, map_res, Part, Maybe, none, some}
 use Rattle.format.specs.Header.{Interval}
-use Rattle.format.specs.Index.{answer, Grid}
+use Rattle.format.specs.Index.{Grid}
 use Rattle.format.specs.Tile.{Point, Body}
 use Rattle.format.specs.WayData.{concat, node_count}
-use Rattle.types.specs.declared.OptionalSpan.{OptionalSpan}
-use Rattle.types.specs.declared.OptionalSpan.TheVariants as span
 use Rattle.way.specs.declared.WayBody.{WayBody}
 use Rattle.tile_layout.specs.TileLayout.{TileKinds, kinds_of, format_of}
 use Rattle.tile_layout.specs.declared.TileLayout.{TileLayout}
 use Rattle.visit.specs.Visit.{TileState, open_tile}
 use Rattle.wanted.specs.Taken.{Taken, Delivered, delivered, bodies}
 use Rattle.wanted.specs.declared.WantedFigures.{WantedFigures}
-use Rattle.wanted.specs.declared.WantedRead.{WantedRead}
-use Rattle.wanted.specs.declared.WantedRead.TheVariants as wanted_read
-use Rattle.wanted.specs.declared.TextRead.{TextRead}
-use Rattle.wanted.specs.declared.TextRead.TheVariants as text
 use Rattle.wanted.specs.declared.WayFigures.{WayFigures}
-use Rattle.wanted.specs.declared.WaysRead.{WaysRead}
-use Rattle.wanted.specs.declared.WaysRead.TheVariants as ways
 
 -- the largest value; 0 over nothing
 abbrev pub greatest : {A : Type 0} → (A → ℕ) → List A → ℕ
@@ -69,28 +59,7 @@ wanted_after l letters ds m opened = and_then opened (λ s _. wanted_state (kind
 unfoldable pub wanted_tile : TileLayout → (letters : List ℕ) → Maybe Interval → Grid → (number zoom : ℕ) → (decisions : List ℕ) → List ℕ → Res WantedFigures
 wanted_tile l letters i g t zoom ds m = wanted_after l letters ds m (open_tile l i 0 g t zoom m)
 
-abbrev pub wanted_res : WantedRead → Res WantedFigures
-wanted_res (wanted_read.Value w) = answer w
-wanted_res (wanted_read.Refused r) = refused r
-
--- What private functions make, which need not be believed: the answers on the way
-abbrev pub text_res : TextRead → Res ℕ
-text_res (text.Value s n) = ok s n
-text_res (text.Refused r) = refused r
-
-abbrev pub text_refusal : TextRead → Refusal
-text_refusal (text.Value s n) = Source
-text_refusal (text.Refused r) = r
-
-abbrev pub ways_res : WaysRead → Res WayFigures
-ways_res (ways.Value f n) = ok f n
-ways_res (ways.Refused r) = refused r
-
-abbrev pub ways_refusal : WaysRead → Refusal
-ways_refusal (ways.Value f n) = Source
-ways_refusal (ways.Refused r) = r
-
--- the figures of these bodies, of one way, and of several
+-- What private functions make, which need not be believed: the figures of these bodies, of one way, and of several
 abbrev pub body_figures : List Body → WayFigures
 body_figures l = record { ways = length l; blocks = greatest blocks_in l; nodes = greatest nodes_in l; text = greatest body_text l }
 
@@ -104,9 +73,9 @@ abbrev pub joined : WayFigures → WayFigures → WayFigures
 joined a b = record { ways = a.ways + b.ways; blocks = max a.blocks b.blocks; nodes = max a.nodes b.nodes; text = max a.text b.text }
 
 -- of a text and of a body as they are handed out
-abbrev pub span_size : OptionalSpan → ℕ
-span_size span.Absent = 0
-span_size (span.At s) = s.size
+abbrev pub span_size : Option Span → ℕ
+span_size None = 0
+span_size (Some s) = s.size
 
 abbrev pub figures_of : WayBody → WayFigures
 figures_of b = record {

@@ -1,6 +1,7 @@
 -- What the figures of request 1 (document 02) are good for, of the stream of crate agreement, driven by a list of decisions as crate zooming
 -- drives it: with lists of those lengths it ends well, so that no call of it is 15, and delivers just what was counted; and where there are no
 -- figures, it meets that same refusal. First of a tile of any format, then from the contracts of `wanted` and `visit::open`.
+use Rattle.std.specs.Prelude.{Result, Ok, Err}
 use Rattle.std.specs.Prelude.{◌≡◌, Bool, true, false, List, [], ◌∷◌, ℕ, suc, ◌≤◌, length}
 use Rattle.parsing.specs.Parse.{ok, no, none, some}
 use Rattle.error.specs.Refusals.{number_of, values_of}
@@ -13,13 +14,9 @@ use Rattle.zooming.specs.Zooming.{Way, by_head, whole, EndsWell}
 use Rattle.tile_layout.specs.TileLayout.{TileKinds, format_of}
 use Rattle.visit.specs.Visit.{TileState, state_of}
 use Rattle.visit.specs.declared.Stream.{Stream}
-use Rattle.visit.specs.declared.OpenRead.{OpenRead}
-use Rattle.visit.specs.declared.OpenRead.TheVariants as open-read
 use Rattle.wanted.specs.Taken.{accepts, Taken, Delivered, delivered, bodies}
 use Rattle.wanted.specs.Wanted.{figures}
 use Rattle.wanted.specs.declared.WantedFigures.{WantedFigures}
-use Rattle.wanted.specs.declared.WantedRead.{WantedRead}
-use Rattle.wanted.specs.declared.WantedRead.TheVariants as wanted_read
 
 -- the rule by which the stream is driven: by the way's number alone
 abbrev pub decided : (F : Format) → (decisions : List ℕ) → ℕ → F.Head → Bool
@@ -83,16 +80,16 @@ pub record Wants (k : TileKinds) (m : List ℕ) (ds : List ℕ) (w : WantedFigur
   pub streams : (lent : List LentLists) → length lent ≡ w.ways → Each (LongAs w) lent → Streams (format_of k) m ds s lent what
 
 -- opened, as a stream of which this holds
-pub data OpenedWith (P : TileState → Type 0) : OpenRead → Type 0 where
-  opened : {s : Stream} → P (state_of s) → OpenedWith P (open-read.Stream s)
+pub data OpenedWith (P : TileState → Type 0) : (Result Stream Refusal) → Type 0 where
+  opened : {s : Stream} → P (state_of s) → OpenedWith P (Ok s)
 
 -- refused by that number and those values: by opening, or by a call of the stream
-pub data RefusedToo (k : TileKinds) (m : List ℕ) (ds : List ℕ) (n : ℕ) (v : List ℕ) : OpenRead → Type 0 where
-  at-opening : {r : Refusal} → number_of r ≡ n → values_of r ≡ v → RefusedToo k m ds n v (open-read.Refused r)
+pub data RefusedToo (k : TileKinds) (m : List ℕ) (ds : List ℕ) (n : ℕ) (v : List ℕ) : (Result Stream Refusal) → Type 0 where
+  at-opening : {r : Refusal} → number_of r ≡ n → values_of r ≡ v → RefusedToo k m ds n v (Err r)
   at_call : {s : Stream} → ((lent : ℕ → LentLists) → ((j : ℕ) → LongEnough (format_of k) m (lent j)) → Meets (format_of k) m (decided (format_of k) ds) lent n v 0 (state_of s))
-      → RefusedToo k m ds n v (open-read.Stream s)
+      → RefusedToo k m ds n v (Ok s)
 
 -- what an answer of `wanted` says of the stream that `visit::open` gives for the same tile and zoom
-pub record WantedSays (k : TileKinds) (m : List ℕ) (ds : List ℕ) (r : WantedRead) (o : OpenRead) : Type 0 where
-  pub value : (w : WantedFigures) → r ≡ wanted_read.Value w → OpenedWith (Wants k m ds w) o
-  pub refusal : (x : Refusal) → r ≡ wanted_read.Refused x → RefusedToo k m ds (number_of x) (values_of x) o
+pub record WantedSays (k : TileKinds) (m : List ℕ) (ds : List ℕ) (r : (Result WantedFigures Refusal)) (o : (Result Stream Refusal)) : Type 0 where
+  pub value : (w : WantedFigures) → r ≡ Ok w → OpenedWith (Wants k m ds w) o
+  pub refusal : (x : Refusal) → r ≡ Err x → RefusedToo k m ds (number_of x) (values_of x) o

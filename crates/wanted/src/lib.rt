@@ -4,24 +4,24 @@
 
 ghost use Rattle.std.specs.Prelude.{◌≡◌, [], ◌∷◌, max, ◌+◌, ◌<◌, ◌^◌};
 ghost use Rattle.parsing.specs.Parse.{map_res, many};
+ghost use Rattle.byte_source.specs.Answers.{read_res};
 ghost use Rattle.format.specs.Tile.{body};
 ghost use Rattle.types.specs.Types.{grid_of};
-ghost use Rattle.index.specs.Answers.{interval_found};
+ghost use Rattle.index.specs.Answers.{interval_found, answer_res};
 ghost use Rattle.agreement.specs.Stream.{idle};
 ghost use Rattle.agreement.specs.TileFormat.{TileEnd};
 ghost use Rattle.tile_layout.specs.TileLayout.{kinds_of, format_of};
 ghost use Rattle.visit.specs.Visit.{opened_at};
 ghost use Rattle.wanted.specs.Taken.{accepts, taken_way, taken_ways};
-ghost use Rattle.wanted.specs.Wanted.{greatest, point_text, wanted_state, wanted_after, wanted_tile, wanted_res, text_res, text_refusal, ways_res, ways_refusal, body_figures, one_way, all_ways, joined, span_size, figures_of};
+ghost use Rattle.wanted.specs.Wanted.{greatest, point_text, wanted_state, wanted_after, wanted_tile, body_figures, one_way, all_ways, joined, span_size, figures_of};
 
+use byte_source::{Read, Span};
 use error::Refusal;
-use index::IntervalRead;
-use tile_head::TileHeadRead;
 use tile_layout::TileLayout;
-use tile_place::{FoundTile, PlaceRead};
-use types::{End, Grid, OptionalSpan};
+use tile_place::FoundTile;
+use types::{Grid, ZoomInterval};
 use visit::Remaining;
-use way::{WayBody, WayBodyRead};
+use way::WayBody;
 
 // `points` and `ways` count what is delivered, declined ways not among it. `blocks` and `nodes` are the most that one accepted way has: the
 // lengths of the list of node counts, and of those of latitudes and longitudes. `text` is the longest name, house number or reference, as stored.
@@ -34,19 +34,6 @@ pub struct WantedFigures {
     pub text: u64,
 }
 
-#[derive(Clone, Copy)]
-pub enum WantedRead {
-    Value(WantedFigures),
-    Refused(Refusal),
-}
-
-// The longest text of points, and the place behind them.
-#[derive(Clone, Copy)]
-enum TextRead {
-    Value(u64, usize),
-    Refused(Refusal),
-}
-
 // The same figures of ways alone.
 #[derive(Clone, Copy)]
 struct WayFigures {
@@ -56,82 +43,45 @@ struct WayFigures {
     text: u64,
 }
 
-#[derive(Clone, Copy)]
-enum WaysRead {
-    Value(WayFigures, usize),
-    Refused(Refusal),
-}
-
-fn text_refusal(got: TextRead) -> Refusal
-    ensures { result ≡ text_refusal got }
-{
-    match got {
-        TextRead::Refused(r) => r,
-        TextRead::Value(_, _) => Refusal::Source,
-    }
-}
-
-fn ways_refusal(got: WaysRead) -> Refusal
-    ensures { result ≡ ways_refusal got }
-{
-    match got {
-        WaysRead::Refused(r) => r,
-        WaysRead::Value(_, _) => Refusal::Source,
-    }
-}
-
 fn larger(a: u64, b: u64) -> u64
     ensures { result ≡ max a b }
 {
-    if a < b {
-        return b;
-    }
-    a
+    a.max(b)
 }
 
 // The stored size of a text; 0 where there is none.
-fn text_size(text: OptionalSpan) -> u64
+fn text_size(text: Option<Span>) -> u64
     ensures { result ≡ span_size text }
 {
     match text {
-        OptionalSpan::At(span) => span.size as u64,
-        OptionalSpan::Absent => 0,
+        Some(span) => span.size as u64,
+        None => 0,
     }
 }
 
 // One point: its longer text, and the place behind it.
-fn point_text(map: &[u8], at: usize, layout: TileLayout, letters: &[u8]) -> TextRead
-    ensures { text_res result ≡ map_res point_text ((format_of (kinds_of layout letters.now)).point map.now at) }
+fn point_text(map: &[u8], at: usize, layout: TileLayout, letters: &[u8]) -> Read<u64>
+    ensures { read_res result ≡ map_res point_text ((format_of (kinds_of layout letters.now)).point map.now at) }
 {
-    let tags = layout.poi_tags;
-    let got = poi::read_poi(map, at, layout.debug, letters, tags);
-    let end = got.end;
-    let End::At(next) = end else {
-        return TextRead::Refused(types::end_refusal(end));
-    };
-    let poi = got.poi;
-    let name = poi.name;
-    let house_number = poi.house_number;
-    TextRead::Value(larger(text_size(name), text_size(house_number)), next)
+    let (poi, next) = poi::read_poi(map, at, layout.debug, letters, layout.poi_tags)?;
+    Ok((
+        larger(text_size(poi.name), text_size(poi.house_number)),
+        next,
+    ))
 }
 
 // n points.
-fn points_text(map: &[u8], at: usize, n: u64, layout: TileLayout, letters: &[u8]) -> TextRead
-    ensures { text_res result ≡ map_res (greatest point_text) (many (format_of (kinds_of layout letters.now)).point n map.now at) }
+fn points_text(map: &[u8], at: usize, n: u64, layout: TileLayout, letters: &[u8]) -> Read<u64>
+    ensures { read_res result ≡ map_res (greatest point_text) (many (format_of (kinds_of layout letters.now)).point n map.now at) }
 {
     let mut longest = 0;
     let mut next = at;
-    let mut i = 0;
-    while i < n {
-        let got = point_text(map, next, layout, letters);
-        let TextRead::Value(text, after) = got else {
-            return TextRead::Refused(text_refusal(got));
-        };
+    for i in 0..n {
+        let (text, after) = point_text(map, next, layout, letters)?;
         longest = larger(longest, text);
         next = after;
-        i += 1;
     }
-    TextRead::Value(longest, next)
+    Ok((longest, next))
 }
 
 // Whether way k is accepted: behind the end of the decisions it is declined.
@@ -139,10 +89,7 @@ fn is_accepted(decisions: &[u8], k: u64) -> bool
     ensures { result ≡ accepts decisions.now k }
 {
     let k = k as usize;
-    if decisions.len() <= k {
-        return false;
-    }
-    decisions[k] != 0
+    k < decisions.len() && decisions[k] != 0
 }
 
 fn no_figures() -> WayFigures
@@ -160,15 +107,12 @@ fn no_figures() -> WayFigures
 fn body_figures(body: WayBody) -> WayFigures
     ensures { result ≡ figures_of body }
 {
-    let name = body.name;
-    let house_number = body.house_number;
-    let reference = body.reference;
-    let longer = larger(text_size(name), text_size(house_number));
+    let longer = larger(text_size(body.name), text_size(body.house_number));
     WayFigures {
         ways: 1,
         blocks: body.blocks,
         nodes: body.nodes,
-        text: larger(longer, text_size(reference)),
+        text: larger(longer, text_size(body.reference)),
     }
 }
 
@@ -186,14 +130,11 @@ fn both_figures(a: WayFigures, b: WayFigures) -> WayFigures
 }
 
 // The body of an accepted way. Its nodes are passed, not written.
-fn measure_body(map: &[u8], at: usize) -> WaysRead
-    ensures { ways_res result ≡ map_res (λ b. body_figures (b ∷ [])) (body map.now at) }
+fn measure_body(map: &[u8], at: usize) -> Read<WayFigures>
+    ensures { read_res result ≡ map_res (λ b. body_figures (b ∷ [])) (body map.now at) }
 {
-    let got = way::measure_way_body(map, at);
-    let WayBodyRead::Value(body, next) = got else {
-        return WaysRead::Refused(way::way_body_refusal(got));
-    };
-    WaysRead::Value(body_figures(body), next)
+    let (body, next) = way::measure_way_body(map, at)?;
+    Ok((body_figures(body), next))
 }
 
 // One way. The body of a declined one is not read: its data start plus stored size lead past it.
@@ -203,21 +144,15 @@ fn measure_way(
     accepted: bool,
     layout: TileLayout,
     letters: &[u8],
-) -> WaysRead
-    ensures { ways_res result ≡ map_res (one_way (kinds_of layout letters.now)) (taken_way (format_of (kinds_of layout letters.now)) accepted map.now at) }
+) -> Read<WayFigures>
+    ensures { read_res result ≡ map_res (one_way (kinds_of layout letters.now)) (taken_way (format_of (kinds_of layout letters.now)) accepted map.now at) }
 {
-    let tags = layout.way_tags;
-    let got = way_head::read_way_head(map, at, layout.debug, letters, tags);
-    let end = got.end;
-    let End::At(start) = end else {
-        return WaysRead::Refused(types::end_refusal(end));
-    };
+    let (head, start) = way_head::read_way_head(map, at, layout.debug, letters, layout.way_tags)?;
     if accepted {
         return measure_body(map, start);
     }
-    let head = got.head;
     let past = arithmetic::saturating_add_usize(head.start, head.size as usize);
-    WaysRead::Value(no_figures(), past)
+    Ok((no_figures(), past))
 }
 
 // n ways.
@@ -228,23 +163,18 @@ fn measure_ways(
     layout: TileLayout,
     letters: &[u8],
     decisions: &[u8],
-) -> WaysRead
-    ensures { ways_res result ≡ map_res (all_ways (kinds_of layout letters.now)) (taken_ways (format_of (kinds_of layout letters.now)) decisions.now 0 n map.now at) }
+) -> Read<WayFigures>
+    ensures { read_res result ≡ map_res (all_ways (kinds_of layout letters.now)) (taken_ways (format_of (kinds_of layout letters.now)) decisions.now 0 n map.now at) }
 {
     let mut all = no_figures();
     let mut next = at;
-    let mut i = 0;
-    while i < n {
+    for i in 0..n {
         let accepted = is_accepted(decisions, i);
-        let got = measure_way(map, next, accepted, layout, letters);
-        let WaysRead::Value(one, after) = got else {
-            return WaysRead::Refused(ways_refusal(got));
-        };
+        let (one, after) = measure_way(map, next, accepted, layout, letters)?;
         all = both_figures(all, one);
         next = after;
-        i += 1;
     }
-    WaysRead::Value(all, next)
+    Ok((all, next))
 }
 
 // What remains of a stream where no way waits.
@@ -254,18 +184,12 @@ fn wanted_of(
     letters: &[u8],
     rest: Remaining,
     decisions: &[u8],
-) -> WantedRead
-    ensures { (z : TileEnd) → wanted_res result ≡ wanted_state (kinds_of layout letters.now) decisions.now map.now (idle rest.points rest.ways rest.at rest.way z) }
+) -> Result<WantedFigures, Refusal>
+    ensures { (z : TileEnd) → answer_res result ≡ wanted_state (kinds_of layout letters.now) decisions.now map.now (idle rest.points rest.ways rest.at rest.way z) }
 {
-    let got = points_text(map, rest.at, rest.points, layout, letters);
-    let TextRead::Value(text, _) = got else {
-        return WantedRead::Refused(text_refusal(got));
-    };
-    let got = measure_ways(map, rest.way, rest.ways, layout, letters, decisions);
-    let WaysRead::Value(all, _) = got else {
-        return WantedRead::Refused(ways_refusal(got));
-    };
-    WantedRead::Value(WantedFigures {
+    let (text, _) = points_text(map, rest.at, rest.points, layout, letters)?;
+    let (all, _) = measure_ways(map, rest.way, rest.ways, layout, letters, decisions)?;
+    Ok(WantedFigures {
         points: rest.points,
         ways: all.ways,
         blocks: all.blocks,
@@ -282,10 +206,10 @@ fn wanted_at(
     letters: &[u8],
     zoom: u8,
     decisions: &[u8],
-) -> WantedRead
-    ensures { wanted_res result ≡ wanted_after layout letters.now decisions.now map.now (opened_at layout.debug 0 zoom place map.now) }
+) -> Result<WantedFigures, Refusal>
+    ensures { answer_res result ≡ wanted_after layout letters.now decisions.now map.now (opened_at layout.debug 0 zoom place map.now) }
 {
-    let got = tile_head::read_tile_head(
+    let (head, at) = tile_head::read_tile_head(
         map,
         place.at as usize,
         place.empty,
@@ -293,10 +217,7 @@ fn wanted_at(
         place.min_zoom,
         place.max_zoom,
         zoom,
-    );
-    let TileHeadRead::Value(head, at) = got else {
-        return WantedRead::Refused(tile_head::tile_head_refusal(got));
-    };
+    )?;
     let sums = head.sums;
     let way = arithmetic::saturating_add_usize(at, head.offset as usize);
     let rest = Remaining {
@@ -315,17 +236,14 @@ pub fn wanted(
     map: &[u8],
     layout: TileLayout,
     letters: &[u8],
-    found: IntervalRead,
+    found: Option<ZoomInterval>,
     grid: Grid,
     tile: usize,
     zoom: u8,
     decisions: &[u8],
-) -> WantedRead
-    ensures { wanted_res result ≡ wanted_tile layout letters.now (interval_found found) (grid_of grid) tile zoom decisions.now map.now }
+) -> Result<WantedFigures, Refusal>
+    ensures { answer_res result ≡ wanted_tile layout letters.now (interval_found found) (grid_of grid) tile zoom decisions.now map.now }
 {
-    let got = tile_place::find_tile(map, layout.debug, found, grid, tile);
-    let PlaceRead::At(place) = got else {
-        return WantedRead::Refused(tile_place::place_refusal(got));
-    };
+    let place = tile_place::find_tile(map, layout.debug, found, grid, tile)?;
     wanted_at(map, place, layout, letters, zoom, decisions)
 }

@@ -5,14 +5,15 @@ ghost use Rattle.std.specs.Prelude.{◌≡◌, [], ◌∷◌};
 ghost use Rattle.wire.specs.Wire.{wire, lending};
 ghost use Rattle.wanted_wire.specs.Figures.{wanted_wire};
 
-use wanted::WantedRead;
+use error::Refusal;
+use wanted::WantedFigures;
 
 // How many points and accepted ways there are, the most blocks and nodes of one way, and the longest text.
-pub fn put_wanted(got: WantedRead, words: &mut [u64; 11]) -> u64
+pub fn put_wanted(got: Result<WantedFigures, Refusal>, words: &mut [u64; 11]) -> u64
     ensures { wire result (words.new ∷ []) [] [] ≡ wanted_wire (lending (words.old ∷ []) [] []) got }
 {
     match got {
-        WantedRead::Value(figures) => {
+        Ok(figures) => {
             words[6] = figures.points;
             words[7] = figures.ways;
             words[8] = figures.blocks;
@@ -20,6 +21,6 @@ pub fn put_wanted(got: WantedRead, words: &mut [u64; 11]) -> u64
             words[10] = figures.text;
             0
         }
-        WantedRead::Refused(r) => wire::put_refusal(r, words),
+        Err(r) => wire::put_refusal(r, words),
     }
 }

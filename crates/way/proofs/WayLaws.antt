@@ -4,51 +4,26 @@ use mathlib.Core.Path.{◌≡◌, refl, sym, ap, ◌∙◌}
 use mathlib.Core.Bool.{Bool, true, false, cond, ◌&&◌}
 use mathlib.Core.List.{List}
 use lib.Ieee.{Float}
-use borrow.Author.Rules.{rules}
 use Rattle.parsing.specs.Parse.{Res, ok, no, and_then, map_res}
 use Rattle.parsing.specs.Good.{ok-val, ok_at, no_ok}
-use Rattle.error.specs.Refusals.{refused, lent_refused}
+use Rattle.std.specs.Prelude.{Result}
+use Rattle.error.specs.Refusals.{refused}
 use Rattle.error.specs.declared.LentRefusal.{LentRefusal}
-use Rattle.error.specs.declared.LentRefusal.TheVariants as lent-refusal
 use Rattle.error.specs.declared.Refusal.{Refusal}
-use Rattle.error.specs.declared.Refusal.TheVariants.{Source}
-use Rattle.byte_source.proofs.ReadLaws.{taken}
 use Rattle.utils.specs.Vbe.{Noted, values_of, all_plain}
 use Rattle.format.specs.Lent.{LentLists, Reply, fits, written, needed, deliver}
 use Rattle.format.specs.WayData.{Node, way_data, concat}
 use Rattle.format.specs.Nodes.{way_lists}
 use Rattle.format.specs.Tile.{double_delta, Body, body}
 use Rattle.format.specs.BodyLists.{body_lists}
-use Rattle.way_fields.specs.WayFields.{BodyHead, body_head, way_fields_of, way_fields_res, way_fields_refusal}
+use Rattle.way_fields.specs.WayFields.{BodyHead, body_head, way_fields_of}
 use Rattle.way_fields.specs.declared.WayFields.{WayFields}
-use Rattle.way_fields.specs.declared.WayFieldsRead.{WayFieldsRead}
-use Rattle.way_fields.specs.declared.WayFieldsRead.TheVariants as fields_read
 use Rattle.way_fields.proofs.StreamLaws.{body-by-head}
-use Rattle.way_measure.specs.Answers.{way_sizes, way_data_res, way_data_refusal}
+use Rattle.way_measure.specs.Answers.{way_sizes}
 use Rattle.way_measure.specs.declared.Sizes.{Sizes}
-use Rattle.way_measure.specs.declared.WayDataRead.{WayDataRead}
-use Rattle.way_measure.specs.declared.WayDataRead.TheVariants as way-data
-use Rattle.way_data.specs.Reply as replies
 use Rattle.way_data.specs.Reply.{lent, reply, read_way_data}
-use Rattle.way_data.specs.declared.WayDataWritten.{WayDataWritten}
-use Rattle.way_data.specs.declared.WayDataWritten.TheVariants as data-written
-use Rattle.way.specs.Way.{body_of, body_with, body_refusal, written_refusal}
+use Rattle.way.specs.Way.{body_of, body_with}
 use Rattle.way.specs.declared.WayBody.{WayBody}
-use Rattle.way.specs.declared.WayBodyRead.{WayBodyRead}
-use Rattle.way.specs.declared.WayBodyRead.TheVariants as body-read
-use Rattle.way.specs.declared.WayBodyWritten.{WayBodyWritten}
-use Rattle.way.specs.declared.WayBodyWritten.TheVariants as body-written
-
-pub body_refused : (g : WayBodyRead) (e : Refusal) → g ≡ body-read.Refused e → e ≡ body_refusal g
-body_refused g e h = taken body_refusal h refl
-
-pub written-refused : (g : WayBodyWritten) (e : LentRefusal) → g ≡ body-written.Refused e → e ≡ written_refusal g
-written-refused g e h = ap written_refusal (sym h)
-
-pub written_none : (g : WayBodyWritten) (b : WayBody) (n : ℕ) → g ≡ body-written.Value b n → lent-refusal.Refused Source ≡ written_refusal g
-written_none g b n h = ap written_refusal (sym h)
-
-pub ruleset refusals = (rules, body_refused)
 
 abbrev Data : Type 0
 Data = List (Noted (List (List Node)))
@@ -90,55 +65,35 @@ deliver-behind h (ok d i) l = go (way_lists (double_delta h.fields) (concat (val
     go v true = refl
     go v false = refl
 
-module _ (m : List ℕ) (at : ℕ) (g : WayFieldsRead) (q : way_fields_res g ≡ map_res way_fields_of (body_head m at)) where
-  no_fields : (x y : Refusal) → g ≡ fields_read.Refused x → y ≡ way_fields_refusal g → body m at ≡ refused y
-  no_fields x y h w = body-by-head m at ∙ stopped _ _ m (body_head m at) (sym q ∙ ap way_fields_res h) ∙ ap refused (sym (w ∙ ap way_fields_refusal h))
+module _ (m : List ℕ) (at : ℕ) where
+  no_fields : (x : Refusal) → refused x ≡ map_res way_fields_of (body_head m at) → body m at ≡ refused x
+  no_fields x q = body-by-head m at ∙ stopped _ _ m (body_head m at) (sym q)
 
-  pub measure-no-fields : (x y : Refusal) → g ≡ fields_read.Refused x → y ≡ way_fields_refusal g → refused y ≡ map_res body_of (body m at)
-  measure-no-fields x y h w = rw (no_fields x y h w)
+  pub measure-no-fields : (x : Refusal) → refused x ≡ map_res way_fields_of (body_head m at) → refused x ≡ map_res body_of (body m at)
+  measure-no-fields x q = rw (no_fields x q)
 
-  pub read-no-fields : (x y : Refusal) (c : List ℕ) (la lo : List Float) → g ≡ fields_read.Refused x → y ≡ way_fields_refusal g → ◌≡◌ {A = Reply (Res WayBody)} (record { answer = refused y; lists = lent c la lo }) (deliver body_of body_lists (body m at) (lent c la lo))
-  read-no-fields x y c la lo h w = rw (no_fields x y h w)
+  pub read-no-fields : (x : Refusal) (c : List ℕ) (la lo : List Float) → refused x ≡ map_res way_fields_of (body_head m at) → ◌≡◌ {A = Reply (Res WayBody)} (record { answer = refused x; lists = lent c la lo }) (deliver body_of body_lists (body m at) (lent c la lo))
+  read-no-fields x c la lo q = rw (no_fields x q)
 
-  module _ (v : WayFields) (n : ℕ) (h : g ≡ fields_read.Value v n) where
+  module _ (v : WayFields) (n : ℕ) (q : ok v n ≡ map_res way_fields_of (body_head m at)) where
     body-from : From v m n (body m at)
-    body-from = rw (body-by-head m at) (from v m n (body_head m at) (sym q ∙ ap way_fields_res h))
+    body-from = rw (body-by-head m at) (from v m n (body_head m at) (sym q))
 
-  module _ (v : WayFields) (n : ℕ) (h : g ≡ fields_read.Value v n) (w : WayDataRead) where
-    measured : way_data_res w ≡ map_res way_sizes (way_data v.data_blocks m n) → map_res (body_with v) (way_data_res w) ≡ map_res body_of (body m at)
-    measured p =
-        let f = body-from v n h in
-        let s : way_data_res w ≡ map_res way_sizes (way_data f.head.data_blocks m n) = p ∙ ap (λ (x : WayFields). map_res way_sizes (way_data x.data_blocks m n)) f.shown in
+    -- the sizes that the data gave, or their refusal
+    pub measured : (w : Res Sizes) → w ≡ map_res way_sizes (way_data v.data_blocks m n) → map_res (body_with v) w ≡ map_res body_of (body m at)
+    measured w p =
+        let f = body-from in
+        let s : w ≡ map_res way_sizes (way_data f.head.data_blocks m n) = p ∙ ap (λ (x : WayFields). map_res way_sizes (way_data x.data_blocks m n)) f.shown in
         ap (map_res (body_with v)) s
         ∙ ap (λ a. map_res (body_with a) (map_res way_sizes (way_data f.head.data_blocks m n))) f.shown
         ∙ sym (map-behind f.head (way_data f.head.data_blocks m n))
         ∙ ap (map_res body_of) (sym f.same)
 
-    pub measure-no-data : (x y : Refusal) → way_data_res w ≡ map_res way_sizes (way_data v.data_blocks m n) → w ≡ way-data.Refused x → y ≡ way_data_refusal w → refused y ≡ map_res body_of (body m at)
-    measure-no-data x y p d z = ap refused (z ∙ ap way_data_refusal d) ∙ ap (λ a. map_res (body_with v) (way_data_res a)) (sym d) ∙ measured p
-
-    pub measure-ok : (s : Sizes) (e : ℕ) (x : WayBody) → way_data_res w ≡ map_res way_sizes (way_data v.data_blocks m n) → w ≡ way-data.Value s e → x ≡ body_with v s → ok x e ≡ map_res body_of (body m at)
-    measure-ok s e x p d z = ap (λ a. ok a e) z ∙ ap (λ a. map_res (body_with v) (way_data_res a)) (sym d) ∙ measured p
-
-  module _ (v : WayFields) (n : ℕ) (h : g ≡ fields_read.Value v n) (w : WayDataWritten) where
-    module _ (c₀ c : List ℕ) (la₀ lo₀ la lo : List Float) where
-      delivered : reply w c la lo ≡ read_way_data v.double_delta (way_data v.data_blocks m n) c₀ la₀ lo₀ → map_reply (reply w c la lo) (body_with v) ≡ deliver body_of body_lists (body m at) (lent c₀ la₀ lo₀)
-      delivered p =
-          let f = body-from v n h in
-          let s : reply w c la lo ≡ read_way_data (double_delta f.head.fields) (way_data f.head.data_blocks m n) c₀ la₀ lo₀ = p ∙ ap (λ (x : WayFields). read_way_data x.double_delta (way_data x.data_blocks m n) c₀ la₀ lo₀) f.shown in
-          ap (λ a. map_reply a (body_with v)) s
-          ∙ ap (λ a. map_reply (read_way_data (double_delta f.head.fields) (way_data f.head.data_blocks m n) c₀ la₀ lo₀) (body_with a)) f.shown
-          ∙ sym (deliver-behind f.head (way_data f.head.data_blocks m n) (lent c₀ la₀ lo₀))
-          ∙ ap (λ a. deliver body_of body_lists a (lent c₀ la₀ lo₀)) (sym f.same)
-
-      pub read-no-data : (x y : LentRefusal) → reply w c la lo ≡ read_way_data v.double_delta (way_data v.data_blocks m n) c₀ la₀ lo₀ → w ≡ data-written.Refused x → y ≡ replies.written_refusal w → ◌≡◌ {A = Reply (Res WayBody)} (record { answer = lent_refused y; lists = lent c la lo }) (deliver body_of body_lists (body m at) (lent c₀ la₀ lo₀))
-      read-no-data x y p d z =
-          ap (λ a. record { answer = lent_refused a; lists = lent c la lo }) (z ∙ ap replies.written_refusal d)
-          ∙ ap (λ a. map_reply (reply a c la lo) (body_with v)) (sym d)
-          ∙ delivered p
-
-      pub read_ok : (s : Sizes) (e : ℕ) (x : WayBody) → reply w c la lo ≡ read_way_data v.double_delta (way_data v.data_blocks m n) c₀ la₀ lo₀ → w ≡ data-written.Value s e → x ≡ body_with v s → ◌≡◌ {A = Reply (Res WayBody)} (record { answer = ok x e; lists = lent c la lo }) (deliver body_of body_lists (body m at) (lent c₀ la₀ lo₀))
-      read_ok s e x p d z =
-          ap (λ a. record { answer = ok a e; lists = lent c la lo }) z
-          ∙ ap (λ a. map_reply (reply a c la lo) (body_with v)) (sym d)
-          ∙ delivered p
+    pub delivered : (w : Result (Sizes × ℕ) LentRefusal) (c₀ c : List ℕ) (la₀ lo₀ la lo : List Float) → reply w c la lo ≡ read_way_data v.double_delta (way_data v.data_blocks m n) c₀ la₀ lo₀ → map_reply (reply w c la lo) (body_with v) ≡ deliver body_of body_lists (body m at) (lent c₀ la₀ lo₀)
+    delivered w c₀ c la₀ lo₀ la lo p =
+        let f = body-from in
+        let s : reply w c la lo ≡ read_way_data (double_delta f.head.fields) (way_data f.head.data_blocks m n) c₀ la₀ lo₀ = p ∙ ap (λ (x : WayFields). read_way_data x.double_delta (way_data x.data_blocks m n) c₀ la₀ lo₀) f.shown in
+        ap (λ a. map_reply a (body_with v)) s
+        ∙ ap (λ a. map_reply (read_way_data (double_delta f.head.fields) (way_data f.head.data_blocks m n) c₀ la₀ lo₀) (body_with a)) f.shown
+        ∙ sym (deliver-behind f.head (way_data f.head.data_blocks m n) (lent c₀ la₀ lo₀))
+        ∙ ap (λ a. deliver body_of body_lists a (lent c₀ la₀ lo₀)) (sym f.same)

@@ -12,14 +12,10 @@ use lib.Seq.{sets, length-sets}
 use lib.Ieee.{Float}
 use mir.Syntax.{w64}
 use mir.Val.{Fits}
-use borrow.Author.Rules.{rules}
 use Rattle.parsing.specs.Parse.{Res, ok, no, Parser, and_then, map_res, many, Fine, end_of, list_of}
 use Rattle.parsing.proofs.Loops.{sets-append, fine-is, many-count}
 use Rattle.error.specs.Refusals.{refused}
 use Rattle.error.specs.declared.Refusal.{Refusal}
-use Rattle.byte_source.specs.Answers.{number_res}
-use Rattle.byte_source.specs.declared.NumberRead.{NumberRead}
-use Rattle.byte_source.specs.declared.NumberRead.TheVariants as number
 use Rattle.utils.specs.Vbe.{unsigned}
 use Rattle.format.specs.WayData.{Node, concat, node_count}
 use Rattle.format.specs.Nodes.{block_nodes, latitude_of, longitude_of, node_counts, latitudes, longitudes}
@@ -60,30 +56,25 @@ open-as : (s : List ℕ) (at n start : ℕ) → unsigned s at ≡ ok n start →
 unfolding block_alone
 open-as s at n start e = rw e
 
-opened : (s : List ℕ) (at n start : ℕ) (g : NumberRead) → Fine (one_block s at) → number_res g ≡ unsigned s at → g ≡ number.Value n start → Opened s at n start
+opened : (s : List ℕ) (at n start : ℕ) → Fine (one_block s at) → ok n start ≡ unsigned s at → Opened s at n start
 unfolding one_block
-opened s at n start g f e h =
-    let a = open-as s at n start (sym e ∙ ap number_res h) in
+opened s at n start f e =
+    let a = open-as s at n start (sym e) in
     let f' : Fine (cond (leb n (2 ^ 20)) (many node_alone n s start) (no 10 [])) = rw a at (fine-alone (block_alone s at) f) in
     let b = fine-cond (leb n (2 ^ 20)) (many node_alone n s start) f' in
     let f'' : Fine (many node_alone n s start) = rw b at f' in
     record { same = a ∙ b; fine = f''; count = many-count node_alone s n start _ _ (fine-is (many node_alone n s start) f'') }
 
-refused-block : {C : Type 0} (s : List ℕ) (at : ℕ) (g : NumberRead) (r : Refusal) → Fine (one_block s at) → number_res g ≡ unsigned s at → g ≡ number.Refused r → C
-unfolding block_alone one_block
-refused-block s at g r f e h =
-    let k : refused r ≡ unsigned s at = sym (ap number_res h) ∙ e in
-    absurd (rw (← k) at f)
+module _ (s : List ℕ) (p : Progress) (c : List ℕ) (la lo : List Float) (y : BlocksFit (one_block s p.next) p c la lo) where
+  pub block_no : (r : Refusal) (t : Bool) (c₀ : List ℕ) (la₀ lo₀ : List Float) (q : Progress) → refused r ≡ unsigned s p.next → BlocksWritten t (one_block s p.next) p c₀ la₀ lo₀ q c la lo
+  unfolding block_alone one_block
+  block_no r t c₀ la₀ lo₀ q e = absurd (rw (← e) at y.fine)
 
-module _ (s : List ℕ) (p : Progress) (c : List ℕ) (la lo : List Float) (g : NumberRead) (y : BlocksFit (one_block s p.next) p c la lo) (e : number_res g ≡ unsigned s p.next) where
-  pub block_no : (r : Refusal) (t : Bool) (c₀ : List ℕ) (la₀ lo₀ : List Float) (q : Progress) → g ≡ number.Refused r → BlocksWritten t (one_block s p.next) p c₀ la₀ lo₀ q c la lo
-  block_no r t c₀ la₀ lo₀ q h = refused-block s p.next g r y.fine e h
-
-  module _ (n start : ℕ) (h : g ≡ number.Value n start) where
+  module _ (n start : ℕ) (e : ok n start ≡ unsigned s p.next) where
     sized : (p.blocks + 1 ≤ length c) × (p.nodes + n ≤ length la) × (p.nodes + n ≤ length lo)
     unfolding one_block
     sized =
-        let o = opened s p.next n start g y.fine e h in
+        let o = opened s p.next n start y.fine e in
         let k = o.count in
         let l : list_of (one_block s p.next) ≡ list_of (many node_alone n s start) ∷ [] = rw o.same (list-alone (many node_alone n s start) o.fine) in
         let u = rw l at y.counts in
@@ -92,7 +83,7 @@ module _ (s : List ℕ) (p : Progress) (c : List ℕ) (la lo : List Float) (g : 
         (omega arith, omega arith, omega arith)
 
     pub block_fit : NodesFit s start n p.nodes la lo
-    block_fit = record { fine = (opened s p.next n start g y.fine e h).fine; lats = sized.1; lons = sized.2 }
+    block_fit = record { fine = (opened s p.next n start y.fine e).fine; lats = sized.1; lons = sized.2 }
 
     pub block-slot : p.blocks < length c
     block-slot = let u = sized.0 in omega arith
@@ -104,7 +95,7 @@ module _ (s : List ℕ) (p : Progress) (c : List ℕ) (la lo : List Float) (g : 
         → BlocksWritten t (one_block s p.next) p c la lo (record { next = next; blocks = p.blocks + 1; nodes = p.nodes + n }) (set c p.blocks n) la' lo'
     unfolding one_block
     block-done t next la' lo' d =
-        let o = opened s p.next n start g y.fine e h in
+        let o = opened s p.next n start y.fine e in
         let k = o.count in
         let l = list-alone (many node_alone n s start) o.fine in
         let z = end-alone (many node_alone n s start) in
@@ -214,9 +205,6 @@ pub record BlocksLeft (t : Bool) (whole : Blocks) (o : Progress) (c : List ℕ) 
   pub fit : BlocksFit r p c' la' lo'
   pub finish : (q : Progress) (c'' : List ℕ) (la'' lo'' : List Float) → BlocksWritten t r p c' la' lo' q c'' la'' lo'' → BlocksWritten t whole o c la lo q c'' la'' lo''
 
-pub left-start : (t : Bool) (r : Blocks) (p : Progress) (c : List ℕ) (la lo : List Float) → BlocksFit r p c la lo → BlocksLeft t r p c la lo r p c la lo
-left-start t r p c la lo y = record { fit = y; finish = λ q c'' la'' lo'' w. w }
-
 -- a turn of a loop over any parser of blocks
 module _ (d : Parser (List (List Node))) (s : List ℕ) where
   abbrev rest : ℕ → ℕ → Blocks
@@ -242,8 +230,8 @@ module _ (d : Parser (List (List Node))) (s : List ℕ) where
     pub left-fit : 0 < left → BlocksFit (d s p.next) p c' la' lo'
     left-fit h = fit-first t p c' la' lo' (d s p.next) (λ e. rest (left - 1) e) (rw (peel left p.next h) at g.fit)
 
-    pub left-more : (q : Progress) (c'' : List ℕ) (la'' lo'' : List Float) → 0 < left → BlocksWritten t (d s p.next) p c' la' lo' q c'' la'' lo'' → BlocksLeft t whole o c la lo (rest (left - 1) q.next) q c'' la'' lo''
-    left-more q c'' la'' lo'' h w = go (rw (peel left p.next h) at g)
+    pub left-more : (q : Progress) (c'' : List ℕ) (la'' lo'' : List Float) (after : ℕ) → left ≡ after + 1 → BlocksWritten t (d s p.next) p c' la' lo' q c'' la'' lo'' → BlocksLeft t whole o c la lo (rest after q.next) q c'' la'' lo''
+    left-more q c'' la'' lo'' after h w = let k : left - 1 ≡ after = omega arith in rw (← k) (go (rw (peel left p.next (omega arith)) at g))
       where
         go : BlocksLeft t whole o c la lo (join (d s p.next) (λ e. rest (left - 1) e)) p c' la' lo' → BlocksLeft t whole o c la lo (rest (left - 1) q.next) q c'' la'' lo''
         go z = record {
@@ -268,17 +256,15 @@ all-alone s (suc n) at = go (block_alone s at) (λ e. all-alone s n e)
     go (ok b e) ih = cons b (many one_block n s e) ∙ ap (λ (x : Blocks). and_then x (λ l i. ok (b ∷ l) i)) (ih e)
     go (no x v) ih = refl
 
-module _ (s : List ℕ) (p : Progress) (c : List ℕ) (la lo : List Float) (g : NumberRead) (y : BlocksFit (data_block_alone s p.next) p c la lo) (e : number_res g ≡ unsigned s p.next) where
-  pub data-no : (r : Refusal) (t : Bool) (c₀ : List ℕ) (la₀ lo₀ : List Float) (q : Progress) → g ≡ number.Refused r → BlocksWritten t (data_block_alone s p.next) p c₀ la₀ lo₀ q c la lo
+module _ (s : List ℕ) (p : Progress) (c : List ℕ) (la lo : List Float) (y : BlocksFit (data_block_alone s p.next) p c la lo) where
+  pub data-no : (r : Refusal) (t : Bool) (c₀ : List ℕ) (la₀ lo₀ : List Float) (q : Progress) → refused r ≡ unsigned s p.next → BlocksWritten t (data_block_alone s p.next) p c₀ la₀ lo₀ q c la lo
   unfolding data_block_alone
-  data-no r t c₀ la₀ lo₀ q h =
-      let k : refused r ≡ unsigned s p.next = sym (ap number_res h) ∙ e in
-      absurd (rw (← k) at y.fine)
+  data-no r t c₀ la₀ lo₀ q e = absurd (rw (← e) at y.fine)
 
-  module _ (n start : ℕ) (h : g ≡ number.Value n start) where
+  module _ (n start : ℕ) (e : ok n start ≡ unsigned s p.next) where
     data_is : data_block_alone s p.next ≡ map_res concat (many one_block n s start)
     unfolding data_block_alone
-    data_is = rw (← e, h) (sym (all-alone s n start))
+    data_is = rw (← e) (sym (all-alone s n start))
 
     -- the cursor behind the count
     abbrev inside : Progress
@@ -293,8 +279,3 @@ module _ (s : List ℕ) (p : Progress) (c : List ℕ) (la lo : List Float) (g : 
     pub data-done : (t : Bool) (q : Progress) (c' : List ℕ) (la' lo' : List Float) → BlocksWritten t (map_res concat (many one_block n s start)) inside c la lo q c' la' lo' → BlocksWritten t (data_block_alone s p.next) p c la lo q c' la' lo'
     data-done t q c' la' lo' v =
         rw data_is record { end = v.end; blocks = v.blocks; nodes = v.nodes; counts = v.counts; lats = v.lats; lons = v.lons }
-
-pub ruleset blocks = (rules, block_no, block_fit, block-slot, block-fits, block-done, data-no, data-fit, data-done)
-
--- with a turn's laws at the loop's parser
-pub ruleset turns = (rules, left-start)

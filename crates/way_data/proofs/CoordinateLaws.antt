@@ -1,7 +1,7 @@
 -- A coordinate that is known to be readable: its bytes are there, and those of a short one say it.
 use Prim.Native.Nat.{ℕ, ◌+◌, ◌*◌, ◌/◌, ◌%◌, ◌^◌, ◌<◌, ◌≤◌}
 use native.Mathlib.Omega.{arith}
-use mathlib.Core.Path.{◌≡◌, refl, sym, ap, ◌∙◌, subst}
+use mathlib.Core.Path.{◌≡◌, refl, sym, ap, subst}
 use mathlib.Core.Bool.{Bool, true, false, cond}
 use mathlib.Core.List.{List, []}
 use lib.Dec.{ltb, leb, lit<}
@@ -13,15 +13,11 @@ use Rattle.parsing.specs.Parse.{Res, ok, no, and_then, map_res, Fine}
 use Rattle.parsing.specs.Good.{split, ok-val}
 use Rattle.error.specs.Refusals.{refused}
 use Rattle.error.specs.declared.Refusal.{Refusal}
-use Rattle.utils.specs.Answers.{micro_res}
 use Rattle.utils.specs.Vbe.{Noted, Groups, groups, signed_of, noted_signed, noted_coordinate, signed, coordinate}
-use Rattle.utils.specs.declared.Coordinate.{Coordinate}
-use Rattle.utils.specs.declared.MicroRead.{MicroRead}
-use Rattle.utils.specs.declared.MicroRead.TheVariants as micro
 use Rattle.utils.proofs.VbeLaws.{above, above-none, loop-past, loop-last, loop-more}
 use Rattle.utils.proofs.CoordinateLaws.{coordinate-small}
 use Rattle.way_data.specs.Writes.{node_alone, node_res, Exact}
-use Rattle.way_data.specs.declared.StoredNode.{StoredNode}
+use Rattle.way_measure.specs.declared.Node.{Node as CodeNode}
 
 pub fine-first : {A B : Type 0} (r : Res A) (k : A → ℕ → Res B) → Fine (and_then r k) → Fine r
 fine-first (ok a e) k f = tt
@@ -99,15 +95,13 @@ module _ (s : List ℕ) (at : ℕ) (f : Fine (coordinate s at)) where
               (omega arith) (omega arith) k
 
   -- any number of bytes
-  pub long-is : (g : MicroRead) (m : Coordinate) (e : ℕ) → micro_res g ≡ noted_coordinate s at → g ≡ micro.Value m e → ok m.value.0 e ≡ coordinate s at
+  pub long-is : (v : Noted ℤ) (e : ℕ) → ok v e ≡ noted_coordinate s at → ok v.value e ≡ coordinate s at
   unfolding coordinate
-  long-is g m e q h = ap (map_res alone) (sym (ap micro_res h) ∙ q)
+  long-is v e q = ap (map_res alone) q
 
-  pub long-no : (g : MicroRead) (r : Refusal) (y : ℤ) (e : ℕ) → micro_res g ≡ noted_coordinate s at → g ≡ micro.Refused r → ok y e ≡ coordinate s at
+  pub long-no : (r : Refusal) (y : ℤ) (e : ℕ) → refused r ≡ noted_coordinate s at → ok y e ≡ coordinate s at
   unfolding coordinate
-  long-no g r y e q h =
-      let k : refused r ≡ noted_coordinate s at = sym (ap micro_res h) ∙ q in
-      absurd (rw (← k) at f)
+  long-no r y e q = absurd (rw (← q) at f)
 
 -- two of them
 module _ (s : List ℕ) (at : ℕ) where
@@ -131,9 +125,9 @@ alone-small s at y e h =
     let u = split (noted_coordinate s at) (λ v x. ok v.value x) y e h in
     subst (λ (z : ℤ). nat_abs z ≤ 2 ^ 53) (ok-val u.second) (coordinate-small.holds s at u.val u.mid u.first)
 
-pub node-exact : (s : List ℕ) (at : ℕ) (g : StoredNode) → node_res g ≡ node_alone s at → Exact g.node
+pub node-exact : (s : List ℕ) (at : ℕ) (g : CodeNode) (e : ℕ) → node_res (g, e) ≡ node_alone s at → Exact g
 unfolding node_alone
-node-exact s at g q =
+node-exact s at g e q =
     let u = split (coordinate s at) (λ a x. and_then (coordinate s x) (λ o y. ok (record { latitude = a; longitude = o }) y)) _ _ (sym q) in
     let v = split (coordinate s u.mid) (λ o y. ok (record { latitude = u.val; longitude = o }) y) _ _ u.second in
     let n = ok-val v.second in

@@ -18,7 +18,6 @@ use Rattle.format.specs.Nodes.{zero64, next_delta}
 use Rattle.way_measure.specs.declared.Node.{Node as CodeNode}
 use Rattle.way_data.specs.Writes.{node_alone, node_res, start_at, moved_by, Coordinates, later, in_block, NodesFit, NodesWritten}
 use Rattle.way_data.specs.declared.Cursor.{Cursor}
-use Rattle.way_data.specs.declared.StoredNode.{StoredNode}
 use Rattle.way_data.proofs.CoordinateLaws.{fine-first, node-exact}
 
 -- one node
@@ -43,9 +42,9 @@ pub record NodesLeft (t : Bool) (s : List ℕ) (next left : ℕ) (p : Cursor) (p
   pub lats : sets la pos (later t p (list_of (many node_alone left s next))).lats ≡ LA
   pub lons : sets lo pos (later t p (list_of (many node_alone left s next))).lons ≡ LO
 
-pub later-start : (t : Bool) (s : List ℕ) (at n : ℕ) (p : Cursor) (pos : ℕ) (la lo : List Float) → NodesFit s at n pos la lo
-    → NodesLeft t s at n p pos la lo (end_of (many node_alone n s at)) (sets la pos (later t p (list_of (many node_alone n s at))).lats) (sets lo pos (later t p (list_of (many node_alone n s at))).lons)
-later-start t s at n p pos la lo y = record { fit = y; end = refl; lats = refl; lons = refl }
+pub later-start : (t : Bool) (s : List ℕ) (at n left : ℕ) (p : Cursor) (pos : ℕ) (la lo : List Float) → NodesFit s at n pos la lo → left ≡ n
+    → NodesLeft t s at left p pos la lo (end_of (many node_alone n s at)) (sets la pos (later t p (list_of (many node_alone n s at))).lats) (sets lo pos (later t p (list_of (many node_alone n s at))).lons)
+later-start t s at n left p pos la lo y h = rw h record { fit = y; end = refl; lats = refl; lons = refl }
 
 none_left : {A : Type 0} (p : Parser A) (s : List ℕ) (left next : ℕ) → left ≤ 0 → many p left s next ≡ ok [] next
 none_left p s zero next h = refl
@@ -59,11 +58,12 @@ module _ (t : Bool) (s : List ℕ) (next left : ℕ) (p : Cursor) (pos : ℕ) (l
   pub later-fine : 0 < left → Fine (node_alone s next)
   later-fine b = one-fine s left next b y.fit.fine
 
-  pub later_more : (q : Cursor) (g : StoredNode) → 0 < left → node_res g ≡ node_alone s next → q ≡ moved_by t p g.node
-      → NodesLeft t s g.next (left - 1) q (pos + 1) (set la pos q.latitude) (set lo pos q.longitude) E LA LO
-  later_more q g b e m =
-      let r = rest node_alone s left next b y.fit.fine (sym e) in
-      rw m record {
+  pub later_more : (q : Cursor) (g : CodeNode) (e after : ℕ) → left ≡ after + 1 → node_res (g, e) ≡ node_alone s next → q ≡ moved_by t p g
+      → NodesLeft t s e after q (pos + 1) (set la pos q.latitude) (set lo pos q.longitude) E LA LO
+  later_more q g i after b e m =
+      let r = rest node_alone s left next (omega arith) y.fit.fine (sym e) in
+      let k : left - 1 ≡ after = omega arith in
+      rw (m, ← k) record {
         fit = record {
           fine = r.fine;
           lats = simp length-set (omega (arith, y.fit.lats));
@@ -90,23 +90,23 @@ module _ (s : List ℕ) (at n from : ℕ) (la lo : List Float) (y : NodesFit s a
   pub first_fine : Fine (node_alone s at)
   first_fine = one-fine s n at b y.fine
 
-  module _ (g : StoredNode) (e : node_res g ≡ node_alone s at) where
-    pub first-fit : (a o : Float) → NodesFit s g.next (n - 1) (from + 1) (set la from a) (set lo from o)
+  module _ (g : CodeNode) (i : ℕ) (e : node_res (g, i) ≡ node_alone s at) where
+    pub first-fit : (a o : Float) → NodesFit s i (n - 1) (from + 1) (set la from a) (set lo from o)
     first-fit a o = record {
       fine = (rest node_alone s n at b y.fine (sym e)).fine;
       lats = simp length-set (omega (arith, y.lats));
       lons = simp length-set (omega (arith, y.lons));
     }
 
-    pub first_more : (t : Bool) (r : ℕ) (p : Cursor) (la' lo' : List Float) → p ≡ start_at g.node
-        → NodesWritten (later t p) (many node_alone (n - 1) s g.next) (from + 1) (set la from p.latitude) (set lo from p.longitude) r la' lo'
+    pub first_more : (t : Bool) (r : ℕ) (p : Cursor) (la' lo' : List Float) → p ≡ start_at g
+        → NodesWritten (later t p) (many node_alone (n - 1) s i) (from + 1) (set la from p.latitude) (set lo from p.longitude) r la' lo'
         → NodesWritten (in_block t) (many node_alone n s at) from la lo r la' lo'
-    first_more t r p la' lo' i d =
+    first_more t r p la' lo' j d =
         let q = rest node_alone s n at b y.fine (sym e) in
         record {
           end = d.end ∙ q.end;
-          lats = rw q.list (rw (add-one, i) at d.lats);
-          lons = rw q.list (rw (add-one, i) at d.lons);
+          lats = rw q.list (rw (add-one, j) at d.lats);
+          lons = rw q.list (rw (add-one, j) at d.lons);
         }
 
 module _ (f : List Node → Coordinates) (w : Res (List Node)) (from : ℕ) (la₀ lo₀ : List Float) (i : ℕ) (a o : Float) (next : ℕ) (la lo : List Float) (d : NodesWritten f w from (set la₀ i a) (set lo₀ i o) next la lo) where

@@ -1,5 +1,5 @@
 -- Way data delivered, or not: the replies by the tests that the code makes.
-use Prim.Native.Nat.{ℕ, ◌≤◌, ◌<◌}
+use Prim.Native.Nat.{ℕ, ◌≤◌}
 use native.Mathlib.Omega.{arith}
 use mathlib.Core.Path.{◌≡◌, refl, sym, ap, ◌∙◌}
 use mathlib.Core.Bool.{Bool, true, false, cond, ◌||◌, ◌&&◌}
@@ -7,49 +7,28 @@ use mathlib.Core.List.{List}
 use lib.Dec.{leb, ltb}
 use lib.ListN.{length, length-map}
 use lib.Ieee.{Float}
-use borrow.Author.Tests.{le-ltb, lt-ltb, ltb-true, ltb-false, le-leb, lt-leb}
+use borrow.Author.Tests.{ltb-true, ltb-false, le-leb, lt-leb}
 use Rattle.parsing.specs.Parse.{Res, ok, no, map_res, list_of}
 use Rattle.parsing.specs.Good.{ok-val, ok_at, no_ok}
 use Rattle.error.specs.Refusals.{refused, lent_refused, lent_values}
 use Rattle.error.specs.declared.LentRefusal.{LentRefusal}
-use Rattle.error.specs.declared.LentRefusal.TheVariants as lent-refusal
 use Rattle.error.specs.declared.Refusal.{Refusal}
-use Rattle.error.specs.declared.Refusal.TheVariants.{Source}
 use Rattle.utils.specs.Vbe.{Noted, noted, values_of, all_plain}
 use Rattle.format.specs.Lent.{Reply, fits, written, needed, sets-front}
 use Rattle.format.specs.WayData.{Node, concat, node_count}
 use Rattle.format.specs.Nodes.{latitude_of, longitude_of, node_counts, latitudes, longitudes, way_lists}
-use Rattle.way_measure.specs.Answers.{sizes_of, way_sizes, way_data_res, way_data_refusal}
+use Rattle.way_measure.specs.Answers.{sizes_of, way_sizes}
 use Rattle.way_measure.specs.declared.Sizes.{Sizes}
-use Rattle.way_measure.specs.declared.WayDataRead.{WayDataRead}
-use Rattle.way_measure.specs.declared.WayDataRead.TheVariants as way-data
-use Rattle.way_data.specs.Reply.{lent, written_refusal, read_way_data}
+use Rattle.way_data.specs.Reply.{lent, read_way_data}
 use Rattle.way_data.specs.Writes.{shorter, too_short, BlocksFit, BlocksWritten}
 use Rattle.way_data.specs.declared.Progress.{Progress}
-use Rattle.way_data.specs.declared.WayDataWritten.{WayDataWritten}
-use Rattle.way_data.specs.declared.WayDataWritten.TheVariants as data-written
 use Rattle.way_data.proofs.BlockLaws.{length-along}
 
 abbrev WayData : Type 0
 WayData = Res (List (Noted (List (List Node))))
 
-pub written-refused : (g : WayDataWritten) (e : LentRefusal) → g ≡ data-written.Refused e → e ≡ written_refusal g
-written-refused g e h = ap written_refusal (sym h)
-
-pub written_none : (g : WayDataWritten) (z : Sizes) (n : ℕ) → g ≡ data-written.Value z n → lent-refusal.Refused Source ≡ written_refusal g
-written_none g z n h = ap written_refusal (sym h)
-
 -- the test of the lengths
 module _ (z : Sizes) (c l o : ℕ) where
-  pub shorter-counts : c < z.blocks → true ≡ shorter z c l o
-  shorter-counts h = rw (lt-ltb c z.blocks h)
-
-  pub shorter-lats : z.blocks ≤ c → l < z.nodes → true ≡ shorter z c l o
-  shorter-lats h k = rw (le-ltb c z.blocks h, lt-ltb l z.nodes k)
-
-  pub shorter-lons : z.blocks ≤ c → z.nodes ≤ l → ltb o z.nodes ≡ shorter z c l o
-  shorter-lons h k = rw (le-ltb c z.blocks h, le-ltb l z.nodes k)
-
   long-enough : shorter z c l o ≡ false → (z.blocks ≤ c) × (z.nodes ≤ l) × (z.nodes ≤ o)
   long-enough h =
       let u = neither (ltb c z.blocks || ltb l z.nodes) (ltb o z.nodes) h in
@@ -99,11 +78,9 @@ module _ (t : Bool) (c : List ℕ) (la lo : List Float) where
   needed-is : (b : Noted (List (List Node))) → needed (way_lists t b.value) ≡ lent_values (too_short (sizes_of b))
   needed-is b = rw (length-map b.value length, length-along t latitude_of b.value, length-along t longitude_of b.value) refl
 
-  pub reply-no : (r : WayData) (g : WayDataRead) (x y : Refusal) → way_data_res g ≡ map_res way_sizes r → g ≡ way-data.Refused x → y ≡ way_data_refusal g → unchanged (refused y) ≡ read_way_data t r c la lo
-  reply-no (ok d e) g x y q h w = no_ok (sym (ap way_data_res h) ∙ q)
-  reply-no (no n v) g x y q h w =
-      let k : refused y ≡ no n v = ap refused (w ∙ ap way_data_refusal h) ∙ sym (ap way_data_res h) ∙ q in
-      ap unchanged k
+  pub reply-no : (r : WayData) (x : Refusal) → refused x ≡ map_res way_sizes r → unchanged (refused x) ≡ read_way_data t r c la lo
+  reply-no (ok d e) x q = no_ok q
+  reply-no (no n v) x q = ap unchanged q
 
   module _ (z : Sizes) (e : ℕ) where
     -- what a caller that has measured gets
@@ -151,13 +128,13 @@ module _ (t : Bool) (c : List ℕ) (la lo : List Float) where
           ) (sym (delivered-is (ok d x) m f))
 
     -- the same by the code's answer; v is what the second pass reads
-    module _ (r : WayData) (g : WayDataRead) (q : way_data_res g ≡ map_res way_sizes r) (h : g ≡ way-data.Value z e) (k : Bool) (i : k ≡ shorter z (length c) (length la) (length lo)) where
+    module _ (r : WayData) (q : ok z e ≡ map_res way_sizes r) (k : Bool) (i : k ≡ shorter z (length c) (length la) (length lo)) where
       pub reply-short : (x : LentRefusal) → k ≡ true → x ≡ too_short z → unchanged (lent_refused x) ≡ read_way_data t r c la lo
-      reply-short x j w = rw w (sym (short-is r (sym q ∙ ap way_data_res h) (sym i ∙ j)))
+      reply-short x j w = rw w (sym (short-is r (sym q) (sym i ∙ j)))
 
       module _ (v : Res (List (List (List Node)))) (y : map_res values_of r ≡ v) where
         pub reply-fit : (at : ℕ) → k ≡ false → BlocksFit (map_res concat v) (record { next = at; blocks = 0; nodes = 0 }) c la lo
-        reply-fit at j = rw y at (fit-as at (sym i ∙ j) r (sym q ∙ ap way_data_res h))
+        reply-fit at j = rw y at (fit-as at (sym i ∙ j) r (sym q))
 
         pub reply-done : (at : ℕ) (p : Progress) (c' : List ℕ) (la' lo' : List Float) → k ≡ false → BlocksWritten t (map_res concat v) (record { next = at; blocks = 0; nodes = 0 }) c la lo p c' la' lo' → ◌≡◌ {A = Reply (Res Sizes)} (record { answer = ok z e; lists = lent c' la' lo' }) (read_way_data t r c la lo)
-        reply-done at p c' la' lo' j w = done-as at (sym i ∙ j) r p c' la' lo' (sym q ∙ ap way_data_res h) (rw (← y) at w)
+        reply-done at p c' la' lo' j w = done-as at (sym i ∙ j) r p c' la' lo' (sym q) (rw (← y) at w)

@@ -11,12 +11,12 @@ use Rattle.format.specs.WayData.{Node, node_count}
 use Rattle.format.specs.Nodes.{zero64, next_delta, later_nodes, block_nodes, latitude_of, longitude_of, node_counts, latitudes, longitudes}
 use Rattle.error.specs.declared.LentRefusal.{LentRefusal}
 use Rattle.error.specs.declared.LentRefusal.TheVariants.{Short}
+use Rattle.utils.specs.declared.Microdegrees.{Microdegrees}
+use Rattle.way_measure.specs.Answers.{node_held}
 use Rattle.way_measure.specs.declared.Node.{Node as CodeNode}
 use Rattle.way_measure.specs.declared.Sizes.{Sizes}
 use Rattle.way_data.specs.declared.Cursor.{Cursor}
 use Rattle.way_data.specs.declared.Progress.{Progress}
-use Rattle.way_data.specs.declared.StoredCoordinate.{StoredCoordinate}
-use Rattle.way_data.specs.declared.StoredNode.{StoredNode}
 
 -- whether a list is shorter than what goes to it, by the lists' lengths
 abbrev pub shorter : Sizes → ℕ → ℕ → ℕ → Bool
@@ -43,12 +43,12 @@ data_block_alone = do
   n ← unsigned
   many block_alone n
 
--- and what it read
-abbrev pub coordinate_res : StoredCoordinate → Res ℤ
-coordinate_res r = ok r.value.0 r.next
+-- and what it read, with the place behind it
+abbrev pub coordinate_res : Microdegrees × ℕ → Res ℤ
+coordinate_res r = ok r.0.0 r.1
 
-abbrev pub node_res : StoredNode → Res Node
-node_res r = ok (record { latitude = r.node.latitude.0; longitude = r.node.longitude.0 }) r.next
+abbrev pub node_res : CodeNode × ℕ → Res Node
+node_res r = ok (node_held r.0) r.1
 
 -- whose coordinates are exact as floats
 abbrev pub Exact : CodeNode → Type 0

@@ -8,29 +8,12 @@ ghost use Rattle.utils.specs.Vbe.{signed_of, coordinate};
 ghost use Rattle.utils.specs.Degree.{degrees};
 ghost use Rattle.format.specs.WayData.{way_data, concat};
 ghost use Rattle.format.specs.Nodes.{next_delta};
-ghost use Rattle.way_data.specs.Reply.{written_refusal, reply, read_way_data};
+ghost use Rattle.way_data.specs.Reply.{reply, read_way_data};
 ghost use Rattle.way_data.specs.Writes.{node_alone, data_block_alone, shorter, too_short, coordinate_res, node_res, Exact, start_at, moved_by, later, in_block, one_block, NodesFit, NodesWritten, BlocksFit, BlocksWritten};
 
-use byte_source::NumberRead;
-use error::{Lengths, LentRefusal, Refusal};
-use utils::{Degrees, MicroRead, Microdegrees};
-use way_measure::{Node, Sizes, WayDataRead};
-
-// The sizes of a way's data that was written, with the place behind it, or why none was.
-#[derive(Clone, Copy)]
-pub enum WayDataWritten {
-    Value(Sizes, usize),
-    Refused(LentRefusal),
-}
-
-pub fn way_data_refusal(got: WayDataWritten) -> LentRefusal
-    ensures { result ≡ written_refusal got }
-{
-    match got {
-        WayDataWritten::Refused(r) => r,
-        WayDataWritten::Value(_, _) => LentRefusal::Refused(Refusal::Source),
-    }
-}
+use error::{Lengths, LentRefusal};
+use utils::{Degrees, Microdegrees};
+use way_measure::{Node, Sizes};
 
 // The last node of a block in degrees, and the delta that led to it.
 #[derive(Clone, Copy)]
@@ -39,20 +22,6 @@ struct Cursor {
     longitude: f64,
     dlat: f64,
     dlon: f64,
-}
-
-// A coordinate as stored, and the place behind it.
-#[derive(Clone, Copy)]
-struct StoredCoordinate {
-    value: Microdegrees,
-    next: usize,
-}
-
-// A node as stored, and the place behind it.
-#[derive(Clone, Copy)]
-struct StoredNode {
-    node: Node,
-    next: usize,
 }
 
 // Where the second pass is, in the map and in the lists of blocks and of nodes.
@@ -72,7 +41,8 @@ fn next_delta(double: bool, delta: f64, stored: f64) -> f64
     stored
 }
 
-// In degrees. The first pass has read it, so it is at most 2^53, and the cast is exact.
+// In degrees. The first pass has read it, so it is at most 2^53, and the cast is exact:
+// `microdegrees_to_degrees` would ask again, for each coordinate of the second pass.
 fn exact_degrees(m: Microdegrees) -> Degrees
     requires { nat_abs m.0 ≤ 2 ^ 53 }
     ensures { result.0 ≡ degrees m.0 }
@@ -85,10 +55,8 @@ fn first_node(n: Node) -> Cursor
     requires { Exact n }
     ensures { result ≡ start_at n }
 {
-    let latitude = n.latitude;
-    let longitude = n.longitude;
-    let lat = exact_degrees(latitude);
-    let lon = exact_degrees(longitude);
+    let lat = exact_degrees(n.latitude);
+    let lon = exact_degrees(n.longitude);
     Cursor {
         latitude: lat.0,
         longitude: lon.0,
@@ -113,13 +81,7 @@ fn next_node(last: Cursor, double: bool, n: Node) -> Cursor
     }
 }
 
-fn wide(x: u8) -> u64
-    ensures { result ≡ x }
-{
-    x as u64
-}
-
-// The microdegrees of this magnitude, negative unless `sign` is 0.
+// The microdegrees of this magnitude, negative unless `sign` is 0. As in utils, where it is private.
 fn signed_of(v: u64, sign: u64) -> Microdegrees
     requires { v < 2 ^ 63 }
     ensures { result.0 ≡ signed_of v sign }
@@ -131,66 +93,50 @@ fn signed_of(v: u64, sign: u64) -> Microdegrees
     Microdegrees(0 - m)
 }
 
-// A coordinate of any length. The first pass has read it, so it is not refused.
-fn long_coordinate(map: &[u8], at: usize) -> StoredCoordinate
+// A coordinate of any length, and the place behind it. The first pass has read it, so it is not refused.
+fn long_coordinate(map: &[u8], at: usize) -> (Microdegrees, usize)
     requires { Fine (coordinate map.now at) }
     ensures { coordinate_res result ≡ coordinate map.now at }
 {
-    let got = utils::read_microdegrees(map, at);
-    let MicroRead::Value(c, next) = got else {
-        return StoredCoordinate {
-            value: Microdegrees(0),
-            next: at,
-        };
+    let Ok((coordinate, next)) = utils::read_microdegrees(map, at) else {
+        return (Microdegrees(0), at);
     };
-    let value = c.value;
-    StoredCoordinate { value, next }
+    (coordinate.value, next)
 }
 
 // The same, read here where it has at most three bytes, as nearly all have.
-fn known_coordinate(map: &[u8], at: usize) -> StoredCoordinate
+fn known_coordinate(map: &[u8], at: usize) -> (Microdegrees, usize)
     requires { Fine (coordinate map.now at) }
     ensures { coordinate_res result ≡ coordinate map.now at }
 {
-    let a = wide(map[at]);
+    let a = map[at] as u64;
     if a < 128 {
-        return StoredCoordinate {
-            value: signed_of(a % 64, a / 64),
-            next: at + 1,
-        };
+        return (signed_of(a % 64, a / 64), at + 1);
     }
-    let b = wide(map[at + 1]);
+    let b = map[at + 1] as u64;
     if b < 128 {
-        return StoredCoordinate {
-            value: signed_of(a % 128 + 128 * (b % 64), b / 64),
-            next: at + 2,
-        };
+        return (signed_of(a % 128 + 128 * (b % 64), b / 64), at + 2);
     }
-    let c = wide(map[at + 2]);
+    let c = map[at + 2] as u64;
     if c < 128 {
-        return StoredCoordinate {
-            value: signed_of(a % 128 + 128 * (b % 128) + 16384 * (c % 64), c / 64),
-            next: at + 3,
-        };
+        let magnitude = a % 128 + 128 * (b % 128) + 16384 * (c % 64);
+        return (signed_of(magnitude, c / 64), at + 3);
     }
     long_coordinate(map, at)
 }
 
-fn known_node(map: &[u8], at: usize) -> StoredNode
+// A node, and the place behind it.
+fn known_node(map: &[u8], at: usize) -> (Node, usize)
     requires { Fine (node_alone map.now at) }
     ensures { node_res result ≡ node_alone map.now at }
 {
-    let lat = known_coordinate(map, at);
-    let lon = known_coordinate(map, lat.next);
-    let latitude = lat.value;
-    let longitude = lon.value;
-    StoredNode {
-        node: Node {
-            latitude,
-            longitude,
-        },
-        next: lon.next,
-    }
+    let (latitude, next) = known_coordinate(map, at);
+    let (longitude, next) = known_coordinate(map, next);
+    let node = Node {
+        latitude,
+        longitude,
+    };
+    (node, next)
 }
 
 // The nodes behind the first.
@@ -209,16 +155,12 @@ fn write_later(
 {
     let mut last = first;
     let mut next = at;
-    let mut left = n;
-    let mut pos = from;
-    while 0 < left {
-        let got = known_node(map, next);
-        last = next_node(last, double, got.node);
+    for pos in from..from + n as usize {
+        let (node, after) = known_node(map, next);
+        last = next_node(last, double, node);
         latitudes[pos] = last.latitude;
         longitudes[pos] = last.longitude;
-        pos += 1;
-        next = got.next;
-        left -= 1;
+        next = after;
     }
     next
 }
@@ -239,13 +181,13 @@ fn write_nodes(
     if n < 1 {
         return at;
     }
-    let got = known_node(map, at);
-    let first = first_node(got.node);
+    let (node, next) = known_node(map, at);
+    let first = first_node(node);
     latitudes[from] = first.latitude;
     longitudes[from] = first.longitude;
     write_later(
         map,
-        got.next,
+        next,
         n - 1,
         double,
         first,
@@ -266,19 +208,16 @@ fn write_block(
     requires { BlocksFit (one_block map.now from.next) from counts.old latitudes.old longitudes.old }
     ensures { BlocksWritten double (one_block map.now from.next) from counts.old latitudes.old longitudes.old result counts.new latitudes.new longitudes.new }
 {
-    let at = from.next;
-    let block = from.blocks;
-    let node = from.nodes;
-    let got = utils::read_number(map, at);
-    let NumberRead::Value(n, start) = got else {
+    let Ok((n, start)) = utils::read_number(map, from.next) else {
         return from;
     };
+    let block = from.blocks;
     counts[block] = n;
-    let next = write_nodes(map, start, n, double, latitudes, longitudes, node);
+    let next = write_nodes(map, start, n, double, latitudes, longitudes, from.nodes);
     Progress {
         next,
         blocks: block + 1,
-        nodes: node + n as usize,
+        nodes: from.nodes + n as usize,
     }
 }
 
@@ -295,10 +234,8 @@ fn write_blocks(
     ensures { BlocksWritten double (map_res concat (many one_block n map.now from.next)) from counts.old latitudes.old longitudes.old result counts.new latitudes.new longitudes.new }
 {
     let mut place = from;
-    let mut left = n;
-    while 0 < left {
+    for _ in 0..n {
         place = write_block(map, place, double, counts, latitudes, longitudes);
-        left -= 1;
     }
     place
 }
@@ -314,18 +251,10 @@ fn write_data_block(
     requires { BlocksFit (data_block_alone map.now from.next) from counts.old latitudes.old longitudes.old }
     ensures { BlocksWritten double (data_block_alone map.now from.next) from counts.old latitudes.old longitudes.old result counts.new latitudes.new longitudes.new }
 {
-    let at = from.next;
-    let block = from.blocks;
-    let node = from.nodes;
-    let got = utils::read_number(map, at);
-    let NumberRead::Value(n, start) = got else {
+    let Ok((n, next)) = utils::read_number(map, from.next) else {
         return from;
     };
-    let place = Progress {
-        next: start,
-        blocks: block,
-        nodes: node,
-    };
+    let place = Progress { next, ..from };
     write_blocks(map, place, n, double, counts, latitudes, longitudes)
 }
 
@@ -343,10 +272,8 @@ fn write_way_data(
     ensures { BlocksWritten double (map_res concat (many data_block_alone n map.now from.next)) from counts.old latitudes.old longitudes.old result counts.new latitudes.new longitudes.new }
 {
     let mut place = from;
-    let mut left = n;
-    while 0 < left {
+    for _ in 0..n {
         place = write_data_block(map, place, double, counts, latitudes, longitudes);
-        left -= 1;
     }
     place
 }
@@ -355,13 +282,7 @@ fn write_way_data(
 fn shorter(s: Sizes, counts: usize, latitudes: usize, longitudes: usize) -> bool
     ensures { result ≡ shorter s counts latitudes longitudes }
 {
-    if (counts as u64) < s.blocks {
-        return true;
-    }
-    if (latitudes as u64) < s.nodes {
-        return true;
-    }
-    (longitudes as u64) < s.nodes
+    (counts as u64) < s.blocks || (latitudes as u64) < s.nodes || (longitudes as u64) < s.nodes
 }
 
 // The refusal that gives the lengths needed: of the node counts, the latitudes and the longitudes.
@@ -387,15 +308,12 @@ pub fn read_way_data(
     node_counts: &mut [u64],
     latitudes: &mut [f64],
     longitudes: &mut [f64],
-) -> WayDataWritten
+) -> Result<(Sizes, usize), LentRefusal>
     ensures { reply result node_counts.new latitudes.new longitudes.new ≡ read_way_data double (way_data data_blocks map.now at) node_counts.old latitudes.old longitudes.old }
 {
-    let got = way_measure::measure_way_data(map, at, data_blocks);
-    let WayDataRead::Value(s, end) = got else {
-        return WayDataWritten::Refused(LentRefusal::Refused(way_measure::way_data_refusal(got)));
-    };
-    if shorter(s, node_counts.len(), latitudes.len(), longitudes.len()) {
-        return WayDataWritten::Refused(too_short(s));
+    let (sizes, end) = way_measure::measure_way_data(map, at, data_blocks)?;
+    if shorter(sizes, node_counts.len(), latitudes.len(), longitudes.len()) {
+        return Err(too_short(sizes));
     }
     let from = Progress {
         next: at,
@@ -411,5 +329,5 @@ pub fn read_way_data(
         latitudes,
         longitudes,
     );
-    WayDataWritten::Value(s, end)
+    Ok((sizes, end))
 }

@@ -1,6 +1,6 @@
 -- A way's lists as they are written from where its body starts: document 01, way.rs (a block's initial position is its node 0) and "The
 -- stream and the collected tile" (node counts, latitudes and longitudes at the fronts of lent lists, those of each block at two more).
-use Rattle.std.specs.Prelude.{ℕ, cond, ◌≡◌, List, Float, take}
+use Rattle.std.specs.Prelude.{ℕ, ◌≡◌, List, Float, take}
 use Rattle.format.specs.Lent.{deliver}
 use Rattle.format.specs.BodyLists.{body_lists}
 use Rattle.format.specs.Tile.{body}
@@ -9,9 +9,9 @@ use Rattle.way_data.specs.Reply.{lent}
 use Rattle.initial_positions.specs.Initial.{write_initials}
 use Rattle.way_lists.specs.declared.ListPlan.{ListPlan}
 
--- the lists before and after: the body's, where it is present, can be read and has room; and the initial positions found in what the
+-- the lists before and after: the body's, where it can be read and has room; and the initial positions found in what the
 -- lists hold then
 pub record ListsWritten (m : List ℕ) (p : ListPlan) (c : List ℕ) (la lo il io : List Float) (c' : List ℕ) (la' lo' il' io' : List Float) : Type 0 where
-  pub nodes : lent c' la' lo' ≡ cond p.present (deliver body_of body_lists (body m p.start) (lent c la lo)).lists (lent c la lo)
-  pub latitudes : il' ≡ cond p.present (write_initials (take p.blocks c') la' il) il
-  pub longitudes : io' ≡ cond p.present (write_initials (take p.blocks c') lo' io) io
+  pub nodes : lent c' la' lo' ≡ (deliver body_of body_lists (body m p.start) (lent c la lo)).lists
+  pub latitudes : il' ≡ write_initials (take p.blocks c') la' il
+  pub longitudes : io' ≡ write_initials (take p.blocks c') lo' io

@@ -1,24 +1,13 @@
 // way.rs: a way's nodes and its blocks' initial positions, written to lent lists.
 #![tactic(auto)]
 
-ghost use Rattle.std.specs.Prelude.{◌≡◌, min};
 ghost use Rattle.way_lists.specs.WayLists.{ListsWritten};
 
-// Where a way's body starts and how many blocks it has. Of a way that is not present nothing is written.
+// Where a way's body starts and how many blocks it has.
 #[derive(Clone, Copy)]
 pub struct ListPlan {
     pub start: usize,
     pub blocks: usize,
-    pub present: bool,
-}
-
-fn smaller(a: usize, b: usize) -> usize
-    ensures { result ≡ min a b }
-{
-    if a < b {
-        return a;
-    }
-    b
 }
 
 // What is planned of a way's body. If one of the first three lists is too short, all three stay as they are, and the initial positions
@@ -34,11 +23,10 @@ pub fn write_lists(
 )
     ensures { ListsWritten map.now plan node_counts.old latitudes.old longitudes.old initial_latitudes.old initial_longitudes.old node_counts.new latitudes.new longitudes.new initial_latitudes.new initial_longitudes.new }
 {
-    if plan.present {
-        way::read_way_body(map, plan.start, node_counts, latitudes, longitudes);
-        let n = smaller(plan.blocks, node_counts.len());
-        let counts = &node_counts[..n];
-        initial_positions::write_initials(counts, latitudes, initial_latitudes);
-        initial_positions::write_initials(counts, longitudes, initial_longitudes);
-    }
+    // a body that is refused writes nothing
+    let _ = way::read_way_body(map, plan.start, node_counts, latitudes, longitudes);
+    let n = plan.blocks.min(node_counts.len());
+    let counts = &node_counts[..n];
+    initial_positions::write_initials(counts, latitudes, initial_latitudes);
+    initial_positions::write_initials(counts, longitudes, initial_longitudes);
 }

@@ -14,36 +14,17 @@ use Rattle.parsing.specs.Parse.{Res, ok, no, Parser, and_then, map_res, bind, re
 use Rattle.parsing.specs.Good.{Weight, total, strict-weight, bind-weight, pick-weight, fail-weight, more-weight, split, ok-val, ok_at, no_ok}
 use Rattle.parsing.proofs.GoodLaws.{many-weight}
 use Rattle.parsing.proofs.Loops.{fold_more, counted, many-count}
+use Rattle.std.specs.Prelude.{Some}
 use Rattle.error.specs.Refusals.{refused}
 use Rattle.error.specs.declared.Refusal.{Refusal}
-use Rattle.byte_source.proofs.ReadLaws.{Taken, taken, loop-no}
+use Rattle.byte_source.proofs.ReadLaws.{loop-refused, handed-up}
 use Rattle.utils.specs.Vbe.{Noted, noted, values_of, all_plain, noted_coordinate, noted_unsigned-strict}
-use Rattle.utils.specs.Answers.{vbe_res, vbe_refusal}
-use Rattle.utils.specs.declared.Number.{Number}
-use Rattle.utils.specs.declared.VbeRead.{VbeRead}
-use Rattle.utils.specs.declared.VbeRead.TheVariants as vbe
 use Rattle.utils.proofs.NumberLaws.{reads}
 use Rattle.coordinates.specs.Skip.{skip_of}
-use Rattle.coordinates.specs.declared.Skip.{Skip}
-use Rattle.coordinates.specs.declared.Skip.TheVariants as skip
 use Rattle.coordinates.proofs.SkipLaws.{skipped, plain-snoc}
 use Rattle.format.specs.WayData.{Node, node, block, data_block, concat, node_count, counted as together, node-strict}
-use Rattle.way_measure.specs.Answers.{node_res, node_refusal, count_of, nodes_count, sizes_of, blocks_sizes, way_sizes, way_data_res, way_data_refusal}
-use Rattle.way_measure.specs.declared.Node.{Node as CodeNode}
-use Rattle.way_measure.specs.declared.NodeRead.{NodeRead}
-use Rattle.way_measure.specs.declared.NodeRead.TheVariants as node-read
+use Rattle.way_measure.specs.Answers.{count_of, nodes_count, sizes_of, blocks_sizes, way_sizes}
 use Rattle.way_measure.specs.declared.Sizes.{Sizes}
-use Rattle.way_measure.specs.declared.WayDataRead.{WayDataRead}
-use Rattle.way_measure.specs.declared.WayDataRead.TheVariants as way-data
-
-pub node-refused : Taken node_refusal node-read.Refused
-node-refused g e h = taken node_refusal h refl
-
-pub way-data-refused : Taken way_data_refusal way-data.Refused
-way-data-refused g e h = taken way_data_refusal h refl
-
-abbrev number_of : Number → Noted ℕ
-number_of n = noted n.value n.plain
 
 -- sizes of lists that grow
 pub values-append : {A : Type 0} (xs ys : List (Noted A)) → values_of (xs ++ ys) ≡ values_of xs ++ values_of ys
@@ -85,13 +66,12 @@ way-snoc xs b = rw (values-append xs (b ∷ []), concat-snoc, length-append, cou
 abbrev flag : Noted Node → Bool
 flag x = x.plain
 
-module _ (b : Bool) (s : List ℕ) (i at n : ℕ) (a : Bool) (g : NodeRead) (e : map_res (nodes_count b) (many node i s at) ≡ ok (noted i a) n) (q : node_res g ≡ node s n) where
-  pub nodes-more : (k : ℕ) (v : CodeNode) (p : Bool) → g ≡ node-read.Value v p k → map_res (nodes_count b) (many node (i + 1) s at) ≡ ok (noted (i + 1) (a && p)) k
-  nodes-more k v p h = fold_more node s (nodes_count b) flag one_more (count-snoc b) i at e (ap (map_res flag) (sym q ∙ ap node_res h))
+module _ (b : Bool) (s : List ℕ) (i at n : ℕ) (a : Bool) (e : map_res (nodes_count b) (many node i s at) ≡ ok (noted i a) n) where
+  pub nodes-more : (k : ℕ) (v : Noted Node) → ok v k ≡ node s n → map_res (nodes_count b) (many node (i + 1) s at) ≡ ok (noted (i + 1) (a && v.plain)) k
+  nodes-more k v q = fold_more node s (nodes_count b) flag one_more (count-snoc b) i at e (ap (map_res flag) (sym q))
 
-  pub nodes-stop : (k : ℕ) (x y : Refusal) → g ≡ node-read.Refused x → y ≡ node_refusal g → i < k → refused y ≡ map_res (nodes_count b) (many node k s at)
-  nodes-stop k x y h w d =
-      ap (map_res (nodes_count b)) (loop-no (λ g. map_res flag (node_res g)) node_refusal node (nodes_count b) flag s i k at e (ap (map_res flag) q) h w refl refl d)
+  pub nodes-stop : (k : ℕ) (x : Refusal) → refused x ≡ node s n → i < k → refused x ≡ map_res (nodes_count b) (many node k s at)
+  nodes-stop k x q d = ap (map_res (nodes_count b)) (loop-refused node (nodes_count b) flag s i k at n _ x (sym e) (ap (map_res flag) q) d)
 
 pub nodes-none : (b : Bool) (s : List ℕ) (at : ℕ) → map_res (nodes_count b) (many node 0 s at) ≡ ok (noted 0 b) at
 nodes-none b s at = rw (and-true b)
@@ -151,9 +131,9 @@ paired s (suc n) at l e h =
         subst (λ (r : List (Noted ℤ)). Paired s (suc n) at e (all_plain r)) (ap (λ (r : List (Noted ℤ)). a.value ∷ r) o.all ∙ a.all)
         (pair s n at a.next o.next e a.value o.value o.others a.is o.is (ih o.next o.others o.rest))
 
-pub skip-nodes : (b : Bool) (s : List ℕ) (at n e : ℕ) (p : Bool) (g : Skip) → g ≡ skip_of s at (2 * n) → g ≡ skip.At p e → ok (noted n (b && p)) e ≡ map_res (nodes_count b) (many node n s at)
-skip-nodes b s at n e p g q h =
-    let u = split (many noted_coordinate (2 * n) s at) (λ l x. ok (all_plain l) x) p e (skipped s (2 * n) at e p g q h) in
+pub skip-nodes : (b : Bool) (s : List ℕ) (at n e : ℕ) (p : Bool) → Some (p, e) ≡ skip_of s at (2 * n) → ok (noted n (b && p)) e ≡ map_res (nodes_count b) (many node n s at)
+skip-nodes b s at n e p h =
+    let u = split (many noted_coordinate (2 * n) s at) (λ l x. ok (all_plain l) x) p e (skipped s (2 * n) at e p h) in
     let w = twice u.val u.mid u.first in
     let c = many-count node s n at w.list u.mid w.is in
     counts w.list u.mid w.is (values-count w.list ∙ c) (w.plain ∙ ok-val u.second) (ok_at u.second)
@@ -225,66 +205,67 @@ weighed {A = A} {B = B} f g p w s at b e h = go (p s at) refl h
 abbrev weight_of : Sizes → ℕ
 weight_of z = z.blocks + z.nodes
 
--- a loop that adds sizes up, stated once: f of the values of p that were read, and `size` of what an answer says of the next one
-module _ {A C D G : Type 0} (p : Parser A) (f : List A → Sizes) (w : A → C) (size : C → Sizes) (of : D → C) (res : G → Res C) (value : D → ℕ → G) where
+-- a loop that adds sizes up, stated once: f of the values of p that were read, and `size` of the view w of the next one
+module _ {A C : Type 0} (p : Parser A) (f : List A → Sizes) (w : A → C) (size : C → Sizes) where
   abbrev pub Adds : Type 0
-  Adds = (s : List ℕ) (i at n y z : ℕ) (b : Bool) (k : ℕ) (c : D) (g : G) → map_res f (many p i s at) ≡ ok (record { blocks = y; nodes = z; plain = b }) n → res g ≡ map_res w (p s n) → g ≡ value c k → map_res f (many p (i + 1) s at) ≡ ok (record { blocks = y + (size (of c)).blocks; nodes = z + (size (of c)).nodes; plain = b && (size (of c)).plain }) k
+  Adds = (s : List ℕ) (i at n y z : ℕ) (b : Bool) (k : ℕ) (c : C) → map_res f (many p i s at) ≡ ok (record { blocks = y; nodes = z; plain = b }) n → ok c k ≡ map_res w (p s n) → map_res f (many p (i + 1) s at) ≡ ok (record { blocks = y + (size c).blocks; nodes = z + (size c).nodes; plain = b && (size c).plain }) k
 
   abbrev pub Fit : (Sizes → ℕ) → Type 0
-  Fit part = (s : List ℕ) (i at n y z : ℕ) (b : Bool) (k : ℕ) (c : D) (g : G) → map_res f (many p i s at) ≡ ok (record { blocks = y; nodes = z; plain = b }) n → res g ≡ map_res w (p s n) → g ≡ value c k → k < 2 ^ 64 → Fits w64 (part (record { blocks = y; nodes = z; plain = b }) + part (size (of c)))
+  Fit part = (s : List ℕ) (i at n y z : ℕ) (b : Bool) (k : ℕ) (c : C) → map_res f (many p i s at) ≡ ok (record { blocks = y; nodes = z; plain = b }) n → ok c k ≡ map_res w (p s n) → k < 2 ^ 64 → Fits w64 (part (record { blocks = y; nodes = z; plain = b }) + part (size c))
 
-  module _ (is : (c : D) (k : ℕ) → res (value c k) ≡ ok (of c) k) where
-    adds : ((xs : List A) (v : A) → f (xs ++ (v ∷ [])) ≡ plus (f xs) (size (w v))) → Adds
-    adds law s i at n y z b k c g e q h = fold_more p s f w (λ a b. plus a (size b)) law i at e (sym q ∙ ap res h ∙ is c k)
+  abbrev pub Ends : Type 0
+  Ends = (s : List ℕ) (i at n y z : ℕ) (b : Bool) (k : ℕ) (x : Refusal) → map_res f (many p i s at) ≡ ok (record { blocks = y; nodes = z; plain = b }) n → refused x ≡ map_res w (p s n) → i < k → refused x ≡ map_res f (many p k s at)
 
-    fit : ((n : ℕ) → Weight (many p n) (λ l. weight_of (f l))) → Weight p (λ a. weight_of (size (w a))) → (part : Sizes → ℕ) → ((z : Sizes) → part z ≤ weight_of z) → Fit part
-    fit all one part low s i at n y z b k c g e q h d =
-        let r : Sizes = record { blocks = y; nodes = z; plain = b } in
-        let u = weighed f weight_of (many p i) (all i) s at r n e in
-        let v = weighed w (λ x. weight_of (size x)) p one s n (of c) k (sym q ∙ ap res h ∙ is c k) in
-        let o : part r ≤ y + z = low r in
-        let t : part (size (of c)) ≤ (size (of c)).blocks + (size (of c)).nodes = low (size (of c)) in
-        omega arith
+  adds : ((xs : List A) (v : A) → f (xs ++ (v ∷ [])) ≡ plus (f xs) (size (w v))) → Adds
+  adds law s i at n y z b k c e q = fold_more p s f w (λ a b. plus a (size b)) law i at e (sym q)
+
+  fit : ((n : ℕ) → Weight (many p n) (λ l. weight_of (f l))) → Weight p (λ a. weight_of (size (w a))) → (part : Sizes → ℕ) → ((z : Sizes) → part z ≤ weight_of z) → Fit part
+  fit all one part low s i at n y z b k c e q d =
+      let r : Sizes = record { blocks = y; nodes = z; plain = b } in
+      let u = weighed f weight_of (many p i) (all i) s at r n e in
+      let v = weighed w (λ x. weight_of (size x)) p one s n c k (sym q) in
+      let o : part r ≤ y + z = low r in
+      let t : part (size c) ≤ (size c).blocks + (size c).nodes = low (size c) in
+      omega arith
+
+  ends : Ends
+  ends s i at n y z b k x e q d = ap (map_res f) (loop-refused p f w s i k at n _ x (sym e) q d)
 
 -- blocks
 module _ (p : Bool) where
-  pub blocks_more : Adds block (blocks_sizes p) count_of one_block number_of vbe_res vbe.Value
-  blocks_more = adds block (blocks_sizes p) count_of one_block number_of vbe_res vbe.Value (λ c k. refl) (sizes-snoc p)
+  pub blocks_more : Adds block (blocks_sizes p) count_of one_block
+  blocks_more = adds block (blocks_sizes p) count_of one_block (sizes-snoc p)
 
-  pub blocks-fit : Fit block (blocks_sizes p) count_of one_block number_of vbe_res vbe.Value (λ z. z.nodes)
-  blocks-fit =
-      fit block (blocks_sizes p) count_of one_block number_of vbe_res vbe.Value (λ c k. refl) blocks-weight (more-weight block-weight (λ b. omega arith)) (λ z. z.nodes) (λ z. omega arith)
+  pub blocks-fit : Fit block (blocks_sizes p) count_of one_block (λ z. z.nodes)
+  blocks-fit = fit block (blocks_sizes p) count_of one_block blocks-weight (more-weight block-weight (λ b. omega arith)) (λ z. z.nodes) (λ z. omega arith)
 
-  pub blocks-stop : (s : List ℕ) (i at n w : ℕ) (a : Bool) (k : ℕ) (g : VbeRead) (x y : Refusal) → map_res (blocks_sizes p) (many block i s at) ≡ ok (record { blocks = i; nodes = w; plain = a }) n → vbe_res g ≡ map_res count_of (block s n) → g ≡ vbe.Refused x → y ≡ vbe_refusal g → i < k → refused y ≡ map_res (blocks_sizes p) (many block k s at)
-  blocks-stop s i at n w a k g x y e q h z b = ap (map_res (blocks_sizes p)) (loop-no vbe_res vbe_refusal block (blocks_sizes p) count_of s i k at e q h z refl refl b)
+  pub blocks-stop : Ends block (blocks_sizes p) count_of one_block
+  blocks-stop = ends block (blocks_sizes p) count_of one_block
 
   pub blocks-none : (s : List ℕ) (at : ℕ) → map_res (blocks_sizes p) (many block 0 s at) ≡ ok (record { blocks = 0; nodes = 0; plain = p }) at
   blocks-none s at = rw (and-true p)
 
 -- data blocks
-data-fits : (part : Sizes → ℕ) → ((z : Sizes) → part z ≤ weight_of z) → Fit data_block way_sizes sizes_of (λ z. z) (λ z. z) way_data_res way-data.Value part
-data-fits =
-    fit data_block way_sizes sizes_of (λ z. z) (λ z. z) way_data_res way-data.Value (λ c k. refl) data-weight (more-weight data_block-weight (λ b. omega arith))
+data-fits : (part : Sizes → ℕ) → ((z : Sizes) → part z ≤ weight_of z) → Fit data_block way_sizes sizes_of (λ z. z) part
+data-fits = fit data_block way_sizes sizes_of (λ z. z) data-weight (more-weight data_block-weight (λ b. omega arith))
 
-pub data-more : Adds data_block way_sizes sizes_of (λ z. z) (λ z. z) way_data_res way-data.Value
-data-more = adds data_block way_sizes sizes_of (λ z. z) (λ z. z) way_data_res way-data.Value (λ c k. refl) way-snoc
+pub data-more : Adds data_block way_sizes sizes_of (λ z. z)
+data-more = adds data_block way_sizes sizes_of (λ z. z) way-snoc
 
-pub data-fits-blocks : Fit data_block way_sizes sizes_of (λ z. z) (λ z. z) way_data_res way-data.Value (λ z. z.blocks)
+pub data-fits-blocks : Fit data_block way_sizes sizes_of (λ z. z) (λ z. z.blocks)
 data-fits-blocks = data-fits (λ z. z.blocks) (λ z. omega arith)
 
-pub data-fits-nodes : Fit data_block way_sizes sizes_of (λ z. z) (λ z. z) way_data_res way-data.Value (λ z. z.nodes)
+pub data-fits-nodes : Fit data_block way_sizes sizes_of (λ z. z) (λ z. z.nodes)
 data-fits-nodes = data-fits (λ z. z.nodes) (λ z. omega arith)
 
-pub data-stop : (s : List ℕ) (i at n y w : ℕ) (a : Bool) (k : ℕ) (g : WayDataRead) (x z : Refusal) → map_res way_sizes (many data_block i s at) ≡ ok (record { blocks = y; nodes = w; plain = a }) n → way_data_res g ≡ map_res sizes_of (data_block s n) → g ≡ way-data.Refused x → z ≡ way_data_refusal g → i < k → refused z ≡ map_res way_sizes (many data_block k s at)
-data-stop s i at n y w a k g x z e q h r b = ap (map_res way_sizes) (loop-no way_data_res way_data_refusal data_block way_sizes sizes_of s i k at e q h r refl refl b)
-
-pub ruleset refusals = (rules, node-refused, way-data-refused)
+pub data-stop : Ends data_block way_sizes sizes_of (λ z. z)
+data-stop = ends data_block way_sizes sizes_of (λ z. z)
 
 pub ruleset measures = (reads, skip-nodes)
 
 -- each loop by its own laws alone
-pub ruleset over-nodes = (rules, counted, nodes-none, nodes-more, nodes-stop)
+pub ruleset over-nodes = (rules, counted, handed-up, nodes-none, nodes-more, nodes-stop)
 
-pub ruleset over-blocks = (rules, counted, blocks-none, blocks_more, blocks-stop, blocks-fit)
+pub ruleset over-blocks = (rules, counted, handed-up, blocks-none, blocks_more, blocks-stop, blocks-fit)
 
-pub ruleset over-data = (rules, counted, data-more, data-stop, data-fits-blocks, data-fits-nodes)
+pub ruleset over-data = (rules, counted, handed-up, data-more, data-stop, data-fits-blocks, data-fits-nodes)

@@ -1,11 +1,9 @@
 -- One axis on unsigned numbers.
-use Prim.Native.Nat.{ℕ, ◌+◌, ◌-◌, ◌/◌, ◌^◌, ◌≤◌, ◌<◌}
+use Prim.Native.Nat.{ℕ, ◌+◌, ◌-◌, ◌/◌, ◌≤◌, ◌<◌}
 use native.Mathlib.Omega.{arith}
 use mathlib.Core.Path.{◌≡◌, refl}
 use mathlib.Core.Bool.{Bool, true, false, cond}
 use lib.Dec.{leb}
-use mir.Syntax.{w64}
-use mir.Val.{Fits}
 use borrow.Author.Tests.{le-leb, lt-leb, leb-true, leb-false}
 use Rattle.window.specs.Biased.{biased_first, biased_last, biased_width, biased_count}
 
@@ -33,9 +31,6 @@ last-le gh high = go (leb gh (high / 4)) refl
     go : (t : Bool) → leb gh (high / 4) ≡ t → cond t gh (high / 4) ≤ high / 4
     go true h = leb-true gh (high / 4) h
     go false h = omega arith
-
-pub last-small : (gh high first last : ℕ) → last ≡ biased_last gh high → high < 2 ^ 64 → Fits w64 (last - first + 1)
-last-small gh high first last q h = record { fits = omega (arith, last-le gh high) }
 
 pub first-ge : (gl low : ℕ) → gl ≤ biased_first gl low
 first-ge gl low = go (leb gl (low / 4)) refl

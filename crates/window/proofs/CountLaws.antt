@@ -10,11 +10,8 @@ use mathlib.Core.List.{List, [], ◌∷◌, ◌++◌}
 use lib.ListN.{length, length-append}
 use Rattle.parsing.specs.Parse.{Maybe, none, some, nth}
 use Rattle.format.specs.Index.{Grid, width, good_grid, grid_tiles, answer}
-use Rattle.index.specs.Answers.{grid_res}
-use Rattle.index.specs.declared.GridRead.{GridRead}
-use Rattle.index.specs.declared.GridRead.TheVariants as grid
 use Rattle.index.proofs.GridLaws.{counted-grid, good-size}
-use Rattle.index.proofs.AnswerLaws.{grid-ok}
+use Rattle.byte_source.proofs.ReadLaws.{went-on}
 use Rattle.format.specs.Kinds.{upto}
 use Rattle.format.specs.WayData.{concat}
 use Rattle.window.specs.Window.{Rectangle, Touched, count_of, rows_of, columns_of, touched_tile, touched, window_count, window_tile}
@@ -78,18 +75,18 @@ product_small g rows columns o h k =
     (le_trans (mul-le-mul_right (width g.x_min g.x_max) h)
     (rw (mul_comm (width g.y_min g.y_max) (width g.x_min g.x_max)) (good-size g o)))
 
-module _ (q : GridRead) (n : ℕ) (g : Grid) (e : grid_res q ≡ grid_tiles g) (h : q ≡ grid.Tiles n) where
+module _ (n : ℕ) (g : Grid) (e : answer n ≡ grid_tiles g) where
   pub grid-good : good_grid g ≡ true
-  grid-good = (counted-grid g n (ap grid_res (sym h) ∙ e)).good
+  grid-good = (counted-grid g n e).good
 
   pub product-fits : (rows columns : ℕ) → rows ≤ width g.y_min g.y_max → columns ≤ width g.x_min g.x_max → Fits w64 (rows * columns)
   product-fits rows columns a b = record { fits = omega (arith, product_small g rows columns grid-good a b) }
 
-module _ (q : GridRead) (n : ℕ) (g : Grid) (r : Rectangle) (e : grid_res q ≡ grid_tiles g) (h : q ≡ grid.Tiles n) where
+module _ (n : ℕ) (g : Grid) (r : Rectangle) (e : answer n ≡ grid_tiles g) where
   pub count-answer : (rows columns : ℕ) → rows ≡ rows_of g r → columns ≡ columns_of g r → answer (rows * columns) ≡ window_count g r
   unfolding window_count
   count-answer rows columns a b =
-      grid-ok q n (grid_tiles g) (λ _ _. answer (length (touched g r))) (answer (rows * columns)) e h
+      went-on n 0 (grid_tiles g) (λ _ _. answer (length (touched g r))) (answer (rows * columns)) e
       (ap answer (rw (a, b) (sym (touched-count g r))))
 
   nth-none : {A : Type 0} (l : List A) (k : ℕ) → length l ≤ k → nth l k ≡ none
@@ -99,7 +96,7 @@ module _ (q : GridRead) (n : ℕ) (g : Grid) (r : Rectangle) (e : grid_res q ≡
 
   tile-answer : (k : ℕ) (t : Maybe Touched) → nth (touched g r) k ≡ t → answer t ≡ window_tile g r k
   unfolding window_tile
-  tile-answer k t p = grid-ok q n (grid_tiles g) (λ _ _. answer (nth (touched g r) k)) (answer t) e h (ap answer (sym p))
+  tile-answer k t p = went-on n 0 (grid_tiles g) (λ _ _. answer (nth (touched g r) k)) (answer t) e (ap answer (sym p))
 
   -- none behind the last
   module _ (rows columns k : ℕ) (a : rows ≡ rows_of g r) (b : columns ≡ columns_of g r) where
@@ -116,7 +113,7 @@ module _ (q : GridRead) (n : ℕ) (g : Grid) (r : Rectangle) (e : grid_res q ≡
         tile-answer k none (nth-none (touched g r) k (omega (arith, touched-count g r)))
 
     pub place_is : 1 ≤ columns → k / columns < rows → Place g r (k % columns) (k / columns)
-    place_is c d = record { good = grid-good q n g e h; column = rw (← b) (mod-lt k c); row = rw (← a) d }
+    place_is c d = record { good = grid-good n g e; column = rw (← b) (mod-lt k c); row = rw (← a) d }
 
     pub tile-found : (t : WindowTile) → 1 ≤ columns → k / columns < rows → touched_of t ≡ touched_tile g r (k % columns) (k / columns) → answer (some (touched_of t)) ≡ window_tile g r k
     tile-found t c d p =

@@ -1,4 +1,3 @@
-pub mod BiasLaws
 pub mod AxisLaws
 pub mod SignedLaws
 pub mod MaskLaws

@@ -3,38 +3,17 @@ use Prim.Native.Nat.{ℕ, zero, suc, ◌+◌, ◌*◌, ◌/◌, ◌%◌, ◌^◌
 use native.Mathlib.Numerals.{add-one}
 use native.Mathlib.Nat.{pow-le-pow_right, pow-suc}
 use native.Mathlib.Omega.{arith}
-use mathlib.Core.Path.{◌≡◌, refl, sym, ap, ◌∙◌}
-use mathlib.Core.Bool.{Bool, true, false, cond, not, ◌&&◌}
+use mathlib.Core.Path.{◌≡◌, refl, ◌∙◌}
+use mathlib.Core.Bool.{Bool, true, false, cond}
 use lib.Dec.{lit<}
 use lib.IntN.{ℤ, pos, negsuc, ◌+ℤ◌}
 use lib.Signed.{mag}
 use mir.Syntax.{w32, w64}
 use mir.Val.{SFits}
-use borrow.Author.Tests.{not-true, not-false}
 use Rattle.format.specs.Header.{between}
 use Rattle.window.specs.Window.{Rectangle, four, bits, cell_touched, mask_of}
-use Rattle.window.specs.Biased.{biased, biased_between, biased_cell, cell_bit, biased_mask, Tiles}
-use Rattle.window.proofs.BiasLaws.{back}
-use Rattle.window.proofs.SignedLaws.{order, sum-biased, sum-small, held, back_is, held-is}
-
--- a bit by the tests that the code makes
-pub bit-none : (s t : Bool) (r : Bool) → r ≡ s → not r ≡ true → ◌≡◌ {A = ℕ} 0 (cond (s && t) 1 0)
-bit-none s t r e h =
-    let z : s ≡ false = sym e ∙ not-true r h in
-    rw z
-
-module _ (s t : Bool) (r : Bool) (e : r ≡ s) (h : not r ≡ false) (q : Bool) (d : q ≡ t) where
-  pub bit-row : not q ≡ true → ◌≡◌ {A = ℕ} 0 (cond (s && t) 1 0)
-  bit-row k =
-      let y : s ≡ true = sym e ∙ not-false r h in
-      let z : t ≡ false = sym d ∙ not-true q k in
-      rw (y, z)
-
-  pub bit-some : not q ≡ false → ◌≡◌ {A = ℕ} 1 (cond (s && t) 1 0)
-  bit-some k =
-      let y : s ≡ true = sym e ∙ not-false r h in
-      let z : t ≡ true = sym d ∙ not-false q k in
-      rw (y, z)
+use Rattle.window.specs.Biased.{biased, biased_between, biased_cell, cell_bit, biased_mask}
+use Rattle.window.proofs.SignedLaws.{back, order, sum-biased, sum-small, held, back_is, held-is}
 
 bit_le : (t : Bool) → cond t 1 0 ≤ 1
 bit_le true = omega arith
@@ -61,11 +40,6 @@ module _ (l r t b x y : ℕ) where
   pub mask_next : (k m d : ℕ) → m ≡ biased_mask l r t b x y k → d ≡ cell_bit l r t b x y k → 2 * m + d ≡ biased_mask l r t b x y (k + 1)
   unfolding biased_mask
   mask_next k m d e h = rw (add-one k, e, h)
-
-  pub mask_done : (k m : ℕ) → k ≤ 16 → 16 ≤ k → m ≡ biased_mask l r t b x y k → m ≡ biased_mask l r t b x y 16
-  mask_done k m h g e =
-      let z : k ≡ 16 = omega arith in
-      e ∙ ap (biased_mask l r t b x y) z
 
 -- a cell's sub tile
 cell-biased : (x : ℤ) (d : ℕ) → mag x < 2 ^ 31 → d < 4 → (biased (2 ^ 63) (four x +ℤ pos d) ≡ 4 * biased (2 ^ 61) x + d) × (mag (four x +ℤ pos d) < 2 ^ 63)
@@ -99,11 +73,3 @@ module _ (w : Rectangle) (x y : ℤ) (fl : SFits w64 w.left) (fr : SFits w64 w.r
   pub mask_is : (l r t b i j m : ℕ) → l ≡ biased (2 ^ 63) (held w.left) → r ≡ biased (2 ^ 63) (held w.right) → t ≡ biased (2 ^ 63) (held w.top) → b ≡ biased (2 ^ 63) (held w.bottom) → i ≡ biased (2 ^ 61) (back x) → j ≡ biased (2 ^ 61) (back y) → m ≡ biased_mask l r t b i j 16 → m ≡ mask_of w x y
   mask_is l r t b i j m p q s u v z e =
       e ∙ rw (p, q, s, u, v, z, held-is fl, held-is fr, held-is ft, held-is fb, back_is fx, back_is fy) mask-all
-
-tile_low : (z : ℤ) → mag z < 2 ^ 31 → biased (2 ^ 61) z < 2 ^ 62
-tile_low (pos n) h = omega arith
-tile_low (negsuc n) h = omega arith
-
-pub tiles-are : (x y : ℤ) (i j : ℕ) → SFits w32 x → SFits w32 y → i ≡ biased (2 ^ 61) (back x) → j ≡ biased (2 ^ 61) (back y) → Tiles i j
-tiles-are x y i j f g p q =
-    record { column = rw (p, back_is f) (tile_low x f.sfits); row = rw (q, back_is g) (tile_low y g.sfits) }

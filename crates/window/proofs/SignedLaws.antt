@@ -7,17 +7,19 @@ use lib.Dec.{leb, ltb}
 use lib.IntN.{ℤ, pos, negsuc, nat_abs, ◌+ℤ◌, ◌-ℤ◌}
 use lib.Signed.{mag, le_z}
 use mir.Syntax.{w32, w64}
-use mir.Val.{Fits, SFits, to_z, of_z}
+use mir.Val.{SFits, to_z, of_z}
 use mir.Facts.{to_z-of_z}
 use borrow.Author.Tests.{le-leb, lt-leb, leb-true, leb-false, le-ltb, lt-ltb, ltb-true, ltb-false}
 use Rattle.byte_source.specs.BigEndian.{twos_complement}
-use Rattle.index.specs.Asked.{Ordered}
-use Rattle.window.proofs.BiasLaws.{back}
 use Rattle.window.proofs.AxisLaws.{count-within, tile-within}
 use Rattle.format.specs.Header.{between}
 use Rattle.format.specs.Index.{width}
 use Rattle.window.specs.Window.{quarter, min_z, first_of, count_of}
 use Rattle.window.specs.Biased.{biased, biased_first, biased_last, biased_width, biased_count}
+
+-- a tile's number as the code's local holds it
+abbrev pub back : ℤ → ℤ
+back z = to_z w32 (of_z w32 z)
 
 leb-same : (a b c d : ℕ) → (a ≤ b → c ≤ d) → (c ≤ d → a ≤ b) → leb a b ≡ leb c d
 leb-same a b c d f g = go (leb a b) (leb c d) refl refl
@@ -33,10 +35,6 @@ order half (pos a) (pos b) f g = leb-same a b (half + a) (half + b) (λ h. omega
 order half (pos a) (negsuc b) f g = sym (lt-leb (half + a) (half - 1 - b) (omega arith))
 order half (negsuc a) (pos b) f g = sym (le-leb (half - 1 - a) (half + b) (omega arith))
 order half (negsuc a) (negsuc b) f g = leb-same b a (half - 1 - a) (half - 1 - b) (λ h. omega arith) (λ h. omega arith)
-
-pub biased-small : (half : ℕ) (a : ℤ) → mag a < half → biased half a < half + half
-biased-small half (pos a) f = omega arith
-biased-small half (negsuc a) f = omega arith
 
 pub quarter-biased : (z : ℤ) → mag z < 2 ^ 63 → biased (2 ^ 63) z / 4 ≡ biased (2 ^ 61) (quarter z)
 quarter-biased (pos n) h = omega arith
@@ -192,30 +190,10 @@ module _ (gl gh l h : ℤ) (i : ℕ) (fl : SFits w32 gl) (fh : SFits w32 gh) (ml
   small-here : mag (first_of gl l +ℤ pos i) < 2 ^ 31
   small-here = tile-small gl gh l h i fl.sfits fh.sfits ml.sfits mh.sfits k
 
-  pub axis-fits : Fits w64 (first + i)
-  axis-fits = record { fits = omega (arith, sum-here, (grid-range (first_of gl l +ℤ pos i) small-here).1) }
-
   pub axis-tile-is : (r : ℤ) → r ≡ twos_complement ((first + i) % 2 ^ 32) → back r ≡ first_of gl l +ℤ pos i
   axis-tile-is r d =
       let z : r ≡ first_of gl l +ℤ pos i = d ∙ rw sum-here (twos (first_of gl l +ℤ pos i) small-here) in
       rw z (back_is (record { sfits = small-here }))
-
--- steps from one tile up to another
-module _ (low high : ℤ) (f : SFits w32 low) (g : SFits w32 high) (o : Ordered low high) (a b : ℕ) (p : a ≡ biased (2 ^ 61) (back low)) (q : b ≡ biased (2 ^ 61) (back high)) where
-  low-is : a ≡ biased (2 ^ 61) low
-  low-is = p ∙ rw (back_is f)
-
-  high_is : b ≡ biased (2 ^ 61) high
-  high_is = q ∙ rw (back_is g)
-
-  pub steps-order : a ≤ b
-  steps-order = rw (low-is, high_is) (leb-true _ _ (sym (order (2 ^ 61) low high (widen low f.sfits) (widen high g.sfits)) ∙ o.order))
-
-  pub steps-small : b - a < 2 ^ 62
-  steps-small = rw (low-is, high_is) (omega (arith, biased-small (2 ^ 61) high (widen high g.sfits)))
-
-  pub steps-is : b - a ≡ nat_abs (high -ℤ low)
-  steps-is = rw (low-is, high_is) (gap (2 ^ 61) low high (widen low f.sfits) (widen high g.sfits) o.order)
 
 -- the columns or rows of a grid and a rectangle, as the code's locals hold their ends
 module _ (gl gh l h : ℤ) (fl : mag gl < 2 ^ 31) (fh : mag gh < 2 ^ 31) (ml : mag l < 2 ^ 63) (mh : mag h < 2 ^ 63) where

@@ -13,11 +13,10 @@ use Rattle.window.specs.Window.{Touched, first_of, mask_of, touched_tile}
 use Rattle.window.specs.Biased.{Place}
 use Rattle.window.specs.Answers.{rectangle_of}
 use Rattle.window.specs.declared.Window.{Window}
-use Rattle.window.proofs.BiasLaws.{back}
-use Rattle.window.proofs.SignedLaws.{back_is, held-is, held, tile-small, tile-between}
+use Rattle.window.proofs.SignedLaws.{back, back_is, held-is, held, tile-small, tile-between}
 
 -- a grid that is not reversed
-pub good-columns : (g : TileGrid) → good_grid g ≡ true → le_z g.x_min g.x_max ≡ true
+good-columns : (g : TileGrid) → good_grid g ≡ true → le_z g.x_min g.x_max ≡ true
 good-columns g h = ((and-eq-true_iff _ _).0 ((and-eq-true_iff (le_z g.x_min g.x_max && le_z g.y_min g.y_max) (leb (tiles_of g) (2 ^ 32 - 1))).0 h).0).0
 
 pub columns-ordered : (g : Grid) (x y : ℤ) → Inside (grid_of g) x y → mag g.x_min < 2 ^ 31 → mag g.x_max < 2 ^ 31 → Ordered (back g.x_min) (back g.x_max)

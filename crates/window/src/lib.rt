@@ -6,14 +6,14 @@
 ghost use Rattle.std.specs.Prelude.{◌≡◌, ◌%◌, ◌^◌, ◌≤◌, ◌<◌, pos, nat_abs, ◌+ℤ◌, ◌-ℤ◌};
 ghost use Rattle.byte_source.specs.BigEndian.{twos_complement};
 ghost use Rattle.format.specs.Index.{width, row_major};
-ghost use Rattle.types.specs.Types.{grid_of};
 ghost use Rattle.index.specs.Asked.{Ordered, Inside};
+ghost use Rattle.types.specs.Types.{grid_of};
+ghost use Rattle.index.specs.Answers.{maybe_by, answer_by, answer_res};
 ghost use Rattle.window.specs.Window.{first_of, count_of, columns_of, rows_of, mask_of, touched_tile, window_count, window_tile, shares_cell};
 ghost use Rattle.window.specs.Biased.{biased, biased_first, biased_last, biased_count, biased_between, cell_bit, biased_mask, Step, Tiles, Cell, Place};
-ghost use Rattle.window.specs.Answers.{rectangle_of, touched_of, window_count_res, window_tile_res};
+ghost use Rattle.window.specs.Answers.{rectangle_of, touched_of};
 
 use error::Refusal;
-use index::GridRead;
 use types::Grid;
 
 // Sub tiles, two zoom levels below the base, so that a tile has 4 by 4 of them. Both ends are included, and rows grow downwards.
@@ -34,17 +34,11 @@ pub struct WindowTile {
     pub mask: u16,
 }
 
+// Both ends of a rectangle's columns or rows, or of a grid's, biased as below.
 #[derive(Clone, Copy)]
-pub enum WindowCountRead {
-    Tiles(u64),
-    Refused(Refusal),
-}
-
-#[derive(Clone, Copy)]
-pub enum WindowTileRead {
-    Absent,
-    At(WindowTile),
-    Refused(Refusal),
+struct Ends {
+    low: u64,
+    high: u64,
 }
 
 // A sub tile's number plus 2^63, which no number of 64 bits makes negative: the order stays, and a quotient by 4 is rounded down.
@@ -77,31 +71,25 @@ fn unbias(n: u64) -> i32
 fn first_of(grid_low: u64, low: u64) -> u64
     ensures { result ≡ biased_first grid_low low }
 {
-    if grid_low <= low / 4 {
-        return low / 4;
-    }
-    grid_low
+    grid_low.max(low / 4)
 }
 
 // and the last.
 fn last_of(grid_high: u64, high: u64) -> u64
     ensures { result ≡ biased_last grid_high high }
 {
-    if grid_high <= high / 4 {
-        return grid_high;
-    }
-    high / 4
+    grid_high.min(high / 4)
 }
 
 // How many columns or rows are touched.
-fn count_of(grid_low: u64, grid_high: u64, low: u64, high: u64) -> u64
-    ensures { result ≡ biased_count grid_low grid_high low high }
+fn count_of(grid: Ends, ends: Ends) -> u64
+    ensures { result ≡ biased_count grid.low grid.high ends.low ends.high }
 {
-    if high < low {
+    if ends.high < ends.low {
         return 0;
     }
-    let first = first_of(grid_low, low);
-    let last = last_of(grid_high, high);
+    let first = first_of(grid.low, ends.low);
+    let last = last_of(grid.high, ends.high);
     if last < first {
         return 0;
     }
@@ -109,63 +97,61 @@ fn count_of(grid_low: u64, grid_high: u64, low: u64, high: u64) -> u64
 }
 
 // Whether the sub tile that stands so many steps into a tile lies between the ends.
-fn touches(low: u64, high: u64, tile: u64, step: u64) -> bool
+fn touches(ends: Ends, tile: u64, step: u64) -> bool
     requires { Step tile step }
-    ensures { result ≡ biased_between low high tile step }
+    ensures { result ≡ biased_between ends.low ends.high tile step }
 {
     let at = 4 * tile + step;
-    if at < low {
-        return false;
-    }
-    at <= high
+    ends.low <= at && at <= ends.high
 }
 
 // Cell k of a tile, row by row, as a bit.
-fn cell_bit(left: u64, right: u64, top: u64, bottom: u64, x: u64, y: u64, k: u64) -> u64
+fn cell_bit(across: Ends, down: Ends, x: u64, y: u64, k: u64) -> u64
     requires { Cell x y k }
-    ensures { (result ≡ cell_bit left right top bottom x y k) × (result ≤ 1) }
+    ensures { (result ≡ cell_bit across.low across.high down.low down.high x y k) × (result ≤ 1) }
 {
-    if !touches(left, right, x, k % 4) {
-        return 0;
-    }
-    if !touches(top, bottom, y, k / 4) {
-        return 0;
-    }
-    1
+    u64::from(touches(across, x, k % 4) && touches(down, y, k / 4))
 }
 
 // The cells of a tile, the first one the highest bit.
-fn mask_at(left: u64, right: u64, top: u64, bottom: u64, x: u64, y: u64) -> u16
+fn mask_at(across: Ends, down: Ends, x: u64, y: u64) -> u16
     requires { Tiles x y }
-    ensures { result ≡ biased_mask left right top bottom x y 16 }
+    ensures { result ≡ biased_mask across.low across.high down.low down.high x y 16 }
 {
     let mut mask: u64 = 0;
-    let mut k: u64 = 0;
-    while k < 16 {
-        mask = 2 * mask + cell_bit(left, right, top, bottom, x, y, k);
-        k += 1;
+    for k in 0..16 {
+        mask = 2 * mask + cell_bit(across, down, x, y, k);
     }
     mask as u16
+}
+
+fn ends_of(low: i64, high: i64) -> Ends
+    ensures { (result.low ≡ biased (2 ^ 63) low) × (result.high ≡ biased (2 ^ 63) high) }
+{
+    Ends {
+        low: bias(low),
+        high: bias(high),
+    }
 }
 
 // The touched cells of a tile.
 fn mask_of(window: Window, x: i32, y: i32) -> u16
     ensures { result ≡ mask_of (rectangle_of window) x y }
 {
-    let left = bias(window.left);
-    let right = bias(window.right);
-    let top = bias(window.top);
-    let bottom = bias(window.bottom);
-    mask_at(left, right, top, bottom, tile_bias(x), tile_bias(y))
+    let across = ends_of(window.left, window.right);
+    let down = ends_of(window.top, window.bottom);
+    mask_at(across, down, tile_bias(x), tile_bias(y))
 }
 
 // How many of the grid's columns, or rows, from the low to the high end are touched.
 fn axis_count(grid_low: i32, grid_high: i32, low: i64, high: i64) -> u64
     ensures { result ≡ count_of grid_low grid_high low high }
 {
-    let a = tile_bias(grid_low);
-    let b = tile_bias(grid_high);
-    count_of(a, b, bias(low), bias(high))
+    let grid = Ends {
+        low: tile_bias(grid_low),
+        high: tile_bias(grid_high),
+    };
+    count_of(grid, ends_of(low, high))
 }
 
 fn columns_of(grid: Grid, window: Window) -> u64
@@ -181,16 +167,13 @@ fn rows_of(grid: Grid, window: Window) -> u64
 }
 
 // How many tiles the window touches: 14 for a bad grid, before all else.
-pub fn window_count(grid: Grid, window: Window) -> WindowCountRead
-    ensures { window_count_res result ≡ window_count (grid_of grid) (rectangle_of window) }
+pub fn window_count(grid: Grid, window: Window) -> Result<u64, Refusal>
+    ensures { answer_res result ≡ window_count (grid_of grid) (rectangle_of window) }
 {
-    let got = index::grid_tiles(grid);
-    let GridRead::Tiles(_) = got else {
-        return WindowCountRead::Refused(index::grid_refusal(got));
-    };
+    index::grid_tiles(grid)?;
     let rows = rows_of(grid, window);
     let columns = columns_of(grid, window);
-    WindowCountRead::Tiles(rows * columns)
+    Ok(rows * columns)
 }
 
 // Touched column or row i.
@@ -202,13 +185,13 @@ fn axis_tile(grid_low: i32, grid_high: i32, low: i64, high: i64, i: u64) -> i32
     unbias(first + i)
 }
 
-// From low up to high.
+// From low up to high. This and row_major stand beside index's: shared they were public, and a public function has no `requires` (project
+// rule); one that tests the grid again for each tile is no plainer.
 fn steps(low: i32, high: i32) -> u64
     requires { Ordered low high }
-    ensures { (result ≡ nat_abs (high -ℤ low)) × (result < 2 ^ 62) }
+    ensures { (result ≡ nat_abs (high -ℤ low)) × (result < 2 ^ 32) }
 {
-    let a = tile_bias(low);
-    tile_bias(high) - a
+    (high as i64 - low as i64) as u64
 }
 
 // Of a tile in the grid.
@@ -218,7 +201,8 @@ fn row_major(grid: Grid, x: i32, y: i32) -> usize
 {
     let row = steps(grid.y_min, y);
     let column = steps(grid.x_min, x);
-    (row * (steps(grid.x_min, grid.x_max) + 1) + column) as usize
+    let last = steps(grid.x_min, grid.x_max);
+    (row * (last + 1) + column) as usize
 }
 
 // Touched column i of touched row j.
@@ -235,22 +219,16 @@ fn tile_at(grid: Grid, window: Window, i: u64, j: u64) -> WindowTile
 
 // Tile k, from 0, of those that the window touches, row by row from the top, left to right; none behind the last. 14 for a bad grid, before
 // all else.
-pub fn window_tile(grid: Grid, window: Window, k: u64) -> WindowTileRead
-    ensures { window_tile_res result ≡ window_tile (grid_of grid) (rectangle_of window) k }
+pub fn window_tile(grid: Grid, window: Window, k: u64) -> Result<Option<WindowTile>, Refusal>
+    ensures { answer_by (maybe_by touched_of) result ≡ window_tile (grid_of grid) (rectangle_of window) k }
 {
-    let got = index::grid_tiles(grid);
-    let GridRead::Tiles(_) = got else {
-        return WindowTileRead::Refused(index::grid_refusal(got));
-    };
+    index::grid_tiles(grid)?;
     let rows = rows_of(grid, window);
     let columns = columns_of(grid, window);
-    if columns < 1 {
-        return WindowTileRead::Absent;
+    if columns < 1 || rows <= k / columns {
+        return Ok(None);
     }
-    if rows <= k / columns {
-        return WindowTileRead::Absent;
-    }
-    WindowTileRead::At(tile_at(grid, window, k % columns, k / columns))
+    Ok(Some(tile_at(grid, window, k % columns, k / columns)))
 }
 
 // Whether a way is accepted: its bitmap shares a cell with the mask of its tile.

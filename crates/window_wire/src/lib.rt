@@ -5,31 +5,36 @@ ghost use Rattle.std.specs.Prelude.{◌≡◌, [], ◌∷◌};
 ghost use Rattle.wire.specs.Wire.{wire, lending};
 ghost use Rattle.window_wire.specs.Windows.{window_count_wire, window_tile_wire};
 
-use window::{WindowCountRead, WindowTileRead};
+use error::Refusal;
+use window::WindowTile;
 
 // How many tiles there are.
-pub fn put_window_count(got: WindowCountRead, words: &mut [u64; 7]) -> u64
+pub fn put_window_count(got: Result<u64, Refusal>, words: &mut [u64; 7]) -> u64
     ensures { wire result (words.new ∷ []) [] [] ≡ window_count_wire (lending (words.old ∷ []) [] []) got }
 {
     match got {
-        WindowCountRead::Tiles(n) => {
+        Ok(n) => {
             words[6] = n;
             0
         }
-        WindowCountRead::Refused(r) => wire::put_refusal(r, words),
+        Err(r) => wire::put_refusal(r, words),
     }
 }
 
 // A tile: 1, its number and its mask, and its column and row; or 0.
-pub fn put_window_tile(got: WindowTileRead, words: &mut [u64; 9], column_row: &mut [i64; 2]) -> u64
+pub fn put_window_tile(
+    got: Result<Option<WindowTile>, Refusal>,
+    words: &mut [u64; 9],
+    column_row: &mut [i64; 2],
+) -> u64
     ensures { wire result (words.new ∷ []) column_row.new [] ≡ window_tile_wire (lending (words.old ∷ []) column_row.old []) got }
 {
     match got {
-        WindowTileRead::Absent => {
+        Ok(None) => {
             words[6] = 0;
             0
         }
-        WindowTileRead::At(t) => {
+        Ok(Some(t)) => {
             let column = wire::wide_i32(t.x);
             let row = wire::wide_i32(t.y);
             column_row[0] = column;
@@ -39,6 +44,6 @@ pub fn put_window_tile(got: WindowTileRead, words: &mut [u64; 9], column_row: &m
             words[8] = t.mask as u64;
             0
         }
-        WindowTileRead::Refused(r) => wire::put_refusal(r, words),
+        Err(r) => wire::put_refusal(r, words),
     }
 }

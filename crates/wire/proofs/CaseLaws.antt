@@ -13,6 +13,7 @@ use mir.Syntax.{Width, w8, w32, w64}
 use mir.Val.{SFits, to_z, of_z}
 use mir.Facts.{to_z-of_z}
 use borrow.Author.Rules.{rules, sfits_of}
+use Rattle.std.specs.Prelude.{Option, Some, None}
 use Rattle.error.specs.Refusals.{number_of, values_of, lent_number, lent_values}
 use Rattle.error.specs.declared.Lengths.{Lengths}
 use Rattle.error.specs.declared.LentRefusal.{LentRefusal}
@@ -20,13 +21,9 @@ use Rattle.error.specs.declared.LentRefusal.TheVariants.{Refused, Short}
 use Rattle.error.specs.declared.Refusal.{Refusal}
 use Rattle.error.specs.declared.Refusal.TheVariants.{Source, InvalidMagic, UnsupportedVersion, InvalidBoundingBox, InvalidHeaderSize, InvalidIndexSignature, InvalidTagId, InvalidTileIndex, TextTooLong, TooManyNodes, NumberTooLong, CoordinateTooLarge, ReversedInterval, InvalidGrid, OutOfTurn, InvalidFeature, ZoomTooLarge, IndexCutOff, TileHeadCutOff}
 use Rattle.error.specs.contracts.Refusal as declared
-use Rattle.poi.specs.declared.OptionalElevation.{OptionalElevation}
-use Rattle.poi.specs.declared.OptionalElevation.TheVariants as elevation
 use Rattle.wire.specs.Elevation.{metre_words}
 use Rattle.wire.specs.declared.MetreWords.{MetreWords}
 use Rattle.wire.specs.Verdicts.{value_list}
-use Rattle.wire.specs.declared.OptionalValue.{OptionalValue}
-use Rattle.wire.specs.declared.OptionalValue.TheVariants as value
 
 pub by-case : {A B : Type 0} (f : A → B) (g g' : A) (r : B) → g ≡ g' → r ≡ f g' → r ≡ f g
 by-case f g g' r h q = q ∙ ap f (sym h)
@@ -58,23 +55,23 @@ no-values (TileHeadCutOff i) h = absurd (miss plain 18 tt h)
 
 -- a refusal's value
 module _ (r : Refusal) where
-  pub value-version : (v : ℕ) → r ≡ UnsupportedVersion v → value_list (value.At v) ≡ values_of r
+  pub value-version : (v : ℕ) → r ≡ UnsupportedVersion v → value_list (Some v) ≡ values_of r
   unfolding value_list
   value-version v h = ap values_of (sym h)
 
-  pub value-tag : (i : ℕ) → r ≡ InvalidTagId i → value_list (value.At i) ≡ values_of r
+  pub value-tag : (i : ℕ) → r ≡ InvalidTagId i → value_list (Some i) ≡ values_of r
   unfolding value_list
   value-tag i h = ap values_of (sym h)
 
-  pub value-index : (i : ℕ) → r ≡ IndexCutOff i → value_list (value.At i) ≡ values_of r
+  pub value-index : (i : ℕ) → r ≡ IndexCutOff i → value_list (Some i) ≡ values_of r
   unfolding value_list
   value-index i h = ap values_of (sym h)
 
-  pub value-tile : (i : ℕ) → r ≡ TileHeadCutOff i → value_list (value.At i) ≡ values_of r
+  pub value-tile : (i : ℕ) → r ≡ TileHeadCutOff i → value_list (Some i) ≡ values_of r
   unfolding value_list
   value-tile i h = ap values_of (sym h)
 
-  pub value_none : OneOf plain (tag_of declared.the_type r) → value_list value.Absent ≡ values_of r
+  pub value_none : OneOf plain (tag_of declared.the_type r) → value_list None ≡ values_of r
   unfolding value_list
   value_none h = sym (no-values r h)
 
@@ -89,12 +86,12 @@ set_past (y ∷ l) (suc i) x h = ap (λ k. y ∷ k) (set_past l i x (omega arith
 pub ruleset stores = (rules, set_past)
 
 -- a refusal's number and values, as they are written
-module _ (n k : ℕ) (vs l m : List ℕ) (o : OptionalValue) where
-  pub refusal-plain : o ≡ value.Absent → k ≡ n → value_list o ≡ vs → (k ≡ n) × (l ≡ sets l 0 vs)
+module _ (n k : ℕ) (vs l m : List ℕ) (o : Option ℕ) where
+  pub refusal-plain : o ≡ None → k ≡ n → value_list o ≡ vs → (k ≡ n) × (l ≡ sets l 0 vs)
   unfolding value_list
   refusal-plain e p u = (p, ap (sets l 0) (ap value_list (sym e) ∙ u))
 
-  pub refusal-valued : (v : ℕ) → o ≡ value.At v → k ≡ n → value_list o ≡ vs → m ≡ set l 0 v → (k ≡ n) × (m ≡ sets l 0 vs)
+  pub refusal-valued : (v : ℕ) → o ≡ Some v → k ≡ n → value_list o ≡ vs → m ≡ set l 0 v → (k ≡ n) × (m ≡ sets l 0 vs)
   unfolding value_list
   refusal-valued v e p u s = (p, s ∙ ap (sets l 0) (ap value_list (sym e) ∙ u))
 
@@ -106,10 +103,10 @@ pub layer-kept : (r x : ℤ) → r ≡ to_z w8 (of_z w8 x) → mag r < 2 ^ 63 �
 layer-kept r x q b f = kept w8 r x q b (sfits_of f)
 
 -- layer and elevation
-pub layer-metres : (r x : ℤ) (a : MetreWords) (e : OptionalElevation) → r ≡ to_z w8 (of_z w8 x) → mag r < 2 ^ 63 → mag x < 2 ^ 7 → a ≡ metre_words e → mag a.metres < 2 ^ 63 → to_z w64 (of_z w64 r) ∷ to_z w64 (of_z w64 a.metres) ∷ [] ≡ x ∷ (metre_words e).metres ∷ []
+pub layer-metres : (r x : ℤ) (a : MetreWords) (e : Option ℤ) → r ≡ to_z w8 (of_z w8 x) → mag r < 2 ^ 63 → mag x < 2 ^ 7 → a ≡ metre_words e → mag a.metres < 2 ^ 63 → to_z w64 (of_z w64 r) ∷ to_z w64 (of_z w64 a.metres) ∷ [] ≡ x ∷ (metre_words e).metres ∷ []
 layer-metres r x a e q b f p g = rw (kept w8 r x q b (sfits_of f), to_z-of_z {w = w64} (sfits_of g), p) refl
 
-pub metres-at : (g : OptionalElevation) (r x : ℤ) → r ≡ to_z w32 (of_z w32 x) → mag x < 2 ^ 31 → g ≡ elevation.At x → ◌≡◌ {A = MetreWords} (record { present = 1; metres = r }) (metre_words g)
+pub metres-at : (g : Option ℤ) (r x : ℤ) → r ≡ to_z w32 (of_z w32 x) → mag x < 2 ^ 31 → g ≡ Some x → ◌≡◌ {A = MetreWords} (record { present = 1; metres = r }) (metre_words g)
 metres-at g r x e f h = ap (λ y. record { present = 1; metres = y }) (e ∙ to_z-of_z {w = w32} (sfits_of f)) ∙ ap metre_words (sym h)
 
 pub ruleset made = (rules, metres-at)

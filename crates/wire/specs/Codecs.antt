@@ -1,5 +1,7 @@
 -- How the other program reads refusals and what may be absent, and that nothing is lost on the way.
-use Rattle.std.specs.Prelude.{ℕ, ◌-◌, Bool, true, false, cond, ◌≡◌, refl, List, [], ◌∷◌, eqb, Float, get_or}
+use Rattle.std.specs.Prelude.{ℕ, ◌-◌, Bool, true, false, cond, ◌≡◌, refl, List, [], ◌∷◌, eqb, Float, get_or, Option, Some, None}
+use Rattle.byte_source.specs.declared.Span.{Span}
+use Rattle.types.specs.declared.Position.{Position}
 use Rattle.std.proofs.lemmas.List.Edits.{sets}
 use Rattle.error.specs.Refusals.{number_of, values_of, lent_number, lent_values}
 use Rattle.error.specs.declared.Lengths.{Lengths}
@@ -7,10 +9,6 @@ use Rattle.error.specs.declared.LentRefusal.{LentRefusal}
 use Rattle.error.specs.declared.LentRefusal.TheVariants.{Refused, Short}
 use Rattle.error.specs.declared.Refusal.{Refusal}
 use Rattle.error.specs.declared.Refusal.TheVariants.{Source, InvalidMagic, UnsupportedVersion, InvalidBoundingBox, InvalidHeaderSize, InvalidIndexSignature, InvalidTagId, InvalidTileIndex, TextTooLong, TooManyNodes, NumberTooLong, CoordinateTooLarge, ReversedInterval, InvalidGrid, OutOfTurn, InvalidFeature, ZoomTooLarge, IndexCutOff, TileHeadCutOff}
-use Rattle.types.specs.declared.OptionalSpan.{OptionalSpan}
-use Rattle.types.specs.declared.OptionalSpan.TheVariants as span
-use Rattle.types.specs.declared.OptionalPosition.{OptionalPosition}
-use Rattle.types.specs.declared.OptionalPosition.TheVariants as position
 use Rattle.wire.specs.Wire.{Wire, list_of, truth, there}
 use Rattle.wire.specs.Verdicts.{nowhere, span_words, place_words}
 
@@ -91,19 +89,19 @@ truth-back true = refl
 truth-back false = refl
 
 -- what may be absent
-abbrev pub span_in : (present start size : ℕ) → OptionalSpan
-span_in p s n = there p span.Absent (span.At (record { start = s; size = n }))
+abbrev pub span_in : (present start size : ℕ) → Option Span
+span_in p s n = there p None (Some (record { start = s; size = n }))
 
-pub span-back : (s : OptionalSpan) → span_in (span_words s).present (span_words s).start (span_words s).size ≡ s
-span-back span.Absent = refl
-span-back (span.At s) = refl
+pub span-back : (s : Option Span) → span_in (span_words s).present (span_words s).start (span_words s).size ≡ s
+span-back None = refl
+span-back (Some s) = refl
 
-abbrev pub place_in : (present : ℕ) → (latitude longitude : Float) → OptionalPosition
-place_in p y x = there p position.Absent (position.At (record { latitude = y; longitude = x }))
+abbrev pub place_in : (present : ℕ) → (latitude longitude : Float) → Option Position
+place_in p y x = there p None (Some (record { latitude = y; longitude = x }))
 
-pub place-back : (p : OptionalPosition) → place_in (place_words p).present (place_words p).latitude (place_words p).longitude ≡ p
-place-back position.Absent = refl
-place-back (position.At p) = refl
+pub place-back : (p : Option Position) → place_in (place_words p).present (place_words p).latitude (place_words p).longitude ≡ p
+place-back None = refl
+place-back (Some p) = refl
 
 -- degrees i
 abbrev pub degree : Wire → ℕ → Float

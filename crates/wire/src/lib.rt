@@ -10,9 +10,9 @@ ghost use Rattle.wire.specs.Wire.{truth};
 ghost use Rattle.wire.specs.Elevation.{metre_words};
 ghost use Rattle.wire.specs.Verdicts.{value_list, span_words, place_words};
 
+use byte_source::Span;
 use error::{Lengths, LentRefusal, Refusal};
-use poi::OptionalElevation;
-use types::{OptionalPosition, OptionalSpan};
+use types::Position;
 
 #[derive(Clone, Copy)]
 pub struct SpanWords {
@@ -36,21 +36,15 @@ pub struct MetreWords {
 }
 
 // A refusal's value, if it has one.
-#[derive(Clone, Copy)]
-enum OptionalValue {
-    Absent,
-    At(u64),
-}
-
-fn value_of(refusal: Refusal) -> OptionalValue
+fn value_of(refusal: Refusal) -> Option<u64>
     ensures { value_list result ≡ values_of refusal }
 {
     match refusal {
-        Refusal::UnsupportedVersion(version) => OptionalValue::At(version as u64),
-        Refusal::InvalidTagId(id) => OptionalValue::At(id),
-        Refusal::IndexCutOff(place) => OptionalValue::At(place),
-        Refusal::TileHeadCutOff(place) => OptionalValue::At(place),
-        _ => OptionalValue::Absent,
+        Refusal::UnsupportedVersion(version) => Some(version as u64),
+        Refusal::InvalidTagId(id) => Some(id),
+        Refusal::IndexCutOff(place) => Some(place),
+        Refusal::TileHeadCutOff(place) => Some(place),
+        _ => None,
     }
 }
 
@@ -68,11 +62,9 @@ pub fn put_refusal(refusal: Refusal, words: &mut [u64]) -> u64
     ensures { (result ≡ number_of refusal) × (words.new ≡ sets words.old 0 (values_of refusal)) }
 {
     let number = error::number_of(refusal) as u64;
-    let found = value_of(refusal);
-    let OptionalValue::At(value) = found else {
-        return number;
-    };
-    put(words, 0, value);
+    if let Some(value) = value_of(refusal) {
+        put(words, 0, value);
+    }
     number
 }
 
@@ -101,16 +93,16 @@ pub fn put_lent_refusal(refusal: LentRefusal, words: &mut [u64]) -> u64
     }
 }
 
-pub fn span_words(text: OptionalSpan) -> SpanWords
+pub fn span_words(text: Option<Span>) -> SpanWords
     ensures { result ≡ span_words text }
 {
     match text {
-        OptionalSpan::Absent => SpanWords {
+        None => SpanWords {
             present: 0,
             start: 0,
             size: 0,
         },
-        OptionalSpan::At(span) => SpanWords {
+        Some(span) => SpanWords {
             present: 1,
             start: span.start as u64,
             size: span.size as u64,
@@ -118,16 +110,16 @@ pub fn span_words(text: OptionalSpan) -> SpanWords
     }
 }
 
-pub fn place_words(place: OptionalPosition) -> PlaceWords
+pub fn place_words(place: Option<Position>) -> PlaceWords
     ensures { result ≡ place_words place }
 {
     match place {
-        OptionalPosition::Absent => PlaceWords {
+        None => PlaceWords {
             present: 0,
             latitude: 0.0,
             longitude: 0.0,
         },
-        OptionalPosition::At(p) => PlaceWords {
+        Some(p) => PlaceWords {
             present: 1,
             latitude: p.latitude,
             longitude: p.longitude,
@@ -135,15 +127,15 @@ pub fn place_words(place: OptionalPosition) -> PlaceWords
     }
 }
 
-pub fn metre_words(elevation: OptionalElevation) -> MetreWords
+pub fn metre_words(elevation: Option<i32>) -> MetreWords
     ensures { result ≡ metre_words elevation }
 {
     match elevation {
-        OptionalElevation::Absent => MetreWords {
+        None => MetreWords {
             present: 0,
             metres: 0,
         },
-        OptionalElevation::At(m) => MetreWords {
+        Some(m) => MetreWords {
             present: 1,
             metres: wide_i32(m),
         },
@@ -153,7 +145,7 @@ pub fn metre_words(elevation: OptionalElevation) -> MetreWords
 pub fn bit(b: bool) -> u64
     ensures { result ≡ cond b 1 0 }
 {
-    if b { 1 } else { 0 }
+    u64::from(b)
 }
 
 pub fn truth_of(word: u64) -> bool

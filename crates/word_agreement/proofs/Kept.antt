@@ -1,5 +1,10 @@
 -- A refused next, accept or decline leaves the stream as it was, from their contracts: so the words that a refused call leaves alone say
 -- the stream that the inner function left.
+use Rattle.std.specs.Prelude.{Result, Ok, Err}
+use Rattle.visit.specs.declared.Given.{Given}
+use Rattle.error.specs.declared.LentRefusal.{LentRefusal}
+use Rattle.error.specs.declared.Refusal.{Refusal}
+use Rattle.visit.specs.declared.StreamedBody.{StreamedBody}
 use Prim.Native.Nat.{ℕ, zero, suc}
 use native.Mathlib.Omega.{arith}
 use mathlib.Core.Path.{◌≡◌, refl, sym, ap, ◌∙◌}
@@ -14,21 +19,12 @@ use Rattle.agreement.specs.Calls.{Answer, refused, Step}
 use Rattle.agreement.specs.Format.{Format}
 use Rattle.agreement.specs.Stream.{idle, waits, on_point, on_head, on_next, on_body, on_accept, on_decline}
 use Rattle.agreement.specs.TileFormat as tile
-use Rattle.visit.specs.Visit.{end_of, TileState, turn_state, state_of, ShownAnswer, shown_step, next_answer, accept_answer, decline_answer}
+use Rattle.visit.specs.Visit.{end_of, TileState, turn_state, state_of, ShownAnswer, shown_step, next_answer, accept_answer, decline_answer, NextStep, Accepted, Declined}
 use Rattle.visit.specs.declared.TileEnd.{TileEnd}
 use Rattle.visit.specs.declared.Turn.{Turn}
 use Rattle.visit.specs.declared.Turn.TheVariants as turn
 use Rattle.visit.specs.declared.Stream.{Stream}
-use Rattle.visit.specs.declared.NextAnswer.{NextAnswer}
-use Rattle.visit.specs.declared.NextAnswer.TheVariants as next-answer
-use Rattle.visit.specs.declared.NextStep.{NextStep}
-use Rattle.visit.specs.declared.AcceptAnswer.{AcceptAnswer}
-use Rattle.visit.specs.declared.AcceptAnswer.TheVariants as accept-answer
-use Rattle.visit.specs.declared.Accepted.{Accepted}
-use Rattle.visit.specs.declared.DeclineAnswer.{DeclineAnswer}
-use Rattle.visit.specs.declared.DeclineAnswer.TheVariants as decline-answer
-use Rattle.visit.specs.declared.Declined.{Declined}
-use Rattle.stream_wire.specs.Codecs.{next_left, accept_left, decline_left}
+use Rattle.stream_wire.specs.Codecs.{left_by}
 use Rattle.exports.specs.Calls.{NextOf, AcceptOf, DeclineOf}
 
 -- a stream by its state
@@ -95,31 +91,29 @@ module _ (s t : Stream) (x : Stored) (y : Step ShownAnswer (TileState)) (e : y �
       ∙ ap stream_of (sym (ap (λ (a : Step ShownAnswer (TileState)). a.left) e) ∙ left)
       ∙ stream-of t
 
-pub next-kept : (m letters : List ℕ) (l : TileLayout) (s : Stream) (a : NextStep) → NextOf m letters l s a → next_left a.answer a.stream s ≡ a.stream
+pub next-kept : (m letters : List ℕ) (l : TileLayout) (s : Stream) (a : NextStep) → NextOf m letters l s a → left_by a.answer a.stream s ≡ a.stream
 next-kept m letters l s a k = go a.answer refl
   where
-    go : (x : NextAnswer) → a.answer ≡ x → next_left x a.stream s ≡ a.stream
-    go next-answer.Point e = refl
-    go next-answer.Way e = refl
-    go (next-answer.End z) e = refl
-    go (next-answer.Refused r) e =
-        kept s a.stream (on_next (format_of (kinds_of l letters)) m (state_of s)) _ k.answer refl (next-keeps (kinds_of l letters) m (state_of s)) _ _
-        (ap (λ (b : NextAnswer). next_answer b a.poi a.head) e)
+    go : (x : Result Given Refusal) → a.answer ≡ x → left_by x a.stream s ≡ a.stream
+    go (Ok v) e = refl
+    go (Err r) e =
+        kept s a.stream (on_next (format_of (kinds_of l letters)) m (state_of s)) _ k refl (next-keeps (kinds_of l letters) m (state_of s)) _ _
+        (ap next_answer e)
 
-pub accept-kept : (m : List ℕ) (s : Stream) (lent left : LentLists) (a : Accepted) → AcceptOf m s lent left a → accept_left a.answer a.stream s ≡ a.stream
+pub accept-kept : (m : List ℕ) (s : Stream) (lent left : LentLists) (a : Accepted) → AcceptOf m s lent left a → left_by a.answer a.stream s ≡ a.stream
 accept-kept m s lent left a k = go a.answer refl
   where
-    go : (x : AcceptAnswer) → a.answer ≡ x → accept_left x a.stream s ≡ a.stream
-    go (accept-answer.Body b) e = refl
-    go (accept-answer.Refused r) e =
+    go : (x : Result StreamedBody LentRefusal) → a.answer ≡ x → left_by x a.stream s ≡ a.stream
+    go (Ok b) e = refl
+    go (Err r) e =
         kept s a.stream (on_accept body body_lists tile.whole_body tile.note_body m (state_of s) lent) _ k refl (accept-keeps m lent (state_of s)) _ _
         (ap accept_answer e)
 
-pub decline-kept : (s : Stream) (a : Declined) → DeclineOf s a → decline_left a.answer a.stream s ≡ a.stream
+pub decline-kept : (s : Stream) (a : Declined) → DeclineOf s a → left_by a.answer a.stream s ≡ a.stream
 decline-kept s a k = go a.answer refl
   where
-    go : (x : DeclineAnswer) → a.answer ≡ x → decline_left x a.stream s ≡ a.stream
-    go decline-answer.Declined e = refl
-    go (decline-answer.Refused r) e =
+    go : (x : Result (Unit {0}) Refusal) → a.answer ≡ x → left_by x a.stream s ≡ a.stream
+    go (Ok u) e = refl
+    go (Err r) e =
         kept s a.stream (on_decline (state_of s)) _ k refl (decline-keeps (state_of s)) _ _
         (ap decline_answer e)

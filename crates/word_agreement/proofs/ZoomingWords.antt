@@ -1,4 +1,7 @@
 -- Zooming in only adds, by words (specs/WordZooming.antt): what was seen by words was seen of the inner functions, and back.
+use Rattle.std.specs.Prelude.{Result, Ok, Err}
+use Rattle.error.specs.declared.Refusal.{Refusal}
+use Rattle.visit.specs.declared.Stream.{Stream}
 use Prim.Native.Nat.{ℕ}
 use mathlib.Core.Path.{◌≡◌, sym, ap, ◌∙◌}
 use mathlib.Core.Bool.{Bool}
@@ -10,8 +13,6 @@ use Rattle.tagged.specs.declared.TagIds.{TagIds}
 use Rattle.poi.specs.declared.Poi.{Poi}
 use Rattle.index.specs.Answers.{interval_found}
 use Rattle.agreement.specs.TileFormat.{TileEnd}
-use Rattle.visit.specs.declared.OpenRead.{OpenRead}
-use Rattle.visit.specs.declared.OpenRead.TheVariants as open-read
 use Rattle.wire.specs.Wire.{Wire, list_of}
 use Rattle.header_wire.specs.Header.{layout_in}
 use Rattle.index_wire.specs.Index.{interval_in}
@@ -28,18 +29,18 @@ module _ (m : List ℕ) (s : ℕ) (grid : Grid) (number zoom : ℕ) (layout lett
   saw : Saw m (layout_in layout) letters (interval_found (interval_in interval)) s (grid_of grid) number zoom rule lists points ways z
   saw = go w.opens.answer w.opens.is w.opens.crossed
     where
-      go : (o : OpenRead) → StreamOf m s number zoom (layout_in layout) (interval_in interval) grid o → w.after ≡ opened_wire w.before o
+      go : (o : Result Stream Refusal) → StreamOf m s number zoom (layout_in layout) (interval_in interval) grid o → w.after ≡ opened_wire w.before o
           → Saw m (layout_in layout) letters (interval_found (interval_in interval)) s (grid_of grid) number zoom rule lists points ways z
-      go (open-read.Stream st) i q = record {
+      go (Ok st) i q = record {
         small = w.small;
         stream = st;
         opens = i;
         decides = w.decides;
         calls =
-            renamed (ap (λ (v : Wire). stream_in (list_of v 1)) q ∙ opened-stream (opened-back w.before w.lent (open-read.Stream st)))
+            renamed (ap (λ (v : Wire). stream_in (list_of v 1)) q ∙ opened-stream (opened-back w.before w.lent (Ok st)))
             (word-called m layout letters (list_of w.after 1) (calls_of points ways) (replies_of points ways z) w.calls);
       }
-      go (open-read.Refused r) i q = refusal-number r (sym w.opened ∙ ap (λ (v : Wire). v.number) q)
+      go (Err r) i q = refusal-number r (sym w.opened ∙ ap (λ (v : Wire). v.number) q)
 
   pub word-zooming : WordZooming m s grid number zoom layout letters interval rule lists points ways z
   word-zooming =

@@ -1,5 +1,6 @@
 -- Demand 3 for a program in another language: what it knows that opened a map, asked for a sub file's interval and collected a tile,
 -- none of which was refused, and what it then sees of every list of calls.
+use Rattle.std.specs.Prelude.{Result, Ok}
 use Rattle.std.specs.Prelude.{ℕ, ◌+◌, ◌^◌, ◌≤◌, ◌<◌, ◌≡◌, true, List, [], ◌∷◌, length, get_or}
 use Rattle.std.proofs.lemmas.List.Edits.{sets}
 use Rattle.parsing.specs.Parse.{Part, Maybe}
@@ -7,10 +8,9 @@ use Rattle.format.specs.Lent.{front, Reply}
 use Rattle.types.specs.Types.{grid_of}
 use Rattle.types.specs.declared.Grid.{Grid}
 use Rattle.format.specs.TagLists.{TagLists}
-use Rattle.opening.specs.declared.ListedRead.{ListedRead}
-use Rattle.opening.specs.declared.MapRead.{MapRead}
+use Rattle.types.specs.declared.HeaderFields.{HeaderFields}
+use Rattle.error.specs.declared.LentRefusal.{LentRefusal}
 use Rattle.index.specs.Answers.{interval_found, held_entry}
-use Rattle.index.specs.declared.EntryRead.TheVariants as entry_read
 use Rattle.agreement.specs.Calls.{Call}
 use Rattle.agreement.specs.Collected.{fetch}
 use Rattle.agreement.specs.Declined.{DifferOnly}
@@ -28,13 +28,16 @@ use Rattle.feature_wire.specs.Features.{tile_wire, fetch_wire}
 use Rattle.feature_wire.specs.Codecs.{summary_in, tile_in}
 use Rattle.tile.specs.Tile.{shown_tile, feature_places, summary_of, rows_of_tile, row_points, row_ways, TileLists}
 use Rattle.tile.specs.declared.Tile.{Tile}
-use Rattle.tile.specs.declared.SummaryRead.TheVariants as summary
 use Rattle.exports.specs.Calls.{OpenOf, RowOf, EntryOf, TileOf, FeatureOf}
 use Rattle.map_agreement.specs.Texts.{texts_found}
 use Rattle.map_agreement.specs.TileView.{fetch_gives}
 use Rattle.map_agreement.specs.MapsforgeMap.{mapsforge}
-use Rattle.map_agreement.specs.BookSays.{BookSays, fed_tile, book_at, texts_at, listed_in, Unread}
+use Rattle.map_agreement.specs.BookSays.{MapRead, BookSays, fed_tile, book_at, texts_at, listed_in, Unread}
 use Rattle.word_agreement.specs.WordCalls.{WordStreams}
+
+-- what `mapsforge_open` answers: the header but for its intervals, with the place behind it, or why there is none
+abbrev pub FieldsRead : Type 0
+FieldsRead = Result (HeaderFields × ℕ) LentRefusal
 
 abbrev pub IntervalLent : Wire → Type 0
 IntervalLent = Lent (6 ∷ 6 ∷ []) 0 0
@@ -47,7 +50,7 @@ TileLent = Lent (15 ∷ []) 0 0
 
 -- what `mapsforge_collect` left says this tile: its words, its rows in front of two lists, and its features' places in front of the third
 pub record ShowsTile (t : Tile) (places : List ℕ) (lent left : TileLists) (after : Wire) : Type 0 where
-  pub words : tile_in after ≡ summary.Value (summary_of t)
+  pub words : tile_in after ≡ Ok (summary_of t)
   pub points : left.points ≡ sets lent.points 0 (row_points (rows_of_tile t))
   pub ways : left.ways ≡ sets lent.ways 0 (row_ways (rows_of_tile t))
   pub list : left.places ≡ front places lent.places
@@ -83,7 +86,7 @@ pub record WordCollected (m : List ℕ) (sub_file : ℕ) (grid : Grid) (number :
 -- the same lent lists, it reads the header h, finds these tags in the lists, gets these layout words, and reads this interval, and neither
 -- call is refused; the tile's stream opens, and the
 -- calls get these replies
-pub record WordSees (x : List ℕ) (sub_file : ℕ) (grid : Grid) (number zoom : ℕ) (lists : TagLists) (h : ListedRead) (tags : TagLists) (layout interval : List ℕ) (cs : List Call)
+pub record WordSees (x : List ℕ) (sub_file : ℕ) (grid : Grid) (number zoom : ℕ) (lists : TagLists) (h : FieldsRead) (tags : TagLists) (layout interval : List ℕ) (cs : List Call)
     (replied : List (Reply ShownAnswer)) (spelled : List (List (Maybe Part))) : Type 0 where
   pub opened : (header : Wire) (tags' : TagLists) (interval' : Wire) → WordAnswers x sub_file lists header tags' interval' → (header_in header ≡ h) × (tags' ≡ tags)
   pub answers : (header : Wire) (tags' : TagLists) (interval' : Wire) → WordAnswers x sub_file lists header tags' interval'
@@ -97,13 +100,13 @@ pub record WordSees (x : List ℕ) (sub_file : ℕ) (grid : Grid) (number zoom :
 -- its words such a program sees the book's replies, on this map, and on one of the same length that is altered in ways declined untried
 pub record WordBook (m : List ℕ) (sub_file : ℕ) (grid : Grid) (number : ℕ) (lists tags : TagLists) (layout interval : List ℕ) : Type 0 where
   pub header : MapRead
-  pub fields : ListedRead
+  pub fields : FieldsRead
   pub says : BookSays m sub_file (grid_of grid) number lists header tags (layout_in layout) (interval_found (interval_in interval))
   pub shows : (room left : TileLists) (before after : Wire) → TileLent before → length says.tile.points + length says.tile.ways ≤ length room.places
       → Crosses (tile_wire before) (TileOf m tags.letters number room left (layout_in layout) (interval_in interval) grid) after
       → ShowsTile (shown_tile says.tile) (feature_places ((mapsforge sub_file (grid_of grid) number).format says.stored) m says.tile) room left after
   pub entry : (before after : Wire) → EntryLent before → Crosses (entry_wire before) (EntryOf m number (layout_in layout) (interval_in interval) grid) after
-      → entry_in after ≡ entry_read.Entry (held_entry says.place.entry)
+      → entry_in after ≡ Ok (held_entry says.place.entry)
   pub fetches : (room : List ℕ) (k : ℕ) (m' : List ℕ) → DifferOnly m m' (Unread sub_file (grid_of grid) number says.stored says.place says.tile m k) → (lent left : FetchLists) (before after : Wire)
       → Crosses (fetch_wire before) (FeatureOf m' tags.starts tags.letters (listed_in sub_file (grid_of grid) number says.stored says.place says.tile m room) (length says.tile.points) (length says.tile.ways) k lent left (layout_in layout)) after
       → Crosses (fetch_wire before) (λ r. FeatureIs (fetch_gives (fetch (fed_tile sub_file (grid_of grid) number says.stored says.place says.tile) k)) lent r left) after

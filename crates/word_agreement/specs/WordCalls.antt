@@ -2,24 +2,16 @@
 -- one after the other: of each call its contract (crate exports), with the state's words that the last call left. It reads the words by
 -- `next_in`, `accept_in` and `decline_in` of crate stream_wire. Nothing else stands here.
 use Rattle.std.specs.Prelude.{ℕ, ℤ, ◌≡◌, List, [], ◌∷◌, Float}
-use Rattle.error.specs.Refusals.{number_of, values_of}
 use Rattle.format.specs.Lent.{LentLists, Reply}
 use Rattle.types.specs.declared.Grid.{Grid}
-use Rattle.agreement.specs.Calls.{Call, next, accept, decline, got_point, got_head, ended, refused, no_lists}
-use Rattle.visit.specs.Visit.{ShownAnswer, end_of, accept_answer, decline_answer}
+use Rattle.agreement.specs.Calls.{Call, next, accept, decline, no_lists}
+use Rattle.visit.specs.Visit.{ShownAnswer, next_answer, accept_answer, decline_answer}
 use Rattle.wire.specs.Wire.{Wire, lending, list_of, Crosses}
 use Rattle.header_wire.specs.Header.{layout_in}
 use Rattle.index_wire.specs.Index.{interval_in}
 use Rattle.stream_wire.specs.Streams.{stream_in, opened_wire, next_wire, accept_wire, decline_wire}
-use Rattle.stream_wire.specs.Codecs.{Shown, a_point, a_way, the_end, a_refusal, OpenedLent, NextLent, next_in, AcceptLent, accept_in, DeclineLent, decline_in}
+use Rattle.stream_wire.specs.Codecs.{OpenedLent, NextLent, next_in, AcceptLent, accept_in, DeclineLent, decline_in}
 use Rattle.exports.specs.Calls.{StreamOf, NextOf, AcceptOf, DeclineOf}
-
--- what a next shows, as an answer
-abbrev pub shown_answer : Shown → ShownAnswer
-shown_answer (a_point p) = got_point p
-shown_answer (a_way h) = got_head h
-shown_answer (the_end z) = ended (end_of z)
-shown_answer (a_refusal r) = refused (number_of r) (values_of r)
 
 -- calls on the map m with these layout words and letters, from these state words on, whatever other words were lent, and the replies that the program read
 pub data WordCalled (m layout letters : List ℕ) : List ℕ → List Call → List (Reply ShownAnswer) → Type 0 where
@@ -28,7 +20,7 @@ pub data WordCalled (m layout letters : List ℕ) : List ℕ → List Call → L
       → NextLent (lending (words ∷ ids ∷ s ∷ []) signed degrees)
       → Crosses (next_wire (lending (words ∷ ids ∷ s ∷ []) signed degrees)) (NextOf m letters (layout_in layout) (stream_in s)) after
       → WordCalled m layout letters (list_of after 2) cs rs
-      → WordCalled m layout letters s (next ∷ cs) (record { answer = shown_answer (next_in after).shown; lists = no_lists } ∷ rs)
+      → WordCalled m layout letters s (next ∷ cs) (record { answer = next_answer (next_in after).answer; lists = no_lists } ∷ rs)
   call-accept : (words : List ℕ) (degrees : List Float) (after : Wire) (lists left : LentLists) {s : List ℕ} {cs : List Call} {rs : List (Reply ShownAnswer)}
       → AcceptLent (lending (words ∷ s ∷ []) [] degrees)
       → Crosses (accept_wire (lending (words ∷ s ∷ []) [] degrees)) (AcceptOf m (stream_in s) lists left) after

@@ -15,7 +15,7 @@ use Rattle.agreement.specs.TileFormat.{TileEnd, tile_end}
 use Rattle.tile_layout.specs.TileLayout.{kinds_of, format_of}
 use Rattle.zooming.specs.Zooming.{whole}
 use Rattle.zooming.specs.TileEnds.{PlainToo}
-use Rattle.visit.specs.Visit.{state_of, accept_answer}
+use Rattle.visit.specs.Visit.{state_of, next_answer, accept_answer}
 use Rattle.visit.specs.declared.StreamedHead.{StreamedHead}
 use Rattle.visit.specs.declared.StreamedBody.{StreamedBody}
 use Rattle.selection.specs.Driven.{DrivenFewer}
@@ -31,7 +31,6 @@ use Rattle.stream_wire.specs.Codecs.{OpenedLent, opened_in, NextLent, next_in, A
 use Rattle.wanted_wire.specs.Figures.{wanted_wire}
 use Rattle.wanted_wire.specs.Codecs.{wanted_in}
 use Rattle.exports.specs.Calls.{StreamOf, SelectedOf, AcceptOf, WantedOf}
-use Rattle.word_agreement.specs.WordCalls.{shown_answer}
 
 -- The contracts of `mapsforge_stream_next_selected`, call for call from these state words on, and of `mapsforge_stream_accept` for every way that it
 -- gives, whatever other words were lent, to a good end. `select` and `classes` are what was handed in each time.
@@ -39,16 +38,16 @@ pub data WordDrove (m layout letters select classes : List ℕ) : (state : List 
   call-end : (words ids : List ℕ) (signed : List ℤ) (degrees : List Float) (after : Wire) {s : List ℕ} {z : TileEnd}
       → NextLent (lending (words ∷ ids ∷ s ∷ []) signed degrees)
       → Crosses (next_wire (lending (words ∷ ids ∷ s ∷ []) signed degrees)) (SelectedOf m letters classes (layout_in layout) (selection_in select) (stream_in s)) after
-      → shown_answer (next_in after).shown ≡ ended z → WordDrove m layout letters select classes s [] [] [] z
+      → next_answer (next_in after).answer ≡ ended z → WordDrove m layout letters select classes s [] [] [] z
   call-point : (words ids : List ℕ) (signed : List ℤ) (degrees : List Float) (after : Wire) {s : List ℕ} {p : Poi} {ls : List LentLists} {ps : List Poi} {ws : List SeenWay} {z : TileEnd}
       → NextLent (lending (words ∷ ids ∷ s ∷ []) signed degrees)
       → Crosses (next_wire (lending (words ∷ ids ∷ s ∷ []) signed degrees)) (SelectedOf m letters classes (layout_in layout) (selection_in select) (stream_in s)) after
-      → shown_answer (next_in after).shown ≡ got_point p → WordDrove m layout letters select classes (list_of after 2) ls ps ws z
+      → next_answer (next_in after).answer ≡ got_point p → WordDrove m layout letters select classes (list_of after 2) ls ps ws z
       → WordDrove m layout letters select classes s ls (p ∷ ps) ws z
   call-way : (words ids words' : List ℕ) (signed : List ℤ) (degrees degrees' : List Float) (after after' : Wire) (lists left : LentLists) {s : List ℕ} {h : StreamedHead} {b : StreamedBody} {ls : List LentLists} {ws : List SeenWay} {z : TileEnd}
       → NextLent (lending (words ∷ ids ∷ s ∷ []) signed degrees)
       → Crosses (next_wire (lending (words ∷ ids ∷ s ∷ []) signed degrees)) (SelectedOf m letters classes (layout_in layout) (selection_in select) (stream_in s)) after
-      → shown_answer (next_in after).shown ≡ got_head h
+      → next_answer (next_in after).answer ≡ got_head h
       → AcceptLent (lending (words' ∷ list_of after 2 ∷ []) [] degrees')
       → Crosses (accept_wire (lending (words' ∷ list_of after 2 ∷ []) [] degrees')) (AcceptOf m (stream_in (list_of after 2)) lists left) after'
       → accept_answer (accept_in after').answer ≡ got_body b → WordDrove m layout letters select classes (list_of after' 1) ls [] ws z

@@ -7,47 +7,36 @@ use mathlib.Core.Bool.{Bool, true, false, cond}
 use mathlib.Core.List.{List, []}
 use lib.Dec.{lit≤}
 use lib.ListN.{length, get_or}
-use Rattle.parsing.specs.Parse.{Res, ok, no, and_then, map_res, passed, many, Maybe, none, some, part}
+use Rattle.parsing.specs.Parse.{Res, ok, no, Part, and_then, map_res, passed, many, Maybe, none, some, part}
 use Rattle.parsing.specs.Good.{ok_at, no_ok}
 use Rattle.parsing.proofs.Ends.{PastEnd, bind-end, byte-end}
 use Rattle.parsing.proofs.Loops.{many-count}
 use Rattle.parsing.proofs.Sized.{many-sized, part-sized, sized-whole, sized-short}
-use Rattle.parsing.proofs.Steps.{step, byte-here}
+use Rattle.parsing.proofs.Steps.{byte-here}
 use Rattle.error.specs.Refusals.{refused}
 use Rattle.error.specs.declared.Refusal.{Refusal}
 use Rattle.arithmetic.specs.Cut.{cut}
 use Rattle.arithmetic.proofs.CutLaws.{at_cut}
-use Rattle.byte_source.specs.Answers.{number_res, span_res, span_refusal}
 use Rattle.byte_source.specs.BigEndian.{big_endian}
-use Rattle.byte_source.specs.declared.NumberRead.{NumberRead}
-use Rattle.byte_source.specs.declared.NumberRead.TheVariants as number
-use Rattle.byte_source.specs.declared.Span.{Span}
-use Rattle.byte_source.specs.declared.SpanRead.{SpanRead}
-use Rattle.byte_source.specs.declared.SpanRead.TheVariants as span
 use Rattle.byte_source.proofs.ByteLaws.{big_endian-sized}
-use Rattle.byte_source.proofs.ReadLaws.{Passes, Stops, stop}
+use Rattle.byte_source.proofs.ReadLaws.{reads, went-on, refused-on}
 use Rattle.format.specs.Header.{Interval, interval}
 use Rattle.format.specs.Index.{answer, holds_zoom}
 use Rattle.format.specs.IntervalTable.{row_holding}
 use Rattle.format.proofs.IntervalLaws.{interval-sized}
 use Rattle.types.specs.Types.{interval_of}
-use Rattle.types.specs.declared.IntervalTable.{IntervalTable}
 use Rattle.types.specs.declared.ZoomInterval.{ZoomInterval}
-use Rattle.types.proofs.TypeLaws as types
-use Rattle.zoom_intervals.specs.Intervals.{interval_res, interval_refusal}
-use Rattle.zoom_intervals.specs.Rows.{table_before}
-use Rattle.zoom_intervals.specs.declared.IntervalRead.{IntervalRead}
-use Rattle.zoom_intervals.specs.declared.IntervalRead.TheVariants as interval-read
+use Rattle.index.proofs.AnswerLaws.{answer-up}
 
 -- a number of a row
-module _ (m : List ℕ) (at : ℕ) (g : NumberRead) (q : number_res g ≡ big_endian 8 m at) (h : at + 8 ≤ length m) where
-  pub number-held : (n k : ℕ) → g ≡ number.Value n k → ok n (at + 8) ≡ big_endian 8 m at
-  number-held n k d =
-      let e : k ≡ at + 8 = ok_at (ap passed (sym (ap number_res d) ∙ q) ∙ sized-whole (big_endian-sized 8) m at h) in
-      ap (ok n) (sym e) ∙ sym (ap number_res d) ∙ q
+module _ (m : List ℕ) (at n : ℕ) (h : at + 8 ≤ length m) where
+  pub number-held : (k : ℕ) → ok n k ≡ big_endian 8 m at → ok n (at + 8) ≡ big_endian 8 m at
+  number-held k q =
+      let e : k ≡ at + 8 = ok_at (ap passed q ∙ sized-whole (big_endian-sized 8) m at h) in
+      ap (ok n) (sym e) ∙ q
 
-  pub number-lost : (n : ℕ) (e : Refusal) → g ≡ number.Refused e → ok n (at + 8) ≡ big_endian 8 m at
-  number-lost n e d = no_ok (ap passed (sym (ap number_res d) ∙ q) ∙ sized-whole (big_endian-sized 8) m at h)
+  pub number-lost : (e : Refusal) → refused e ≡ big_endian 8 m at → ok n (at + 8) ≡ big_endian 8 m at
+  number-lost e q = no_ok (ap passed q ∙ sized-whole (big_endian-sized 8) m at h)
 
 -- a row
 module _ (m : List ℕ) (at : ℕ) where
@@ -67,35 +56,23 @@ module _ (m : List ℕ) (at : ℕ) where
   row-past h k = sized-short interval-sized m at (lit≤ tt) (omega arith)
 
 -- rows that are passed over as so many bytes
-module _ (m : List ℕ) (n at : ℕ) (g : SpanRead) (q : span_res m g ≡ part (19 * n) m at) where
-  as_bytes : passed (many interval n m at) ≡ passed (span_res m g)
-  as_bytes = (many-sized interval-sized n).passes m at ∙ sym ((part-sized (19 * n)).passes m at) ∙ sym (ap passed q)
+module _ (m : List ℕ) (n at : ℕ) where
+  as_bytes : passed (many interval n m at) ≡ passed (part (19 * n) m at)
+  as_bytes = (many-sized interval-sized n).passes m at ∙ sym ((part-sized (19 * n)).passes m at)
 
-  pub passed_ok : (s : Span) (e : ℕ) → g ≡ span.Value s e → ok n e ≡ map_res length (many interval n m at)
-  passed_ok s e d = go (many interval n m at) refl (as_bytes ∙ ap (λ g. passed (span_res m g)) d)
+  pub passed_ok : (s : Part) (e : ℕ) → ok s e ≡ part (19 * n) m at → ok n e ≡ map_res length (many interval n m at)
+  passed_ok s e q = go (many interval n m at) refl (as_bytes ∙ ap passed (sym q))
     where
       go : (r : Res (List Interval)) → many interval n m at ≡ r → passed r ≡ ok tt e → ok n e ≡ map_res length r
       go (ok l x) f z = rw (many-count interval m n at l x f, ok_at z)
       go (no k v) f z = no_ok z
 
-  pub passed-no : (e' e : Refusal) → g ≡ span.Refused e → e' ≡ span_refusal g → refused e' ≡ map_res length (many interval n m at)
-  passed-no e' e d p = ap refused (p ∙ ap span_refusal d) ∙ go (many interval n m at) (as_bytes ∙ ap (λ g. passed (span_res m g)) d)
+  pub passed-no : (e : Refusal) → refused e ≡ part (19 * n) m at → refused e ≡ map_res length (many interval n m at)
+  passed-no e q = go (many interval n m at) (as_bytes ∙ ap passed (sym q))
     where
       go : (r : Res (List Interval)) → passed r ≡ refused e → refused e ≡ map_res length r
       go (ok l x) z = no_ok (sym z)
       go (no k v) z = cc
-
--- a table whose rows would start in front of the map
-pub table-low : (e n : ℕ) → e < 19 * n → ◌≡◌ {A = IntervalTable} (record { start = 0; count = n }) (table_before e n)
-table-low e n h = let z : e - 19 * n ≡ 0 = omega arith in rw z
-
--- a row that was read, in a definition that goes on from it
-module _ {B : Type 0} where
-  pub interval-ok : Passes B interval_res interval_of interval-read.Value
-  interval-ok g v n r f x e h p = step interval_res r f e h p
-
-  pub interval-no : Stops B interval_res interval_refusal interval-read.Refused
-  interval-no g e' e r f q h p = stop interval_res interval_refusal r f q h p refl refl
 
 interval-end : PastEnd interval
 unfolding interval
@@ -118,14 +95,14 @@ module _ (m : List ℕ) (zoom i n at : ℕ) (whole : Res (Maybe ℕ)) (e : row_h
   unfolding row_holding
   first h = let z : n - i ≡ suc (n - (i + 1)) = omega arith in rw z at e
 
-  module _ (g : IntervalRead) (q : interval_res g ≡ interval m at) where
-    pub holding-no : (e' x : Refusal) → i < n → g ≡ interval-read.Refused x → e' ≡ interval_refusal g → refused e' ≡ whole
-    holding-no e' x b h p = interval-no g e' x (interval m at) _ q h p ∙ first b
+  pub holding-no : (x : Refusal) → i < n → refused x ≡ interval m at → refused x ≡ whole
+  holding-no x b q = refused-on x (interval m at) _ q ∙ first b
 
-    pub holding-here : (z : ZoomInterval) (k : ℕ) (t : Bool) → i < n → g ≡ interval-read.Value z k → t ≡ holds_zoom (interval_of z) zoom → t ≡ true → answer (some i) ≡ whole
-    holding-here z k t b h p d = interval-ok g z k (interval m at) _ (answer (some i)) q h (rw (← p, d)) ∙ first b
+  module _ (z : ZoomInterval) (k : ℕ) (q : ok (interval_of z) k ≡ interval m at) (t : Bool) (b : i < n) (p : t ≡ holds_zoom (interval_of z) zoom) where
+    pub holding-here : t ≡ true → answer (some i) ≡ whole
+    holding-here d = went-on _ k (interval m at) _ (answer (some i)) q (rw (← p, d)) ∙ first b
 
-    pub holding-next : (z : ZoomInterval) (k : ℕ) (t : Bool) → i < n → g ≡ interval-read.Value z k → t ≡ holds_zoom (interval_of z) zoom → t ≡ false → row_holding zoom (i + 1) (n - (i + 1)) m k ≡ whole
-    holding-next z k t b h p d = interval-ok g z k (interval m at) _ (row_holding zoom (i + 1) (n - (i + 1)) m k) q h (rw (← p, d)) ∙ first b
+    pub holding-next : t ≡ false → row_holding zoom (i + 1) (n - (i + 1)) m k ≡ whole
+    holding-next d = went-on _ k (interval m at) _ (row_holding zoom (i + 1) (n - (i + 1)) m k) q (rw (← p, d)) ∙ first b
 
-pub ruleset rows = (types.reads, number-held, number-lost, row-whole, row-behind, row-past, passed_ok, passed-no, table-low, interval-ok, interval-no, row_cut, holding-all, holding-none, holding-no, holding-here, holding-next)
+pub ruleset rows = (reads, number-held, number-lost, row-whole, row-behind, row-past, passed_ok, passed-no, row_cut, answer-up, holding-all, holding-none, holding-no, holding-here, holding-next)

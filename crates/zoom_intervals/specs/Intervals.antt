@@ -1,18 +1,9 @@
 -- The zoom intervals as the code holds them (document 01, types.rs: up to 255, in an array that is filled from the front).
-use Rattle.std.specs.Prelude.{List, [], map as mapped, length, replicate}
-use Rattle.parsing.specs.Parse.{Res, ok}
-use Rattle.error.specs.Refusals.{refused}
-use Rattle.error.specs.declared.Refusal.{Refusal}
-use Rattle.error.specs.declared.Refusal.TheVariants.{Source}
+use Rattle.std.specs.Prelude.{List, map as mapped, length, replicate}
 use Rattle.format.specs.Lent.{front}
 use Rattle.format.specs.Header.{Interval}
-use Rattle.types.specs.Types.{interval_of}
 use Rattle.types.specs.declared.ZoomInterval.{ZoomInterval}
-use Rattle.types.specs.Beside.{Beside}
 use Rattle.zoom_intervals.specs.declared.ZoomIntervals.{ZoomIntervals}
-use Rattle.zoom_intervals.specs.declared.IntervalRead.{IntervalRead}
-use Rattle.zoom_intervals.specs.declared.IntervalRead.TheVariants as interval
-use Rattle.zoom_intervals.specs.declared.IntervalsRead.{IntervalsRead}
 
 abbrev pub zoom_interval : Interval → ZoomInterval
 zoom_interval z = record {
@@ -38,14 +29,3 @@ filled l = front (mapped zoom_interval l) (replicate 255 empty_interval)
 
 abbrev pub zoom_intervals : List Interval → ZoomIntervals
 zoom_intervals l = record { count = length l; intervals = filled l }
-
-abbrev pub interval_res : IntervalRead → Res Interval
-interval_res (interval.Value z n) = ok (interval_of z) n
-interval_res (interval.Refused r) = refused r
-
-abbrev pub interval_refusal : IntervalRead → Refusal
-interval_refusal (interval.Value z n) = Source
-interval_refusal (interval.Refused r) = r
-
-abbrev pub IntervalsAre : Res (List Interval) → IntervalsRead → Type 0
-IntervalsAre stored r = Beside zoom_intervals (zoom_intervals []) stored r.zooms r.end

@@ -3,18 +3,15 @@ use Prim.Native.Nat.{ℕ, zero, suc, ◌+◌, ◌-◌, ◌≤◌, ◌<◌}
 use native.Mathlib.Nat.{zero-add, suc-add, add_assoc}
 use native.Mathlib.Omega.{arith}
 use mathlib.Core.Path.{◌≡◌, refl, sym, ap, ◌∙◌, subst}
-use mathlib.Core.Bool.{Bool, true, false, ◌&&◌}
+use mathlib.Core.Bool.{Bool, true, ◌&&◌}
 use mathlib.Core.List.{List, [], ◌∷◌, ◌++◌}
-use lib.Dec.{ltb}
 use lib.ListN.{length, get_or}
 use lib.Seq.{take-append_seam}
-use borrow.Author.Rules.{rules}
-use borrow.Author.Tests.{ltb-true}
 use Rattle.parsing.specs.Parse.{Res, ok, no, Parser, and_then, map_res, many}
 use Rattle.parsing.specs.Good.{split, ok-val, ok_at, total}
-use Rattle.parsing.proofs.Loops.{fold_more, counted, many-count}
+use Rattle.parsing.proofs.Loops.{fold_more, many-count}
 use Rattle.parsing.proofs.Steps.{then-then}
-use Rattle.parsing.proofs.Views.{viewed, view-stop}
+use Rattle.byte_source.proofs.ReadLaws.{view-on, view-refused, loop-refused}
 use Rattle.error.specs.Refusals.{refused}
 use Rattle.error.specs.declared.Refusal.{Refusal}
 use Rattle.error.specs.declared.Refusal.TheVariants.{ReversedInterval}
@@ -25,12 +22,10 @@ use Rattle.utils.proofs.VbeLaws.{unsigned-one}
 use Rattle.format.specs.Tile.{Row, row}
 use Rattle.format.specs.Rows.{rows_upto, points_of, ways_of, numbers_of_table}
 use Rattle.types.proofs.NotedLaws.{and_assoc, and-true, values_length, values-snoc, plain-snoc}
-use Rattle.zoom_table.specs.Blocks.{noted_row, sum_of, noted_sums, row_res, row_refusal, IfShort, ShortRow}
-use Rattle.zoom_table.specs.declared.NotedRow.{NotedRow}
-use Rattle.zoom_table.specs.declared.NotedSums.{NotedSums}
-use Rattle.zoom_table.specs.declared.RowRead.{RowRead}
-use Rattle.zoom_table.specs.declared.RowRead.TheVariants as row_read
-use Rattle.zoom_table.proofs.BlockLaws.{row-no, table-reversed, table_is}
+use Rattle.zoom_table.specs.Blocks.{sum_of, noted_sums, IfShort, ShortRow}
+use Rattle.zoom_table.specs.declared.ZoomRow.{ZoomRow}
+use Rattle.zoom_table.specs.declared.Sums.{Sums}
+use Rattle.zoom_table.proofs.BlockLaws.{table-reversed, table_is}
 
 total-append : {A : Type 0} (f : A → ℕ) (xs ys : List A) → total f (xs ++ ys) ≡ total f xs + total f ys
 total-append f [] ys = sym (zero-add (total f ys))
@@ -52,10 +47,10 @@ cut-both a b =
     cut-add a (cut b) ∙ ap cut e ∙ cut-add b a ∙ ap cut d
 
 -- a row more
-added : NotedRow → NotedRow → NotedRow
-added s r = record { points = cut (s.points + r.points); ways = cut (s.ways + r.ways); plain = s.plain && r.plain }
+added : Noted ZoomRow → Noted Row → Noted ZoomRow
+added s r = noted (record { points = cut (s.value.points + r.value.points); ways = cut (s.value.ways + r.value.ways) }) (s.plain && r.plain)
 
-sum_more : (xs : List (Noted Row)) (r : Noted Row) → sum_of (xs ++ (r ∷ [])) ≡ added (sum_of xs) (noted_row r)
+sum_more : (xs : List (Noted Row)) (r : Noted Row) → sum_of (xs ++ (r ∷ [])) ≡ added (sum_of xs) r
 unfolding added
 sum_more xs r =
     let l = values_of xs in
@@ -64,25 +59,16 @@ sum_more xs r =
     let w : v.ways + 0 ≡ v.ways = omega arith in
     rw (values-snoc xs r, plain-snoc xs r, total-append (λ r. r.points) l (v ∷ []), total-append (λ r. r.ways) l (v ∷ []), p, w, cut-add (points_of l) v.points, cut-add (ways_of l) v.ways)
 
-module _ (m : List ℕ) (i at n k p w : ℕ) (b : Bool) where
-  pub sums-more : (e p' w' : ℕ) (b' : Bool) (g : RowRead) (v : NotedRow) → map_res sum_of (many row i m at) ≡ ok (record { points = p; ways = w; plain = b }) n → row_res g ≡ map_res noted_row (row m n) → g ≡ row_read.Value v e → p' ≡ cut (p + v.points) → w' ≡ cut (w + v.ways) → b' ≡ (b && v.plain) → map_res sum_of (many row (i + 1) m at) ≡ ok (record { points = p'; ways = w'; plain = b' }) e
+module _ (m : List ℕ) (i at n p w : ℕ) (b : Bool) (h : map_res sum_of (many row i m at) ≡ ok (noted (record { points = p; ways = w }) b) n) where
+  pub sums-more : (v : Noted Row) (e p' w' : ℕ) (b' : Bool) → ok v e ≡ row m n → p' ≡ cut (p + v.value.points) → w' ≡ cut (w + v.value.ways) → b' ≡ (b && v.plain) → map_res sum_of (many row (i + 1) m at) ≡ ok (noted (record { points = p'; ways = w' }) b') e
   unfolding added
-  sums-more e p' w' b' g v h q d x y z =
-      rw (x, y, z) (fold_more row m sum_of noted_row added sum_more i at h (sym q ∙ ap row_res d))
+  sums-more v e p' w' b' q x y z =
+      rw (x, y, z) (fold_more row m sum_of (λ a. a) added sum_more i at h (ap (map_res (λ a. a)) (sym q)))
 
-  pub sums-no : (g : RowRead) (e' e : Refusal) → map_res sum_of (many row i m at) ≡ ok (record { points = p; ways = w; plain = b }) n → row_res g ≡ map_res noted_row (row m n) → g ≡ row_read.Refused e → e' ≡ row_refusal g → i < k → refused e' ≡ map_res sum_of (many row k m at)
-  sums-no g e' e h q d z o = ap (map_res sum_of) (row-no sum_of m i at n k (record { points = p; ways = w; plain = b }) g e' e h q d z o)
+  pub sums-no : (e : Refusal) (k : ℕ) → refused e ≡ row m n → i < k → refused e ≡ map_res sum_of (many row k m at)
+  sums-no e k q o = ap (map_res sum_of) (loop-refused row sum_of (λ a. a) m i k at n _ e (sym h) (ap (map_res (λ a. a)) q) o)
 
 -- a row whose numbers have one byte each
-pub short-test : (m : List ℕ) (at : ℕ) → at ≤ length m → 2 ≤ length m - at → get_or m at 0 < 128 → IfShort (ltb (get_or m (at + 1) 0) 128) (ShortRow m at)
-short-test m at h l a = go (ltb (get_or m (at + 1) 0) 128) refl
-  where
-    go : (t : Bool) → ltb (get_or m (at + 1) 0) 128 ≡ t → IfShort t (ShortRow m at)
-    go true e = record { inside = omega arith; points = a; ways = ltb-true (get_or m (at + 1) 0) 128 e }
-    go false e = tt
-
-pub ruleset shorts = (rules, short-test)
-
 module _ (m : List ℕ) (n : ℕ) (t : Bool) (s : IfShort t (ShortRow m n)) (k : t ≡ true) where
   short : ShortRow m n
   short = subst (λ (b : Bool). IfShort b (ShortRow m n)) k s
@@ -103,11 +89,8 @@ module _ (m : List ℕ) (n : ℕ) (t : Bool) (s : IfShort t (ShortRow m n)) (k :
       let e : n + 1 + 1 ≡ n + 2 = omega arith in
       rw (← unsigned-one m n (get_or m n 0) (omega arith) refl short.points, ← unsigned-one m (n + 1) (get_or m (n + 1) 0) (omega arith) refl short.ways, e)
 
-  pub short-more : (i at p w p' w' : ℕ) (b : Bool) → map_res sum_of (many row i m at) ≡ ok (record { points = p; ways = w; plain = b }) n → p' ≡ cut (p + get_or m n 0) → w' ≡ cut (w + get_or m (n + 1) 0) → map_res sum_of (many row (i + 1) m at) ≡ ok (record { points = p'; ways = w'; plain = b }) (n + 2)
-  short-more i at p w p' w' b h x y =
-      sums-more m i at n 0 p w b (n + 2) p' w' b (row_read.Value (record { points = get_or m n 0; ways = get_or m (n + 1) 0; plain = true }) (n + 2)) _ h (sym (ap (map_res noted_row) short_row)) refl x y (sym (and-true b))
-
-pub ruleset sums = (rules, sums-more, sums-no, counted)
+  pub short-more : (i at p w p' w' : ℕ) (b : Bool) → map_res sum_of (many row i m at) ≡ ok (noted (record { points = p; ways = w }) b) n → p' ≡ cut (p + get_or m n 0) → w' ≡ cut (w + get_or m (n + 1) 0) → map_res sum_of (many row (i + 1) m at) ≡ ok (noted (record { points = p'; ways = w' }) b) (n + 2)
+  short-more i at p w p' w' b h x y = sums-more m i at n p w b h _ (n + 2) p' w' b (sym short_row) x y (sym (and-true b))
 
 -- k values, then those that `then` gives from the place behind them
 module _ {A : Type 0} (then : ℕ → Res (List A)) where
@@ -135,16 +118,13 @@ many-append {A = A} p m (suc k) j at = rw (suc-add k j) (first (λ x. many-appen
     first ih (no n v) = refl
 
 -- the sums of a table from those of its parts
-of_parts : NotedRow → NotedRow → NotedSums
-of_parts v w = record {
-  sums = record {
-    points = v.points;
-    ways = v.ways;
-    all_points = cut (v.points + w.points);
-    all_ways = cut (v.ways + w.ways);
-  };
-  plain = v.plain && w.plain;
-}
+of_parts : Noted ZoomRow → Noted ZoomRow → Noted Sums
+of_parts v w = noted (record {
+  points = v.value.points;
+  ways = v.value.ways;
+  all_points = cut (v.value.points + w.value.points);
+  all_ways = cut (v.value.ways + w.value.ways);
+}) (v.plain && w.plain)
 
 sums-of : (a b z : ℕ) (xs ys : List (Noted Row)) → rows_upto a b z ≡ length xs → of_parts (sum_of xs) (sum_of ys) ≡ noted_sums a b z (xs ++ ys)
 unfolding of_parts
@@ -165,26 +145,25 @@ module _ (m : List ℕ) (a b at k : ℕ) where
     pub sum-reversed : b < a → refused ReversedInterval ≡ and_then (numbers_of_table a b m at) f
     sum-reversed h = rw (← (table-reversed m a b at h))
 
-    pub front-no : (g : RowRead) (e' e : Refusal) → row_res g ≡ map_res sum_of (many row k m at) → g ≡ row_read.Refused e → e' ≡ row_refusal g → a ≤ b → k ≤ suc (b - a) → refused e' ≡ and_then (numbers_of_table a b m at) f
-    front-no g e' e q d z h l =
-        rw (parts h l) (ap refused (z ∙ ap row_refusal d) ∙ then-then (many row k m at) _ f (refused e) (view-stop sum_of (many row k m at) _ (sym q ∙ ap row_res d)))
+    pub front-no : (e : Refusal) → refused e ≡ map_res sum_of (many row k m at) → a ≤ b → k ≤ suc (b - a) → refused e ≡ and_then (numbers_of_table a b m at) f
+    front-no e q h l =
+        rw (parts h l) (then-then (many row k m at) _ f (refused e) (view-refused sum_of e (many row k m at) _ q))
 
-    pub back-no : (n : ℕ) (g q : RowRead) (v : NotedRow) (e' e : Refusal) → row_res g ≡ map_res sum_of (many row k m at) → g ≡ row_read.Value v n → row_res q ≡ map_res sum_of (many row (b - a + 1 - k) m n) → q ≡ row_read.Refused e → e' ≡ row_refusal q → a ≤ b → k ≤ suc (b - a) → refused e' ≡ and_then (numbers_of_table a b m at) f
-    back-no n g q v e' e c d i j z h l =
-        rw (parts h l) (ap refused (z ∙ ap row_refusal j) ∙ then-then (many row k m at) _ f (refused e) (viewed sum_of (many row k m at) _ (sym c ∙ ap row_res d)
-        (λ xs _. then-then (many row (b - a + 1 - k) m n) _ f (refused e) (view-stop sum_of (many row (b - a + 1 - k) m n) _ (sym i ∙ ap row_res j)))))
+    pub back-no : (n : ℕ) (v : Noted ZoomRow) (e : Refusal) → ok v n ≡ map_res sum_of (many row k m at) → refused e ≡ map_res sum_of (many row (b - a + 1 - k) m n) → a ≤ b → k ≤ suc (b - a) → refused e ≡ and_then (numbers_of_table a b m at) f
+    back-no n v e c d h l =
+        rw (parts h l) (then-then (many row k m at) _ f (refused e) (view-on sum_of v n (many row k m at) _ (refused e) c
+        (λ xs _. then-then (many row (b - a + 1 - k) m n) _ f (refused e) (view-refused sum_of e (many row (b - a + 1 - k) m n) _ d))))
 
-  pub both_ok : (n e p w z : ℕ) (o : Bool) (g q : RowRead) (v u : NotedRow) → row_res g ≡ map_res sum_of (many row k m at) → g ≡ row_read.Value v n → row_res q ≡ map_res sum_of (many row (b - a + 1 - k) m n) → q ≡ row_read.Value u e → a ≤ b → k ≡ rows_upto a b z → k ≤ suc (b - a) → p ≡ cut (v.points + u.points) → w ≡ cut (v.ways + u.ways) → o ≡ (v.plain && u.plain) → ◌≡◌ {A = Res NotedSums} (ok (record { sums = record { points = v.points; ways = v.ways; all_points = p; all_ways = w }; plain = o }) e) (map_res (noted_sums a b z) (numbers_of_table a b m at))
+  pub both_ok : (n e p w z : ℕ) (o : Bool) (v u : Noted ZoomRow) → ok v n ≡ map_res sum_of (many row k m at) → ok u e ≡ map_res sum_of (many row (b - a + 1 - k) m n) → a ≤ b → k ≡ rows_upto a b z → k ≤ suc (b - a) → p ≡ cut (v.value.points + u.value.points) → w ≡ cut (v.value.ways + u.value.ways) → o ≡ (v.plain && u.plain)
+      → ok (noted (record { points = v.value.points; ways = v.value.ways; all_points = p; all_ways = w }) o) e ≡ map_res (noted_sums a b z) (numbers_of_table a b m at)
   unfolding of_parts
-  both_ok n e p w z o g q v u c d i j h f l x y y' =
-      let s = split (many row k m at) (λ xs r. ok (sum_of xs) r) v n (sym c ∙ ap row_res d) in
-      let t = split (many row (b - a + 1 - k) m n) (λ ys r. ok (sum_of ys) r) u e (sym i ∙ ap row_res j) in
+  both_ok n e p w z o v u c i h f l x y y' =
+      let s = split (many row k m at) (λ xs r. ok (sum_of xs) r) v n (sym c) in
+      let t = split (many row (b - a + 1 - k) m n) (λ ys r. ok (sum_of ys) r) u e (sym i) in
       done s.val s.mid t.val t.mid s.first (ok-val s.second) (ok_at s.second) t.first (ok-val t.second) (ok_at t.second)
     where
-      done : (xs : List (Noted Row)) (r : ℕ) (ys : List (Noted Row)) (r' : ℕ) → many row k m at ≡ ok xs r → sum_of xs ≡ v → r ≡ n → many row (b - a + 1 - k) m n ≡ ok ys r' → sum_of ys ≡ u → r' ≡ e → ok (record { sums = record { points = v.points; ways = v.ways; all_points = p; all_ways = w }; plain = o }) e ≡ map_res (noted_sums a b z) (numbers_of_table a b m at)
+      done : (xs : List (Noted Row)) (r : ℕ) (ys : List (Noted Row)) (r' : ℕ) → many row k m at ≡ ok xs r → sum_of xs ≡ v → r ≡ n → many row (b - a + 1 - k) m n ≡ ok ys r' → sum_of ys ≡ u → r' ≡ e → ok (noted (record { points = v.value.points; ways = v.value.ways; all_points = p; all_ways = w }) o) e ≡ map_res (noted_sums a b z) (numbers_of_table a b m at)
       done xs r ys r' f1 w1 o1 f2 w2 o2 =
           let c1 : rows_upto a b z ≡ length xs = sym f ∙ sym (many-count row m k at xs r f1) in
           let c2 : of_parts v u ≡ noted_sums a b z (xs ++ ys) = rw (← w1, ← w2) (sums-of a b z xs ys c1) in
-          rw (parts h l, f1, o1, f2, o2, x, y, y') (ap (λ (q : NotedSums). ok q e) c2)
-
-pub ruleset parted = (rules, sum-reversed, front-no, back-no, both_ok)
+          rw (parts h l, f1, o1, f2, o2, x, y, y') (ap (λ (q : Noted Sums). ok q e) c2)

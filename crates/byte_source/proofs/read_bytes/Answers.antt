@@ -4,11 +4,8 @@ use Rattle.byte_source.proofs.read_bytes.Goals as goal
 pub returns-then-size-lt1 : goal.returns-then-size-lt1
 returns-then-size-lt1 c = search parts
 
-pub returns-then-map-at : goal.returns-then-map-at
-returns-then-map-at c = search parts
-
-pub returns-then-map-at-2 : goal.returns-then-map-at-2
-returns-then-map-at-2 c = search parts
+pub returns-in_err-next : goal.returns-in_err-next
+returns-in_err-next c = search parts
 
 pub returns : goal.returns
 returns c = search parts

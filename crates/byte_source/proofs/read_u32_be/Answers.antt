@@ -1,11 +1,8 @@
 use Rattle.byte_source.proofs.ByteLaws.{parts}
 use Rattle.byte_source.proofs.read_u32_be.Goals as goal
 
-pub returns-then-map-at : goal.returns-then-map-at
-returns-then-map-at c = search parts
-
-pub returns-then-map-at-lt4 : goal.returns-then-map-at-lt4
-returns-then-map-at-lt4 c = search parts
+pub returns-in_err-next : goal.returns-in_err-next
+returns-in_err-next c = search parts
 
 pub returns : goal.returns
 returns c = search parts

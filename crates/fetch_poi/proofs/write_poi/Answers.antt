@@ -2,8 +2,7 @@ use Rattle.fetch_poi.proofs.PoiLaws.{poi-short, poi-done}
 use Rattle.fetch_poi.proofs.write_poi.Goals as goal
 
 pub returns-then-buffer-len : goal.returns-then-buffer-len
-returns-then-buffer-len c =
-    poi-short _ _ _ _ _ _ _ _ c.poi_parts-parts.ensures _ c.texts_len-len.ensures _ _ c.if-buffer-len.true c.short_buffer.ensures c.refused_poi.ensures.0 c.refused_poi.ensures.1
+returns-then-buffer-len c = poi-short _ _ _ _ _ _ _ _ c.poi_parts-parts.ensures _ c.texts_len-len.ensures _ c.if-buffer-len.true c.short_buffer.ensures
 
 pub returns : goal.returns
 returns c =

@@ -1,5 +1,5 @@
-use Rattle.header.proofs.HeaderLaws.{whole_is}
+use Rattle.header.proofs.HeaderLaws.{whole_read}
 use Rattle.header.proofs.read_from_file.Goals as goal
 
 pub returns : goal.returns
-returns c = whole_is _ _ c.read_fields.result _ _ (λ h e q. q) c.read_fields.ensures c.with_intervals.ensures
+returns c = whole_read _ _ _ _ (λ h e q. q) c.read_fields.ensures c.with_intervals.ensures

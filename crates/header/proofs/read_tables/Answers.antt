@@ -1,17 +1,23 @@
 use Rattle.format.specs.Header.{tables}
-use Rattle.header.proofs.HeaderLaws.{tables-are, parts}
+use Rattle.header.proofs.HeaderLaws as laws
 use Rattle.header.proofs.read_tables.Goals as goal
 
-pub returns-in_default : goal.returns-in_default
+pub returns-in_err-poi_tags : goal.returns-in_err-poi_tags
 unfolding tables
-returns-in_default c = search parts
+returns-in_err-poi_tags c = search laws.tables
 
-pub returns-in_default-got : goal.returns-in_default-got
+pub returns-in_err-way_tags : goal.returns-in_err-way_tags
 unfolding tables
-returns-in_default-got c = search parts
+returns-in_err-way_tags c = search laws.tables
+
+pub returns-in_err-count : goal.returns-in_err-count
+unfolding tables
+returns-in_err-count c = search laws.tables
+
+pub returns-then-front-eq0 : goal.returns-then-front-eq0
+unfolding tables
+returns-then-front-eq0 c = search laws.tables
 
 pub returns : goal.returns
-returns c =
-    tables-are _ _ _ _ _ _ _ _ _ _ _ _
-    c.read_tag_table-got.ensures c.in-Value.is c.read_tag_table-got-2.ensures c.in-Value-got.is
-    c.pass_intervals-got.ensures c.checked_fields.ensures
+unfolding tables
+returns c = search laws.tables

@@ -2,14 +2,14 @@ use Rattle.format.specs.Header.{place}
 use Rattle.header_fields.proofs.FieldLaws.{reads}
 use Rattle.header_fields.proofs.read_position.Goals as goal
 
-pub returns-in_default : goal.returns-in_default
+pub returns-in_err-y : goal.returns-in_err-y
 unfolding place
-returns-in_default c = search reads
+returns-in_err-y c = search reads
 
-pub returns-in_default-got : goal.returns-in_default-got
+pub returns-in_err-x : goal.returns-in_err-x
 unfolding place
-returns-in_default-got c = search reads
+returns-in_err-x c = search reads
 
 pub returns : goal.returns
 unfolding place
-returns c = search reads depth 8 fits 5000
+returns c = search reads

@@ -2,25 +2,25 @@ use Rattle.format.specs.Header.{versioned}
 use Rattle.header_fields.proofs.FieldLaws.{reads}
 use Rattle.header_fields.proofs.read_versioned.Goals as goal
 
-pub returns-in_default : goal.returns-in_default
+pub returns-in_err-header_size : goal.returns-in_err-header_size
 unfolding versioned
-returns-in_default c = search reads
+returns-in_err-header_size c = search reads
 
-pub returns-in_default-got : goal.returns-in_default-got
+pub returns-in_err-file_version : goal.returns-in_err-file_version
 unfolding versioned
-returns-in_default-got c = search reads
+returns-in_err-file_version c = search reads
 
 pub returns-then-file_version-lt3 : goal.returns-then-file_version-lt3
 unfolding versioned
 returns-then-file_version-lt3 c = search reads
 
-pub returns-in_default-got-2 : goal.returns-in_default-got-2
+pub returns-in_err-file_size : goal.returns-in_err-file_size
 unfolding versioned
-returns-in_default-got-2 c = search reads
+returns-in_err-file_size c = search reads
 
-pub returns-in_default-got-3 : goal.returns-in_default-got-3
+pub returns-in_err-creation_date : goal.returns-in_err-creation_date
 unfolding versioned
-returns-in_default-got-3 c = search reads
+returns-in_err-creation_date c = search reads
 
 pub returns : goal.returns
 unfolding versioned

@@ -1,49 +1,27 @@
 use Rattle.format.specs.Header.{front}
-use mathlib.Core.Path.{refl}
-use Rattle.byte_source.proofs.ReadLaws.{byte-ok, byte-no, short_ok, short-no, span-ok, span-no}
-use Rattle.header_fields.proofs.FieldLaws.{preamble-ok, preamble-no, box-ok, box-no}
+use Rattle.utils.proofs.NumberLaws.{reads}
 use Rattle.header_parts.proofs.read_front.Goals as goal
 
-pub returns-in_default : goal.returns-in_default
+pub returns-in_err-preamble : goal.returns-in_err-preamble
 unfolding front
-returns-in_default c = preamble-no _ _ _ _ _ c.read_preamble-got.ensures c.in_default.is c.preamble_refusal.ensures
+returns-in_err-preamble c = search reads
 
-pub returns-in_default-got : goal.returns-in_default-got
+pub returns-in_err-bounding_box : goal.returns-in_err-bounding_box
 unfolding front
-returns-in_default-got c =
-    preamble-ok _ _ _ _ _ _ c.read_preamble-got.ensures c.in-Value.is
-    (box-no _ _ _ _ _ c.read_bounding_box-got.ensures c.in_default-got.is c.box_refusal.ensures)
+returns-in_err-bounding_box c = search reads
 
-pub returns-in_default-got-2 : goal.returns-in_default-got-2
+pub returns-in_err-tile_size : goal.returns-in_err-tile_size
 unfolding front
-returns-in_default-got-2 c =
-    preamble-ok _ _ _ _ _ _ c.read_preamble-got.ensures c.in-Value.is
-    (box-ok _ _ _ _ _ _ c.read_bounding_box-got.ensures c.in-Value-got.is
-    (short-no _ _ _ _ _ c.read_u16_be-got.ensures c.in_default-got-2.is c.short_refusal.ensures))
+returns-in_err-tile_size c = search reads
 
-pub returns-in_default-got-3 : goal.returns-in_default-got-3
+pub returns-in_err-projection : goal.returns-in_err-projection
 unfolding front
-returns-in_default-got-3 c =
-    preamble-ok _ _ _ _ _ _ c.read_preamble-got.ensures c.in-Value.is
-    (box-ok _ _ _ _ _ _ c.read_bounding_box-got.ensures c.in-Value-got.is
-    (short_ok _ _ _ _ _ _ c.read_u16_be-got.ensures c.in-Value-got-2.is
-    (span-no _ _ _ _ _ _ c.read_vbe_u-got.ensures c.in_default-got-3.is c.span_refusal.ensures)))
+returns-in_err-projection c = search reads
 
-pub returns-in_default-got-4 : goal.returns-in_default-got-4
+pub returns-in_err-flags : goal.returns-in_err-flags
 unfolding front
-returns-in_default-got-4 c =
-    preamble-ok _ _ _ _ _ _ c.read_preamble-got.ensures c.in-Value.is
-    (box-ok _ _ _ _ _ _ c.read_bounding_box-got.ensures c.in-Value-got.is
-    (short_ok _ _ _ _ _ _ c.read_u16_be-got.ensures c.in-Value-got-2.is
-    (span-ok _ _ _ _ _ _ _ c.read_vbe_u-got.ensures c.in-Value-got-3.is
-    (byte-no _ _ _ _ _ c.read_u8-got.ensures c.in_default-got-4.is c.byte_refusal.ensures))))
+returns-in_err-flags c = search reads
 
 pub returns : goal.returns
 unfolding front
-returns c =
-    preamble-ok _ _ _ _ _ _ c.read_preamble-got.ensures c.in-Value.is
-    (box-ok _ _ _ _ _ _ c.read_bounding_box-got.ensures c.in-Value-got.is
-    (short_ok _ _ _ _ _ _ c.read_u16_be-got.ensures c.in-Value-got-2.is
-    (span-ok _ _ _ _ _ _ _ c.read_vbe_u-got.ensures c.in-Value-got-3.is
-    (byte-ok _ _ _ _ _ _ c.read_u8-got.ensures c.in-Value-got-4.is
-    refl))))
+returns c = search reads

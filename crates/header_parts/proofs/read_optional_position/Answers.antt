@@ -1,11 +1,11 @@
-use Rattle.header_parts.proofs.PartLaws.{optionals}
+use Rattle.fields.proofs.FieldLaws.{flagged}
 use Rattle.header_parts.proofs.read_optional_position.Goals as goal
 
 pub returns-then-not-flag : goal.returns-then-not-flag
-returns-then-not-flag c = search optionals
+returns-then-not-flag c = search flagged
 
-pub returns-in_default : goal.returns-in_default
-returns-in_default c = search optionals
+pub returns-in_err-position : goal.returns-in_err-position
+returns-in_err-position c = search flagged
 
 pub returns : goal.returns
-returns c = search optionals
+returns c = search flagged

@@ -1,49 +1,27 @@
 use Rattle.format.specs.Header.{options}
-use mathlib.Core.Path.{refl}
-use Rattle.fields.proofs.FieldLaws.{optional-part-ok, optional-span-no}
-use Rattle.header_parts.proofs.PartLaws.{maybe-place-ok, maybe-place-no, maybe-byte-ok, maybe-byte-no}
+use Rattle.utils.proofs.NumberLaws.{reads}
 use Rattle.header_parts.proofs.read_options.Goals as goal
 
-pub returns-in_default : goal.returns-in_default
+pub returns-in_err-start_position : goal.returns-in_err-start_position
 unfolding options
-returns-in_default c = maybe-place-no _ _ _ _ _ c.read_optional_position-got.ensures c.in_default.is c.optional_position_refusal.ensures
+returns-in_err-start_position c = search reads
 
-pub returns-in_default-got : goal.returns-in_default-got
+pub returns-in_err-start_zoom_level : goal.returns-in_err-start_zoom_level
 unfolding options
-returns-in_default-got c =
-    maybe-place-ok _ _ _ _ _ _ c.read_optional_position-got.ensures c.in-Value.is
-    (maybe-byte-no _ _ _ _ _ c.read_optional_byte-got.ensures c.in_default-got.is c.optional_byte_refusal.ensures)
+returns-in_err-start_zoom_level c = search reads
 
-pub returns-in_default-got-2 : goal.returns-in_default-got-2
+pub returns-in_err-language_preference : goal.returns-in_err-language_preference
 unfolding options
-returns-in_default-got-2 c =
-    maybe-place-ok _ _ _ _ _ _ c.read_optional_position-got.ensures c.in-Value.is
-    (maybe-byte-ok _ _ _ _ _ _ c.read_optional_byte-got.ensures c.in-Value-got.is
-    (optional-span-no _ _ _ _ _ _ c.read_optional_text-got.ensures c.in_default-got-2.is c.optional_span_refusal.ensures))
+returns-in_err-language_preference c = search reads
 
-pub returns-in_default-got-3 : goal.returns-in_default-got-3
+pub returns-in_err-comment : goal.returns-in_err-comment
 unfolding options
-returns-in_default-got-3 c =
-    maybe-place-ok _ _ _ _ _ _ c.read_optional_position-got.ensures c.in-Value.is
-    (maybe-byte-ok _ _ _ _ _ _ c.read_optional_byte-got.ensures c.in-Value-got.is
-    (optional-part-ok _ _ _ _ _ _ _ c.read_optional_text-got.ensures c.in-Value-got-2.is
-    (optional-span-no _ _ _ _ _ _ c.read_optional_text-got-2.ensures c.in_default-got-3.is c.optional_span_refusal-in_default-got-3.ensures)))
+returns-in_err-comment c = search reads
 
-pub returns-in_default-got-4 : goal.returns-in_default-got-4
+pub returns-in_err-created_by : goal.returns-in_err-created_by
 unfolding options
-returns-in_default-got-4 c =
-    maybe-place-ok _ _ _ _ _ _ c.read_optional_position-got.ensures c.in-Value.is
-    (maybe-byte-ok _ _ _ _ _ _ c.read_optional_byte-got.ensures c.in-Value-got.is
-    (optional-part-ok _ _ _ _ _ _ _ c.read_optional_text-got.ensures c.in-Value-got-2.is
-    (optional-part-ok _ _ _ _ _ _ _ c.read_optional_text-got-2.ensures c.in-Value-got-3.is
-    (optional-span-no _ _ _ _ _ _ c.read_optional_text-got-3.ensures c.in_default-got-4.is c.optional_span_refusal-in_default-got-4.ensures))))
+returns-in_err-created_by c = search reads
 
 pub returns : goal.returns
 unfolding options
-returns c =
-    maybe-place-ok _ _ _ _ _ _ c.read_optional_position-got.ensures c.in-Value.is
-    (maybe-byte-ok _ _ _ _ _ _ c.read_optional_byte-got.ensures c.in-Value-got.is
-    (optional-part-ok _ _ _ _ _ _ _ c.read_optional_text-got.ensures c.in-Value-got-2.is
-    (optional-part-ok _ _ _ _ _ _ _ c.read_optional_text-got-2.ensures c.in-Value-got-3.is
-    (optional-part-ok _ _ _ _ _ _ _ c.read_optional_text-got-3.ensures c.in-Value-got-4.is
-    refl))))
+returns c = search reads

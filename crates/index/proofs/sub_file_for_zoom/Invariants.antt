@@ -1,6 +1,4 @@
-use Prim.Native.Nat.{◌≤◌, ◌<◌, ◌-◌}
-use mathlib.Core.Path.{◌≡◌}
-use lib.ListN.{length}
+use Rattle.std.proofs.Common.{◌≡◌, ◌<◌, ◌≤◌, length}
 use Rattle.format.specs.Index.{sub_file_for_zoom}
 use Rattle.types.specs.Types.{intervals_of}
 use Rattle.index.proofs.SubFileLaws.{from}
@@ -9,7 +7,3 @@ use Rattle.index.proofs.sub_file_for_zoom.Given as goal
 abbrev pub invariant-loop-i : goal.invariant-loop-i
 invariant-loop-i l =
     (l.n < 256) × (l.n ≤ length l.header.zoom_interval_configuration) × (from l.header.zoom_interval_configuration l.n l.zoom l.i ≡ sub_file_for_zoom (intervals_of l.header) l.zoom)
-
-abbrev pub decreases-loop-i : goal.decreases-loop-i
-decreases-loop-i l =
-    l.n - l.i

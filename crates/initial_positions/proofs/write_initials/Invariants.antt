@@ -1,6 +1,3 @@
-use Prim.Native.Nat.{◌-◌}
-use mathlib.Core.Path.{◌≡◌}
-use lib.ListN.{length}
 use lib.Seq.{sets}
 use Rattle.initial_positions.specs.Initial.{initials}
 use Rattle.initial_positions.proofs.InitialLaws.{InitialsLeft}
@@ -8,8 +5,4 @@ use Rattle.initial_positions.proofs.write_initials.Given as goal
 
 abbrev pub invariant-loop-i : goal.invariant-loop-i
 invariant-loop-i l =
-    (length l.initials ≡ length l.initial.initials) × InitialsLeft l.node_counts l.values l.initials l.i l.pos (sets l.initial.initials 0 (initials l.node_counts l.values))
-
-abbrev pub decreases-loop-i : goal.decreases-loop-i
-decreases-loop-i l =
-    length l.node_counts - l.i
+    InitialsLeft l.node_counts l.values l.initials l.i l.pos (sets l.initial.initials 0 (initials l.node_counts l.values))

@@ -1,15 +1,14 @@
-use Rattle.format.specs.Header.{signature}
-use Rattle.header_fields.proofs.FieldLaws.{reads}
+use Rattle.index.proofs.AnswerLaws.{answer-up}
+use Rattle.opening.proofs.OpeningLaws.{signature-lost, signature-held, signature-other}
 use Rattle.opening.proofs.check_signature.Goals as goal
 
-pub returns-in_default : goal.returns-in_default
-unfolding signature
-returns-in_default c = search reads
+pub returns-in_err-span : goal.returns-in_err-span
+returns-in_err-span c = answer-up (λ a. a) _ _ _ c.from_residual.ensures (signature-lost _ _ _ c.in_err-span.ensures)
 
 pub returns-then-same_bytes : goal.returns-then-same_bytes
-unfolding signature
-returns-then-same_bytes c = search reads
+returns-then-same_bytes c =
+    signature-held _ _ _ _ c.in_ok-span.ensures _ _ c.span_bytes-bytes.ensures c.same_bytes.ensures c.if-same_bytes.true
 
 pub returns : goal.returns
-unfolding signature
-returns c = search reads
+returns c =
+    signature-other _ _ _ _ c.in_ok-span.ensures _ _ c.span_bytes-bytes.ensures c.same_bytes.ensures c.if-same_bytes.false

@@ -1,6 +1,8 @@
-use borrow.Author.Tests.{not-false}
-use Rattle.opening.proofs.ReplyLaws.{replies, listed-fit}
+use Rattle.opening.proofs.ReplyLaws.{replies, listed-done}
 use Rattle.opening.proofs.open_listed.Goals as goal
+
+pub returns-in_err-fields : goal.returns-in_err-fields
+returns-in_err-fields c = search replies
 
 pub overflow_add-tags : goal.overflow_add-tags
 overflow_add-tags c = search replies
@@ -9,8 +11,8 @@ pub returns-then-not-long_enough : goal.returns-then-not-long_enough
 returns-then-not-long_enough c = search replies
 
 pub list_both-requires : goal.list_both-requires
-list_both-requires c =
-    listed-fit _ _ _ _ _ _ c.open_fields-got.ensures c.in-Value.is _ c.long_enough.ensures (not-false _ c.if-not-long_enough.false-raw)
+list_both-requires c = search replies
 
 pub returns : goal.returns
-returns c = search replies
+returns c =
+    listed-done _ _ _ _ _ c.in_ok-fields.ensures _ c.long_enough.ensures _ _ (search replies) c.list_both.ensures

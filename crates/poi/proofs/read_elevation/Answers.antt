@@ -4,8 +4,8 @@ use Rattle.poi.proofs.read_elevation.Goals as goal
 pub returns-then-not-flag : goal.returns-then-not-flag
 returns-then-not-flag c = search elevations
 
-pub returns-in_default : goal.returns-in_default
-returns-in_default c = search elevations
+pub returns-in_err-number : goal.returns-in_err-number
+returns-in_err-number c = search elevations
 
 pub returns : goal.returns
 returns c = search elevations

@@ -1,8 +1,8 @@
-use Rattle.questions.proofs.QuestionLaws.{asked}
+use Rattle.std.proofs.Common.{rules}
+use Rattle.questions.specs.Numbers.{number_at}
+use Rattle.questions.proofs.QuestionLaws.{found}
 use Rattle.questions.proofs.word_at.Goals as goal
 
-pub returns-in_default : goal.returns-in_default
-returns-in_default c = search asked
-
 pub returns : goal.returns
-returns c = search asked
+unfolding number_at
+returns c = found c.read_u32_be.result 0 _ _ c.read_u32_be.ensures (search (rules, c.map_or.ensures))

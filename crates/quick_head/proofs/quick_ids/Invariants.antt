@@ -1,4 +1,4 @@
-use Prim.Native.Nat.{◌≤◌, ◌-◌}
+use Prim.Native.Nat.{◌≤◌}
 use mathlib.Core.Path.{◌≡◌}
 use mathlib.Core.Bool.{true}
 use lib.ListN.{length}
@@ -10,8 +10,4 @@ use Rattle.quick_head.proofs.quick_ids.Given as goal
 
 abbrev pub invariant-loop-i : goal.invariant-loop-i
 invariant-loop-i l =
-    (l.i ≤ l.count) × (l.next ≤ length l.map) × (map_res (filled l.initial.ids) (many (tag_id l.tags) l.i l.map l.at) ≡ ok (noted l.ids true) l.next)
-
-abbrev pub decreases-loop-i : goal.decreases-loop-i
-decreases-loop-i l =
-    l.count - l.i
+    (l.next ≤ length l.map) × (map_res (filled l.initial.ids) (many (tag_id l.tags) l.i l.map l.at) ≡ ok (noted l.ids true) l.next)

@@ -1,4 +1,3 @@
-use Prim.Native.Nat.{◌-◌}
 use Rattle.quick_head.proofs.QuickLaws.{quicks}
 use Rattle.quick_head.proofs.quick_values.Goals as goal
 

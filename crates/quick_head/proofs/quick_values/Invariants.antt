@@ -1,4 +1,4 @@
-use Prim.Native.Nat.{◌≤◌, ◌-◌}
+use Prim.Native.Nat.{◌≤◌}
 use mathlib.Core.Path.{◌≡◌}
 use lib.ListN.{length, take, drop}
 use Rattle.parsing.specs.Parse.{map_res}
@@ -9,8 +9,4 @@ use Rattle.quick_head.proofs.quick_values.Given as goal
 
 abbrev pub invariant-loop-i : goal.invariant-loop-i
 invariant-loop-i l =
-    (l.i ≤ l.count) × (l.next ≤ length l.map) × (map_res are_plain (values (kinds_in l.letters l.first l.tags) (drop l.i (take l.count l.ids)) l.map l.next) ≡ map_res are_plain (values (kinds_in l.letters l.first l.tags) (take l.count l.ids) l.map l.at))
-
-abbrev pub decreases-loop-i : goal.decreases-loop-i
-decreases-loop-i l =
-    l.count - l.i
+    (l.next ≤ length l.map) × (map_res are_plain (values (kinds_in l.letters l.first l.tags) (drop l.i (take l.count l.ids)) l.map l.next) ≡ map_res are_plain (values (kinds_in l.letters l.first l.tags) (take l.count l.ids) l.map l.at))

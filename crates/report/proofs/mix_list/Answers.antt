@@ -1,9 +1,13 @@
-use Rattle.std.proofs.Common.{arith}
-use Rattle.report.proofs.WordLaws.{words, mix-more}
+use Rattle.std.proofs.Common.{◌<◌, arith}
+use lib.ListN.{length-take}
+use lib.Seq.{get_or-take}
+use Rattle.report.proofs.WordLaws.{mix-none, mix-more}
 use Rattle.report.proofs.mix_list.Goals as goal
 
-pub loop-i-init : goal.loop-i-init
-loop-i-init c = search words
+pub loop-word-init : goal.loop-word-init
+loop-word-init c = mix-none _ _ _ c.mix-out.ensures
 
-pub loop-i-preserved : goal.loop-i-preserved
-loop-i-preserved c = (omega arith, omega arith, mix-more _ _ _ _ c.loop-i.invariant.2 _ c.mix-out-in-loop-i.ensures)
+pub loop-word-preserved : goal.loop-word-preserved
+loop-word-preserved c =
+    let b : c.loop-word.word-index < c.min-first.result = omega (arith, length-take c.min-first.result c.args.list.now) in
+    mix-more _ _ _ _ c.loop-word.invariant _ (rw get_or-take at c.mix-out-in-loop-word.ensures)

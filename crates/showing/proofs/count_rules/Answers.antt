@@ -1,12 +1,10 @@
-use Prim.Native.Nat.{◌-◌, ◌*◌}
-use native.Mathlib.Omega.{arith}
-use mathlib.Core.Path.{refl, ◌∙◌}
+use Rattle.std.proofs.Common.{◌*◌, refl, ◌∙◌}
 use Rattle.showing.proofs.ShowingLaws.{counted_none, counted-more}
 use Rattle.showing.proofs.count_rules.Goals as goal
 
 pub loop-k-init : goal.loop-k-init
-loop-k-init c = (omega arith, refl, counted_none c.args.rules.now (8192 * c.args.stretch) c.args.counts.now c.requires.by_index)
+loop-k-init c = (refl, counted_none c.args.rules.now (8192 * c.args.stretch) c.args.counts.now c.requires.by_index)
 
 pub loop-k-preserved : goal.loop-k-preserved
 loop-k-preserved c =
-    (omega arith, c.count_rule.ensures.long ∙ c.loop-k.invariant.1, counted-more c.rule_at-rule.ensures.value c.count_rule.ensures c.loop-k.invariant.2)
+    (c.count_rule.ensures.long ∙ c.loop-k.invariant.0, counted-more c.rule_at.ensures.value c.count_rule.ensures c.loop-k.invariant.1)

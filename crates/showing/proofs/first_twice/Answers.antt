@@ -1,18 +1,10 @@
-use Prim.Native.Nat.{◌-◌}
-use native.Mathlib.Omega.{arith}
-use borrow.Author.Tests.{le-leb, lt-leb}
-use Rattle.showing.specs.Steps.{twice_in}
-use Rattle.showing.proofs.ShowingLaws.{first-here, first-later, first-none}
+use Rattle.std.proofs.Common.{rules, nat_le}
+use Rattle.std.proofs.lemmas.Iterator.{YieldsList-from_slice}
+use Rattle.std.proofs.lemmas.Iterator.Search.{position_from_yields_List}
+use Rattle.showing.proofs.ShowingLaws.{position-le, unwrapped}
 use Rattle.showing.proofs.first_twice.Goals as goal
 
-pub returns-then-counts-i-ge2-clause-value : goal.returns-then-counts-i-ge2-clause-value
-returns-then-counts-i-ge2-clause-value c =
-    first-here (twice_in c.args.counts.now) c.args.n c.loop-i.i _ c.loop-i.invariant.1 (omega arith) (le-leb _ _ c.if-counts-i-ge2.true)
-
-pub loop-i-preserved : goal.loop-i-preserved
-loop-i-preserved c =
-    (omega arith, first-later (twice_in c.args.counts.now) c.args.n c.loop-i.i _ c.loop-i.invariant.1 (omega arith) (lt-leb _ _ c.if-counts-i-ge2.false))
-
-pub returns-clause-value : goal.returns-clause-value
-returns-clause-value c =
-    first-none (twice_in c.args.counts.now) c.args.n c.loop-i.i _ c.loop-i.invariant.1 (omega arith)
+pub returns : goal.returns
+returns c =
+    unwrapped _ _ _ _ (position-le (λ n. nat_le 2 n) c.args.counts.now)
+    (position_from_yields_List (λ n. nat_le 2 n) _ _ _ c.position.ensures.ran (YieldsList-from_slice c.args.counts.now cc) (λ x b q k. search rules)) c.unwrap_or.ensures

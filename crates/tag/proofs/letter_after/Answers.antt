@@ -1,4 +1,3 @@
-use Prim.Native.Nat.{◌-◌}
 use Rattle.tag.proofs.TagLaws.{tags}
 use Rattle.tag.proofs.letter_after.Goals as goal
 

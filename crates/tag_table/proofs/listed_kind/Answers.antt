@@ -1,11 +1,9 @@
-use Rattle.tag_table.proofs.KindLaws.{listed}
+use mathlib.Core.Path.{◌∙◌}
+use Rattle.tag_table.proofs.KindLaws.{kind-listed, kind-none}
 use Rattle.tag_table.proofs.listed_kind.Goals as goal
 
-pub returns-then-tags-k : goal.returns-then-tags-k
-returns-then-tags-k c = search listed
+pub returns-in-Some : goal.returns-in-Some
+returns-in-Some c = c.kind_of.ensures ∙ kind-listed _ _ _ _ _ c.in-Some.ensures
 
-pub returns-then-has_entry : goal.returns-then-has_entry
-returns-then-has_entry c = search listed
-
-pub returns : goal.returns
-returns c = search listed
+pub returns-in-None : goal.returns-in-None
+returns-in-None c = kind-none _ _ _ _ c.in-None.ensures

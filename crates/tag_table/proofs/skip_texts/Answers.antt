@@ -1,9 +1,8 @@
-use Prim.Native.Nat.{◌-◌}
 use Rattle.tag_table.proofs.TableLaws.{walks}
 use Rattle.tag_table.proofs.skip_texts.Goals as goal
 
-pub returns-in_default : goal.returns-in_default
-returns-in_default c = search walks
+pub returns-in_err-after : goal.returns-in_err-after
+returns-in_err-after c = search walks
 
-pub loop-i-preserved : goal.loop-i-preserved
-loop-i-preserved c = search walks
+pub loop-preserved : goal.loop-preserved
+loop-preserved c = search walks

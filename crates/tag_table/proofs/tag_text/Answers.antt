@@ -6,9 +6,9 @@ pub returns-then-table-k : goal.returns-then-table-k
 unfolding tag_text
 returns-then-table-k c = search walks
 
-pub returns-in_default : goal.returns-in_default
+pub returns-in_err-at : goal.returns-in_err-at
 unfolding tag_text
-returns-in_default c = search walks
+returns-in_err-at c = search walks
 
 pub returns : goal.returns
 unfolding tag_text

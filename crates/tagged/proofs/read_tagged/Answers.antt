@@ -1,15 +1,11 @@
 use Rattle.format.specs.Tile.{tagged}
-use Rattle.byte_source.proofs.ReadLaws.{byte-no}
-use Rattle.types.proofs.BesideLaws.{beside-no}
-use Rattle.tagged.proofs.TaggedLaws.{tags}
+use Rattle.byte_source.proofs.ReadLaws.{reads}
 use Rattle.tagged.proofs.read_tagged.Goals as goal
 
-pub returns-in_default : goal.returns-in_default
+pub returns-in_err-special : goal.returns-in_err-special
 unfolding tagged
-returns-in_default c =
-    beside-no _ _ _ _ _ _ c.refused_tagged.ensures.0 c.refused_tagged.ensures.1
-    (byte-no _ _ _ _ _ c.read_u8-got.ensures c.in_default.is c.byte_refusal.ensures)
+returns-in_err-special c = search reads
 
 pub returns : goal.returns
 unfolding tagged
-returns c = search tags
+returns c = search reads

@@ -1,15 +1,9 @@
-use Rattle.std.proofs.Common.{◌-◌}
+use Rattle.text.proofs.WalkLaws.{turn, walked}
 use Rattle.text.proofs.HashLaws.{hashes}
 use Rattle.text.proofs.hash_tag_parameter.Goals as goal
 
-pub overflow_add-at : goal.overflow_add-at
-overflow_add-at c = search hashes
-
-pub loop-at-smaller : goal.loop-at-smaller
-loop-at-smaller c = search hashes
-
-pub loop-at-preserved : goal.loop-at-preserved
-loop-at-preserved c = search hashes
+pub loop-next-preserved : goal.loop-next-preserved
+loop-next-preserved c = let g = turn c.loop-next.invariant.0 c.in-Some.ensures.steps in rw g.next (search hashes)
 
 pub returns : goal.returns
-returns c = search hashes
+returns c = let e = walked c.args.text.now c.loop-next.next-iterator c.loop-next.invariant.0 c.in-None.ensures.steps in search hashes

@@ -1,4 +1,4 @@
-use Rattle.std.proofs.Common.{◌-◌}
+use Rattle.text.proofs.WalkLaws.{turn, walked}
 use Rattle.text.proofs.WriteLaws.{writes}
 use Rattle.text.proofs.replaced_fits.Goals as goal
 
@@ -6,16 +6,10 @@ pub returns-then-text-room : goal.returns-then-text-room
 returns-then-text-room c = search writes
 
 pub returns-then-room-n : goal.returns-then-room-n
-returns-then-room-n c = search writes
+returns-then-room-n c = let g = turn c.loop-next.invariant.0 c.in-Some.ensures.steps in search writes
 
-pub overflow_add-at : goal.overflow_add-at
-overflow_add-at c = search writes
-
-pub loop-at-smaller : goal.loop-at-smaller
-loop-at-smaller c = search writes
-
-pub loop-at-preserved : goal.loop-at-preserved
-loop-at-preserved c = search writes
+pub loop-next-preserved : goal.loop-next-preserved
+loop-next-preserved c = let g = turn c.loop-next.invariant.0 c.in-Some.ensures.steps in rw g.next (search writes)
 
 pub returns : goal.returns
-returns c = search writes
+returns c = let e = walked c.args.text.now c.loop-next.next-iterator c.loop-next.invariant.0 c.in-None.ensures.steps in search writes

@@ -1,18 +1,12 @@
-use Rattle.std.proofs.Common.{◌-◌}
+use Rattle.text.proofs.WalkLaws.{turn, walked}
 use Rattle.text.proofs.WriteLaws.{writes}
 use Rattle.text.proofs.replaced_len.Goals as goal
 
 pub returns-then-utf8_valid : goal.returns-then-utf8_valid
 returns-then-utf8_valid c = search writes
 
-pub overflow_add-at : goal.overflow_add-at
-overflow_add-at c = search writes
-
-pub loop-at-smaller : goal.loop-at-smaller
-loop-at-smaller c = search writes
-
-pub loop-at-preserved : goal.loop-at-preserved
-loop-at-preserved c = search writes
+pub loop-next-preserved : goal.loop-next-preserved
+loop-next-preserved c = let g = turn c.loop-next.invariant.0 c.in-Some.ensures.steps in rw g.next (search writes)
 
 pub returns : goal.returns
-returns c = search writes
+returns c = let e = walked c.args.text.now c.loop-next.next-iterator c.loop-next.invariant.0 c.in-None.ensures.steps in search writes

@@ -1,21 +1,12 @@
-use Rattle.std.proofs.Common.{◌-◌}
+use Rattle.text.proofs.WalkLaws.{turn, walked}
 use Rattle.text.proofs.Utf8Laws.{texts}
 use Rattle.text.proofs.utf8_valid.Goals as goal
 
-pub loop-at-preserved-then-text-at-lt128 : goal.loop-at-preserved-then-text-at-lt128
-loop-at-preserved-then-text-at-lt128 c = search texts
+pub returns-in-Ill : goal.returns-in-Ill
+returns-in-Ill c = let g = turn c.loop-next.invariant.0 c.in-Some.ensures.steps in search texts
 
-pub returns-in_default : goal.returns-in_default
-returns-in_default c = search texts
-
-pub overflow_add-at-in-loop-at : goal.overflow_add-at-in-loop-at
-overflow_add-at-in-loop-at c = search texts
-
-pub loop-at-smaller : goal.loop-at-smaller
-loop-at-smaller c = search texts
-
-pub loop-at-preserved : goal.loop-at-preserved
-loop-at-preserved c = search texts
+pub loop-next-preserved : goal.loop-next-preserved
+loop-next-preserved c = let g = turn c.loop-next.invariant.0 c.in-Some.ensures.steps in rw g.next (search texts)
 
 pub returns : goal.returns
-returns c = search texts
+returns c = let e = walked c.args.text.now c.loop-next.next-iterator c.loop-next.invariant.0 c.in-None.ensures.steps in search texts

@@ -1,6 +1,3 @@
-use Prim.Native.Nat.{◌≤◌, ◌-◌}
-use mathlib.Core.Path.{◌≡◌}
-use lib.ListN.{length}
 use Rattle.agreement.specs.Collected.{way}
 use Rattle.tile_layout.specs.TileLayout.{kinds_of, format_of}
 use Rattle.tile.proofs.PlaceLaws.{Reached}
@@ -8,8 +5,4 @@ use Rattle.tile.proofs.put_measured_places.Given as goal
 
 abbrev pub invariant-loop-i : goal.invariant-loop-i
 invariant-loop-i l =
-    (l.i ≤ l.n) × (length l.places ≡ length l.initial.places) × Reached (way (format_of (kinds_of l.layout l.letters))) l.map l.i l.at l.next l.first l.initial.places l.places
-
-abbrev pub decreases-loop-i : goal.decreases-loop-i
-decreases-loop-i l =
-    l.n - l.i
+    Reached (way (format_of (kinds_of l.layout l.letters))) l.map l.i l.at l.next l.first l.initial.places l.places

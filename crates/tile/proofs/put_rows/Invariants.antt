@@ -1,4 +1,3 @@
-use Prim.Native.Nat.{◌≤◌, ◌-◌}
 use mathlib.Core.Path.{◌≡◌}
 use Rattle.parsing.specs.Parse.{ok, many, map_res}
 use Rattle.utils.specs.Vbe.{values_of}
@@ -8,8 +7,4 @@ use Rattle.tile.proofs.put_rows.Given as goal
 
 abbrev pub invariant-loop-i : goal.invariant-loop-i
 invariant-loop-i l =
-    (l.i ≤ l.count) × (map_res (λ rows. put_points l.initial.points (values_of rows)) (many row l.i l.map l.at) ≡ ok l.points l.next) × (map_res (λ rows. put_ways l.initial.ways (values_of rows)) (many row l.i l.map l.at) ≡ ok l.ways l.next)
-
-abbrev pub decreases-loop-i : goal.decreases-loop-i
-decreases-loop-i l =
-    l.count - l.i
+    (map_res (λ rows. put_points l.initial.points (values_of rows)) (many row l.i l.map l.at) ≡ ok l.points l.next) × (map_res (λ rows. put_ways l.initial.ways (values_of rows)) (many row l.i l.map l.at) ≡ ok l.ways l.next)

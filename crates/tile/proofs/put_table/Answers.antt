@@ -8,8 +8,8 @@ returns-then-place c =
 
 pub returns-in_default : goal.returns-in_default
 returns-in_default c =
-    no-signature c.args.place.empty c.args.debug c.args.place.min_zoom c.args.place.max_zoom c.args.map.now c.args.place.at _ _ _ _ c.if-place.false _ c.read_signature-got.ensures _ c.in_default.is
+    no-signature c.args.place.empty c.args.debug c.args.place.min_zoom c.args.place.max_zoom c.args.map.now c.args.place.at _ _ _ _ c.if-place.false _ c.in_default.ensures
 
 pub returns : goal.returns
 returns c =
-    signature-past c.args.place.empty c.args.debug c.args.place.min_zoom c.args.place.max_zoom c.args.map.now c.args.place.at _ _ _ _ c.if-place.false _ c.read_signature-got.ensures _ _ _ c.requires c.in-Value.is refl c.put_rows.ensures
+    signature-past c.args.place.empty c.args.debug c.args.place.min_zoom c.args.place.max_zoom c.args.map.now c.args.place.at _ _ _ _ c.if-place.false _ _ _ c.requires c.in-Ok.ensures refl c.put_rows.ensures

@@ -1,27 +1,14 @@
-use Rattle.format.specs.Tile.{tile_head}
-use Rattle.tile_head.proofs.HeadLaws.{heads}
+use Rattle.byte_source.proofs.ReadLaws.{handed-up}
+use Rattle.tile_head.proofs.HeadLaws.{head-ordered, offset-refused, offset-on}
 use Rattle.tile_head.proofs.read_tile_head.Goals as goal
 
-pub returns-then-max-min : goal.returns-then-max-min
-unfolding tile_head
-returns-then-max-min c = search heads depth 12
-
-pub returns-then-empty : goal.returns-then-empty
-unfolding tile_head
-returns-then-empty c = search heads depth 12
-
-pub returns-in_default : goal.returns-in_default
-unfolding tile_head
-returns-in_default c = search heads depth 12
-
-pub returns-in_default-got : goal.returns-in_default-got
-unfolding tile_head
-returns-in_default-got c = search heads depth 12
-
-pub returns-in_default-got-2 : goal.returns-in_default-got-2
-unfolding tile_head
-returns-in_default-got-2 c = search heads depth 12
+pub returns-in_err-offset : goal.returns-in_err-offset
+returns-in_err-offset c =
+    handed-up (λ a. a) _ _ _ c.from_residual-in_err-offset.ensures
+    (head-ordered _ _ _ _ _ _ _ _ c.if-max-min.false c.if-empty.false
+    (offset-refused _ _ _ _ _ _ _ _ _ _ c.if-max-min.false c.in_ok-signature.ensures c.in_ok-table.ensures _ c.in_err-offset.ensures))
 
 pub returns : goal.returns
-unfolding tile_head
-returns c = search heads depth 12
+returns c =
+    head-ordered _ _ _ _ _ _ _ _ c.if-max-min.false c.if-empty.false
+    (offset-on _ _ _ _ _ _ _ _ _ _ c.if-max-min.false c.in_ok-signature.ensures c.in_ok-table.ensures _ _ c.in_ok-offset.ensures)

@@ -1,20 +1,19 @@
-use mathlib.Core.Path.{refl}
-use Rattle.types.specs.Types.{interval_of}
+use Rattle.std.proofs.Common.{refl}
+use Rattle.index.proofs.AnswerLaws.{answer-up}
 use Rattle.tile_place.proofs.PlaceLaws.{no_own, no-next, reversed, found}
 use Rattle.tile_place.proofs.place_of.Goals as goal
 
-pub returns-in_default : goal.returns-in_default
-returns-in_default c =
-    no_own c.args.debug (interval_of c.args.interval) c.args.tile c.args.tiles c.args.map.now _ c.entry_at-got.ensures _ _ c.in_default.is c.entry_refusal.ensures
+pub returns-in_err-entry : goal.returns-in_err-entry
+returns-in_err-entry c = answer-up (λ a. a) _ _ _ c.from_residual.ensures (no_own _ _ _ _ _ _ c.in_err-entry.ensures)
 
-pub returns-in_default-next : goal.returns-in_default-next
-returns-in_default-next c =
-    no-next c.args.debug (interval_of c.args.interval) c.args.tile c.args.tiles c.args.map.now _ c.entry_at-got.ensures _ c.in-Entry.is _ c.next_offset-next.ensures _ _ c.in_default-next.is c.number_refusal.ensures
+pub returns-in_err-offset : goal.returns-in_err-offset
+returns-in_err-offset c =
+    answer-up (λ a. a) _ _ _ c.from_residual-in_err-offset.ensures (no-next _ _ _ _ _ _ c.in_ok-entry.ensures _ c.in_err-offset.ensures)
 
 pub returns-then-max_zoom-min_zoom : goal.returns-then-max_zoom-min_zoom
 returns-then-max_zoom-min_zoom c =
-    reversed c.args.debug (interval_of c.args.interval) c.args.tile c.args.tiles c.args.map.now _ c.entry_at-got.ensures _ c.in-Entry.is _ c.next_offset-next.ensures _ _ c.in-Value.is c.if-max_zoom-min_zoom.true
+    reversed _ _ _ _ _ _ c.in_ok-entry.ensures _ c.in_ok-offset.ensures c.if-max_zoom-min_zoom.true
 
 pub returns : goal.returns
 returns c =
-    found c.args.debug (interval_of c.args.interval) c.args.tile c.args.tiles c.args.map.now _ c.entry_at-got.ensures _ c.in-Entry.is _ c.next_offset-next.ensures _ _ c.in-Value.is _ _ c.if-max_zoom-min_zoom.false refl c.first_byte.ensures
+    found _ _ _ _ _ _ c.in_ok-entry.ensures _ c.in_ok-offset.ensures _ _ c.if-max_zoom-min_zoom.false refl c.first_byte.ensures

@@ -1,16 +1,13 @@
-use Prim.Native.Nat.{◌-◌}
 use Rattle.tile_layout.specs.TileLayout.{kinds_of}
-use native.Mathlib.Omega.{arith}
 use Rattle.tile_walk.proofs.WalkLaws.{points-more, points-no}
 use Rattle.tile_walk.proofs.measure_points.Goals as goal
 
-pub returns-in_default : goal.returns-in_default
-returns-in_default c =
+pub returns-in_err-poi : goal.returns-in_err-poi
+returns-in_err-poi c =
     let w = (kinds_of c.args.layout c.args.letters.now).ways in
-    points-no _ _ _ w _ _ _ _ c.loop-i.invariant.1 _ c.read_poi-got.ensures _ _ _
-    c.in_default.is c.end_refusal.ensures c.loop-i-test.true
+    points-no _ _ _ w _ _ _ _ c.loop.invariant _ _ _ c.in_err-poi.ensures c.from_residual.ensures c.loop-test.true
 
-pub loop-i-preserved : goal.loop-i-preserved
-loop-i-preserved c =
+pub loop-preserved : goal.loop-preserved
+loop-preserved c =
     let w = (kinds_of c.args.layout c.args.letters.now).ways in
-    (omega arith, points-more _ _ _ w c.loop-i.i c.args.at _ _ c.loop-i.invariant.1 _ c.read_poi-got.ensures _ _ c.in-At.is c.both-all.ensures)
+    points-more _ _ _ w _ c.args.at _ _ c.loop.invariant _ _ c.in_ok-poi.ensures

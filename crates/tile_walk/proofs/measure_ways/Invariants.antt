@@ -1,14 +1,9 @@
-use Prim.Native.Nat.{◌≤◌, ◌-◌}
 use mathlib.Core.Path.{◌≡◌}
 use Rattle.parsing.specs.Parse.{ok}
 use Rattle.tile_layout.specs.TileLayout.{kinds_of}
 use Rattle.tile_walk.specs.TileWalk.{said_ways}
 use Rattle.tile_walk.proofs.measure_ways.Given as goal
 
-abbrev pub invariant-loop-i : goal.invariant-loop-i
-invariant-loop-i l =
-    (l.i ≤ l.n) × (ok (record { exact = l.exact; plain = l.plain }) l.next ≡ said_ways (kinds_of l.layout l.letters) l.map l.i l.at)
-
-abbrev pub decreases-loop-i : goal.decreases-loop-i
-decreases-loop-i l =
-    l.n - l.i
+abbrev pub invariant-loop : goal.invariant-loop
+invariant-loop l =
+    ok (record { exact = l.exact; plain = l.plain }) l.next ≡ said_ways (kinds_of l.layout l.letters) l.map l.counter l.at

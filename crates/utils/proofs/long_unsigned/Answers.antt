@@ -1,10 +1,11 @@
 use Rattle.utils.specs.Vbe.{noted_unsigned}
+use Rattle.byte_source.proofs.ReadLaws.{reads}
 use Rattle.utils.proofs.long_unsigned.Goals as goal
 
-pub returns-in-Value : goal.returns-in-Value
+pub returns-in_err-groups : goal.returns-in_err-groups
 unfolding noted_unsigned
-returns-in-Value c = rw (← c.read_groups-got.ensures, c.in-Value.is, c.plain_unsigned.ensures)
+returns-in_err-groups c = search reads
 
-pub returns-in-Refused : goal.returns-in-Refused
+pub returns : goal.returns
 unfolding noted_unsigned
-returns-in-Refused c = simp (← c.read_groups-got.ensures, c.in-Refused.is)
+returns c = search reads

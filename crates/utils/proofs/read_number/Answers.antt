@@ -1,10 +1,11 @@
 use Rattle.utils.specs.Vbe.{unsigned}
+use Rattle.byte_source.proofs.ReadLaws.{reads}
 use Rattle.utils.proofs.read_number.Goals as goal
 
-pub returns-in-Value : goal.returns-in-Value
+pub returns-in_err-number : goal.returns-in_err-number
 unfolding unsigned
-returns-in-Value c = rw (← c.read_vbe_u_int-got.ensures, c.in-Value.is)
+returns-in_err-number c = search reads
 
-pub returns-in-Refused : goal.returns-in-Refused
+pub returns : goal.returns
 unfolding unsigned
-returns-in-Refused c = rw (← c.read_vbe_u_int-got.ensures, c.in-Refused.is)
+returns c = search reads

@@ -1,9 +1,8 @@
-use Rattle.visit.proofs.OpenLaws.{open_no, open_at}
+use Rattle.visit.proofs.OpenLaws.{open_no, open-found}
 use Rattle.visit.proofs.open.Goals as goal
 
-pub returns-in_default : goal.returns-in_default
-returns-in_default c =
-    open_no _ _ _ _ _ c.well_formed.0.0 _ _ _ c.find_tile-got.ensures c.in_default.field-0 _ c.in_default.is c.place_refusal.ensures
+pub returns-in_err-place : goal.returns-in_err-place
+returns-in_err-place c = open_no _ _ _ _ _ c.well_formed.0.0 _ _ _ _ c.from_residual.ensures c.in_err-place.ensures
 
 pub returns : goal.returns
-returns c = open_at _ _ _ _ _ c.well_formed.0.0 _ _ _ c.find_tile-got.ensures c.in-At.place c.open_at.result c.in-At.is c.open_at.ensures
+returns c = open-found _ _ _ _ _ c.well_formed.0.0 _ _ _ _ c.in_ok-place.ensures c.open_at.ensures

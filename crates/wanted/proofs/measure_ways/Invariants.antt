@@ -1,4 +1,4 @@
-use Prim.Native.Nat.{◌≤◌, ◌-◌}
+use Prim.Native.Nat.{◌≤◌}
 use mathlib.Core.Path.{◌≡◌}
 use Rattle.parsing.specs.Parse.{map_res}
 use Rattle.tile_layout.specs.TileLayout.{kinds_of, format_of}
@@ -9,8 +9,4 @@ use Rattle.wanted.proofs.measure_ways.Given as goal
 
 abbrev pub invariant-loop-i : goal.invariant-loop-i
 invariant-loop-i l =
-    (l.i ≤ l.n) × (l.all.ways ≤ l.i) × (rest (kinds_of l.layout l.letters) l.map l.decisions l.all l.i l.n l.next ≡ map_res (all_ways (kinds_of l.layout l.letters)) (taken_ways (format_of (kinds_of l.layout l.letters)) l.decisions 0 l.n l.map l.at))
-
-abbrev pub decreases-loop-i : goal.decreases-loop-i
-decreases-loop-i l =
-    l.n - l.i
+    (l.all.ways ≤ l.i) × (rest (kinds_of l.layout l.letters) l.map l.decisions l.all l.i l.n l.next ≡ map_res (all_ways (kinds_of l.layout l.letters)) (taken_ways (format_of (kinds_of l.layout l.letters)) l.decisions 0 l.n l.map l.at))

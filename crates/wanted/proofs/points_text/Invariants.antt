@@ -1,4 +1,3 @@
-use Prim.Native.Nat.{◌≤◌, ◌-◌}
 use mathlib.Core.Path.{◌≡◌}
 use Rattle.parsing.specs.Parse.{ok, map_res, many}
 use Rattle.tile_layout.specs.TileLayout.{kinds_of, format_of}
@@ -7,8 +6,4 @@ use Rattle.wanted.proofs.points_text.Given as goal
 
 abbrev pub invariant-loop-i : goal.invariant-loop-i
 invariant-loop-i l =
-    (l.i ≤ l.n) × (ok l.longest l.next ≡ map_res (greatest point_text) (many (format_of (kinds_of l.layout l.letters)).point l.i l.map l.at))
-
-abbrev pub decreases-loop-i : goal.decreases-loop-i
-decreases-loop-i l =
-    l.n - l.i
+    ok l.longest l.next ≡ map_res (greatest point_text) (many (format_of (kinds_of l.layout l.letters)).point l.i l.map l.at)

@@ -1,13 +1,18 @@
-use Rattle.way.proofs.WayLaws.{measure-no-fields, measure-no-data, measure-ok}
+use mathlib.Core.Path.{ap, ◌∙◌}
+use Rattle.parsing.specs.Parse.{ok}
+use Rattle.error.specs.Refusals.{refused}
+use Rattle.byte_source.proofs.ReadLaws.{handed-up}
+use Rattle.way.proofs.WayLaws.{measure-no-fields, measured}
 use Rattle.way.proofs.measure_way_body.Goals as goal
 
-pub returns-in_default : goal.returns-in_default
-returns-in_default c = measure-no-fields _ _ _ c.read_way_fields-got.ensures c.in_default.field-0 _ c.in_default.is c.way_fields_refusal.ensures
+pub returns-in_err-fields : goal.returns-in_err-fields
+returns-in_err-fields c =
+    handed-up _ _ _ _ c.from_residual.ensures (measure-no-fields _ _ _ c.in_err-fields.ensures)
 
-pub returns-in_default-got : goal.returns-in_default-got
-returns-in_default-got c =
-    measure-no-data _ _ _ c.read_way_fields-got.ensures c.in-Value.fields c.in-Value.at c.in-Value.is _ c.in_default-got.field-0 _ c.measure_way_data-got.ensures c.in_default-got.is c.way_data_refusal.ensures
+pub returns-in_err-sizes : goal.returns-in_err-sizes
+returns-in_err-sizes c =
+    handed-up _ _ _ _ c.from_residual-in_err-sizes.ensures (measured _ _ _ _ c.in_ok-fields.ensures (refused c.in_err-sizes.field-0.0) c.in_err-sizes.ensures)
 
 pub returns : goal.returns
 returns c =
-    measure-ok _ _ _ c.read_way_fields-got.ensures c.in-Value.fields c.in-Value.at c.in-Value.is _ c.in-Value-got.sizes c.in-Value-got.at _ c.measure_way_data-got.ensures c.in-Value-got.is c.body_with.ensures
+    ap (λ b. ok b c.in_ok-sizes.at) c.body_with.ensures ∙ measured _ _ _ _ c.in_ok-fields.ensures (ok c.in_ok-sizes.sizes c.in_ok-sizes.at) c.in_ok-sizes.ensures

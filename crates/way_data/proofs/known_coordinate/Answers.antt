@@ -1,4 +1,5 @@
 use native.Mathlib.Omega.{arith}
+use mathlib.Core.Path.{refl}
 use Rattle.way_data.proofs.CoordinateLaws.{coordinates, first-there, second-there, third-there, three-bytes}
 use Rattle.way_data.proofs.known_coordinate.Goals as goal
 
@@ -12,14 +13,14 @@ pub returns-then-a-lt128 : goal.returns-then-a-lt128
 returns-then-a-lt128 c = search coordinates
 
 pub bounds-map-at-2 : goal.bounds-map-at-2
-bounds-map-at-2 c = second-there _ _ c.requires _ c.wide-a.ensures c.if-a-lt128.false
+bounds-map-at-2 c = second-there _ _ c.requires _ refl c.if-a-lt128.false
 
 pub returns-then-b-lt128 : goal.returns-then-b-lt128
 returns-then-b-lt128 c = search coordinates
 
 pub bounds-map-at-3 : goal.bounds-map-at-3
-bounds-map-at-3 c = third-there _ _ c.requires _ c.wide-a.ensures c.if-a-lt128.false _ c.wide-b.ensures c.if-b-lt128.false
+bounds-map-at-3 c = third-there _ _ c.requires _ refl c.if-a-lt128.false _ refl c.if-b-lt128.false
 
 pub returns-then-c-lt128 : goal.returns-then-c-lt128
 returns-then-c-lt128 c =
-    three-bytes _ _ c.requires _ c.wide-a.ensures c.if-a-lt128.false _ c.wide-b.ensures c.if-b-lt128.false _ _ c.wide-c.ensures c.if-c-lt128.true c.signed_of-then-c-lt128.ensures
+    three-bytes _ _ c.requires _ refl c.if-a-lt128.false _ refl c.if-b-lt128.false _ _ refl c.if-c-lt128.true c.signed_of-then-c-lt128.ensures

@@ -1,16 +1,11 @@
-use mathlib.Core.Path.{◌≡◌}
-use lib.ListN.{length}
+use Prim.Native.Nat.{◌-◌}
 use Rattle.parsing.specs.Parse.{map_res, many}
 use Rattle.format.specs.WayData.{concat}
 use Rattle.way_data.specs.Writes.{one_block}
 use Rattle.way_data.proofs.BlockLaws.{BlocksLeft}
 use Rattle.way_data.proofs.write_blocks.Given as goal
 
-abbrev pub invariant-loop-left : goal.invariant-loop-left
-invariant-loop-left l =
-    (length l.counts ≡ length l.initial.counts) × (length l.latitudes ≡ length l.initial.latitudes) × (length l.longitudes ≡ length l.initial.longitudes)
-    × BlocksLeft l.double (map_res concat (many one_block l.n l.map l.initial.place.next)) l.initial.place l.initial.counts l.initial.latitudes l.initial.longitudes (map_res concat (many one_block l.left l.map l.place.next)) l.place l.counts l.latitudes l.longitudes
-
-abbrev pub decreases-loop-left : goal.decreases-loop-left
-decreases-loop-left l =
-    l.left
+abbrev pub invariant-loop : goal.invariant-loop
+invariant-loop l =
+    BlocksLeft l.double (map_res concat (many one_block l.n l.map l.initial.place.next)) l.initial.place l.initial.counts l.initial.latitudes l.initial.longitudes
+    (map_res concat (many one_block (l.n - l.counter) l.map l.place.next)) l.place l.counts l.latitudes l.longitudes

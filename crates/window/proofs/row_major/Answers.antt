@@ -11,9 +11,9 @@ pub steps-column-requires : goal.steps-column-requires
 steps-column-requires c =
     ordered-x c.args.grid c.args.x c.args.y c.requires (search rules) (search rules) (search rules) (search rules) c.ranges.x.sfits c.ranges.y.sfits
 
-pub steps-requires : goal.steps-requires
-steps-requires c = columns-ordered c.args.grid c.args.x c.args.y c.requires (search rules) (search rules)
+pub steps-last-requires : goal.steps-last-requires
+steps-last-requires c = columns-ordered c.args.grid c.args.x c.args.y c.requires (search rules) (search rules)
 
 pub returns : goal.returns
 returns c =
-    number_is c.args.grid c.args.x c.args.y c.requires (search rules) (search rules) (search rules) (search rules) c.ranges.x.sfits c.ranges.y.sfits _ _ _ c.steps-row.ensures.0 c.steps-column.ensures.0 (columns-here _ _ _ (columns-ordered c.args.grid c.args.x c.args.y c.requires (search rules) (search rules)) c.steps.ensures.0)
+    number_is c.args.grid c.args.x c.args.y c.requires (search rules) (search rules) (search rules) (search rules) c.ranges.x.sfits c.ranges.y.sfits _ _ _ c.steps-row.ensures.0 c.steps-column.ensures.0 (columns-here _ _ _ (columns-ordered c.args.grid c.args.x c.args.y c.requires (search rules) (search rules)) c.steps-last.ensures.0)

@@ -1,14 +1,14 @@
 use Rattle.window.specs.Window.{window_count}
-use Rattle.index.proofs.AnswerLaws.{grid-no}
+use Rattle.index.proofs.AnswerLaws.{reads}
 use Rattle.window.proofs.CountLaws.{product-fits, count-answer}
 use Rattle.window.proofs.window_count.Goals as goal
 
-pub returns-in_default : goal.returns-in_default
+pub returns-in_err-grid_tiles : goal.returns-in_err-grid_tiles
 unfolding window_count
-returns-in_default c = grid-no _ _ _ _ _ c.grid_tiles-got.ensures c.in_default.is c.grid_refusal.ensures
+returns-in_err-grid_tiles c = search reads
 
 pub overflow_mul-result : goal.overflow_mul-result
-overflow_mul-result c = product-fits _ _ _ c.grid_tiles-got.ensures c.in-Tiles.is _ _ c.rows_of-rows.ensures.1 c.columns_of-columns.ensures.1
+overflow_mul-result c = product-fits _ _ c.in_ok-grid_tiles.ensures _ _ c.rows_of-rows.ensures.1 c.columns_of-columns.ensures.1
 
 pub returns : goal.returns
-returns c = count-answer _ _ _ _ c.grid_tiles-got.ensures c.in-Tiles.is _ _ c.rows_of-rows.ensures.0 c.columns_of-columns.ensures.0
+returns c = count-answer _ _ _ c.in_ok-grid_tiles.ensures _ _ c.rows_of-rows.ensures.0 c.columns_of-columns.ensures.0

@@ -6,9 +6,9 @@ pub returns-then-table-k : goal.returns-then-table-k
 unfolding row_at
 returns-then-table-k c = search rows
 
-pub returns-in_default : goal.returns-in_default
+pub returns-in_err-interval : goal.returns-in_err-interval
 unfolding row_at
-returns-in_default c = search rows
+returns-in_err-interval c = search rows
 
 pub returns : goal.returns
 unfolding row_at

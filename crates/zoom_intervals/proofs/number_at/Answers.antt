@@ -1,8 +1,8 @@
-use Rattle.zoom_intervals.proofs.RowLaws.{rows}
+use Rattle.zoom_intervals.proofs.RowLaws.{rows, number-lost}
 use Rattle.zoom_intervals.proofs.number_at.Goals as goal
 
-pub returns-in_default : goal.returns-in_default
-returns-in_default c = search rows
+pub returns-in-Ok : goal.returns-in-Ok
+returns-in-Ok c = search rows
 
-pub returns : goal.returns
-returns c = search rows
+pub returns-in-Err : goal.returns-in-Err
+returns-in-Err c = number-lost _ _ _ c.requires _ c.in-Err.ensures

@@ -1,17 +1,18 @@
-use Prim.Native.Nat.{◌-◌}
-use native.Mathlib.Omega.{arith}
+use Rattle.std.proofs.Common.{refl}
+use Rattle.utils.specs.Answers.{noted_held, noted_by}
+use Rattle.byte_source.proofs.ReadLaws.{handed-up}
+use Rattle.zoom_table.specs.Blocks.{stored_row}
 use Rattle.zoom_table.proofs.SumLaws.{sums-more, sums-no, short-more}
 use Rattle.zoom_table.proofs.sum_rows.Goals as goal
 
-pub loop-i-preserved-then-is_short : goal.loop-i-preserved-then-is_short
-loop-i-preserved-then-is_short c =
-    (omega arith, short-more _ _ _ c.is_short.ensures c.if-is_short.true c.loop-i.i _ _ _ _ _ _ c.loop-i.invariant.1 c.saturating_add_usize-points.ensures c.saturating_add_usize-ways.ensures)
+pub loop-preserved-then-is_short : goal.loop-preserved-then-is_short
+loop-preserved-then-is_short c =
+    short-more _ _ _ c.is_short.ensures c.if-is_short.true c.loop.counter _ _ _ _ _ _ c.loop.invariant c.saturating_add_usize-points.ensures c.saturating_add_usize-ways.ensures
 
-pub returns-in_default : goal.returns-in_default
-returns-in_default c =
-    sums-no _ _ _ _ _ _ _ _ _ _ _
-    c.loop-i.invariant.1 c.read_row-got.ensures c.in_default.is c.row_refusal.ensures c.loop-i-test.true
+pub returns-in_err-one : goal.returns-in_err-one
+returns-in_err-one c =
+    handed-up noted_held _ _ _ c.from_residual.ensures (sums-no _ _ _ _ _ _ _ c.loop.invariant _ _ c.in_err-one.ensures c.loop-test.true)
 
-pub loop-i-preserved : goal.loop-i-preserved
-loop-i-preserved c =
-    (omega arith, sums-more _ c.loop-i.i c.args.at _ 0 _ _ _ _ _ _ _ _ _ c.loop-i.invariant.1 c.read_row-got.ensures c.in-Value.is c.saturating_add_usize-points-in-loop-i.ensures c.saturating_add_usize-ways-in-loop-i.ensures c.both-plain.ensures)
+pub loop-preserved : goal.loop-preserved
+loop-preserved c =
+    sums-more _ _ _ _ _ _ _ c.loop.invariant (noted_by stored_row c.in_ok-one.one) _ _ _ _ c.in_ok-one.ensures c.saturating_add_usize-points-in-loop.ensures c.saturating_add_usize-ways-in-loop.ensures refl
