@@ -25,7 +25,7 @@ use Rattle.types.specs.declared.MapHeader.{MapHeader}
 use Rattle.header.specs.HeaderView.{map_header}
 use Rattle.opening.specs.Opening.{OpenIs}
 use Rattle.opening.proofs.OpenedLaws.{OpenedWith, opened_with}
-use Rattle.index.specs.Answers.{interval_found}
+use Rattle.index.specs.Answers.{interval_found, lent_answer}
 use Rattle.way_data.specs.Reply.{lent}
 use Rattle.tile_layout.specs.TileLayout.{layout_of, TileKinds, kinds_of, format_of}
 use Rattle.tile_layout.specs.declared.TileLayout.{TileLayout}
@@ -33,7 +33,7 @@ use Rattle.agreement.specs.Stream.{on_next, on_accept, on_decline}
 use Rattle.agreement.specs.TileFormat.{whole_body, note_body}
 use Rattle.visit.specs.Visit.{state_of, open_tile, open_res, shown_step, NextIs, accept_step, decline_step, NextStep, Accepted, Declined}
 use Rattle.visit.specs.declared.Stream.{Stream}
-use Rattle.tile.specs.Tile.{tile_res, collect_tile, tile_places, TileIs}
+use Rattle.tile.specs.Tile.{collect_tile, tile_places, TileIs}
 use Rattle.tile.specs.Tile.{listed as tile_listed}
 use Rattle.tile.specs.declared.Tile.{Tile}
 use Rattle.map_agreement.specs.Called.{no_call, call_next, call-accept, call-decline}
@@ -121,7 +121,7 @@ module _ (m : List ℕ) (s : ℕ) (grid : Grid) (number zoom : ℕ) (tags tagged
 
     -- the tile, as `read_tile` answered it
     module _ (r : Result Tile LentRefusal) (d : TileIs (collect_tile (kinds_of o.layout tagged.letters) (interval_found o.found) grid number m) (tile_places (kinds_of o.layout tagged.letters) (interval_found o.found) grid number m) room r places) where
-      here-collected : exact_of (tile_res r) ≡ exact_in m tags s grid number room
+      here-collected : exact_of (lent_answer r) ≡ exact_in m tags s grid number room
       here-collected =
           ap (λ (x : Replied (List ℕ) (Res Tile)). exact_of x.answer) (d ∙ same-collected)
           ∙ ap (λ r. and_then r (λ h _. exact_of (collected_in m tags s grid number room h).answer)) (sym listed_in)

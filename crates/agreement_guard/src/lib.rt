@@ -5,15 +5,13 @@
 #![tactic(auto)]
 
 ghost use Rattle.types.specs.Types.{grid_of};
-ghost use Rattle.index.specs.Answers.{interval_found};
 ghost use Rattle.opening.specs.Opening.{lists};
-ghost use Rattle.tile_layout.specs.TileLayout.{kinds_of};
+ghost use Rattle.tile_layout.specs.TileLayout.{tile_kinds};
 ghost use Rattle.way_data.specs.Reply.{lent};
 ghost use Rattle.agreement_guard.specs.Guard.{OpenedIs, Called3, OutcomeIs};
 
 use error::{LentRefusal, Refusal};
-use tile::Tile;
-use tile_layout::TileLayout;
+use tile_layout::{TileFormat, TileLayout};
 use types::{Grid, ZoomInterval};
 use visit::{Given, Stream, StreamedBody};
 
@@ -33,6 +31,7 @@ pub struct Replies {
 }
 
 // Opens the map and lists its tags.
+// Here and below each list is a parameter: of a struct of &muts every function would have to promise, too, that its fields are the same lists.
 fn open_with_lists(
     map: &[u8],
     starts: &mut [u64],
@@ -50,16 +49,15 @@ fn open_with_lists(
 
 fn call_three(
     map: &[u8],
-    layout: TileLayout,
-    letters: &[u8],
+    format: TileFormat<'_>,
     stream: Stream,
     node_counts: &mut [u64],
     latitudes: &mut [f64],
     longitudes: &mut [f64],
 ) -> Replies
-    ensures { Called3 map.now (kinds_of layout letters.now) «stream» (lent node_counts.old latitudes.old longitudes.old) (lent node_counts.new latitudes.new longitudes.new) result }
+    ensures { Called3 map.now (tile_kinds format.entry) «stream» (lent node_counts.old latitudes.old longitudes.old) (lent node_counts.new latitudes.new longitudes.new) result }
 {
-    let first = visit::next(map, layout, letters, stream);
+    let first = visit::next(map, format, stream);
     let second = visit::accept(map, first.stream, node_counts, latitudes, longitudes);
     let third = visit::decline(second.stream);
     Replies {
@@ -88,20 +86,13 @@ pub fn first_calls(
 {
     let opened = open_with_lists(map, starts, letters, sub_file)?;
     let layout = opened.layout;
+    let format = TileFormat { layout, letters };
     let found = opened.found;
-    let whole = tile::read_tile(map, layout, letters, found, grid, tile, places)?;
+    let whole = tile::read_tile(map, format, found, grid, tile, places)?;
     if !whole.exact {
         return Ok(None);
     }
     let stream = visit::open(map, layout, found, sub_file, grid, tile, zoom)?;
-    let replies = call_three(
-        map,
-        layout,
-        letters,
-        stream,
-        node_counts,
-        latitudes,
-        longitudes,
-    );
+    let replies = call_three(map, format, stream, node_counts, latitudes, longitudes);
     Ok(Some(replies))
 }

@@ -14,7 +14,7 @@ fn times_if_odd(r: u64, b: u64, e: u64) -> u64
     r.wrapping_mul(b)
 }
 
-// base to the power exp, modulo 2^64.
+// base to the power exp, modulo 2^64. The loop goes by the exponent's bits, and std's `wrapping_pow` has room for 32 of them.
 pub fn wrapping_pow_u64(base: u64, exp: u64) -> u64
     ensures { result ≡ base ^ exp % 2 ^ 64 }
 {

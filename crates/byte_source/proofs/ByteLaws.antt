@@ -4,14 +4,12 @@ use native.Mathlib.Nat.{add-zero, mul-one, pow-zero, pow-suc, mul_assoc, mul_com
 use native.Mathlib.Omega.{arith}
 use mathlib.Core.Path.{◌≡◌, refl, sym, ap, ◌∙◌, subst}
 use mathlib.Core.List.{List, [], ◌∷◌, ◌++◌}
-use lib.IntN.{ℤ, pos, negsuc, ◌-ℤ◌}
+use lib.IntN.{ℤ}
 use lib.ListN.{length, get_or, take, drop, length-drop, drop_of_length-le}
 use lib.Seq.{take-add, take_all, take-nil, drop-drop, length-take-le, drop-cons}
 use lib.Pow.{pow-add}
-use borrow.Author.Tests.{lt-ltb, le-ltb, lt-leb}
-use mir.Syntax.{w32}
-use mir.Val.{SFits, to_z, of_z}
-use mir.Facts.{to_z_pos, to_z-of_z}
+use borrow.Author.Tests.{lt-leb}
+use Rattle.std.specs.Int.{w16, w32, w64, from_be_bytes, cast_signed}
 use Rattle.parsing.specs.Parse.{ok, no, part, chunk}
 use Rattle.error.specs.Refusals.{refused}
 use Rattle.error.specs.declared.Refusal.{Refusal}
@@ -61,14 +59,33 @@ pair16 s at x y f e b d a =
     let t : (x + y * 256) % 256 * 256 + (x + y * 256) / 256 ≡ x * 256 + y = omega arith in
     rw t (joined 1 1 s at x y f (single s at x (omega arith) e b) (single s (at + 1) y (omega arith) d a))
 
-pub pair32 : (s : List ℕ) (at x y : ℕ) → at + 4 ≤ length s → Holds 2 s at x → Holds 2 s (at + 2) y → Holds 4 s at (x * 65536 + y)
-pair32 s at x y f h g = joined 2 2 s at x y f h g
+-- a byte, and the bytes behind it
+byte-on : (s : List ℕ) (at i k : ℕ) → at + i < length s → take (suc k) (drop (at + i) s) ≡ get_or s (at + i) 0 ∷ take k (drop (at + suc i) s)
+byte-on s at i k h = let e : at + suc i ≡ suc (at + i) = omega arith in rw (drop-cons s (at + i) 0 h, e) refl
 
-pub pair40 : (s : List ℕ) (at x y : ℕ) → at + 5 ≤ length s → x ≡ get_or s at 0 → x < 256 → Holds 4 s (at + 1) y → Holds 5 s at (x * 4294967296 + y)
-pair40 s at x y f e b g = joined 1 4 s at x y f (single s at x (omega arith) e b) g
+byte-first : (s : List ℕ) (at k : ℕ) → at < length s → take (suc k) (drop at s) ≡ get_or s at 0 ∷ take k (drop (at + 1) s)
+byte-first s at k h = let e : at + 0 ≡ at = omega arith in subst (λ x. take (suc k) (drop x s) ≡ get_or s x 0 ∷ take k (drop (at + 1) s)) e (byte-on s at 0 k (omega arith))
 
-pub pair64 : (s : List ℕ) (at x y : ℕ) → at + 8 ≤ length s → Holds 4 s at x → Holds 4 s (at + 4) y → Holds 8 s at (x * 4294967296 + y)
-pair64 s at x y f h g = joined 4 4 s at x y f h g
+-- the number that std makes of the bytes at a place
+module _ (s : List ℕ) (at r : ℕ) where
+  pub bytes16 : at + 2 ≤ length s → r ≡ from_be_bytes w16 (get_or s at 0 ∷ get_or s (at + 1) 0 ∷ []) → r ≡ big_endian_of 0 (take 2 (drop at s))
+  unfolding big_endian_of
+  bytes16 h e = rw (byte-first s at 1 (omega arith), byte-on s at 1 0 (omega arith)) (omega (arith, e))
+
+  pub bytes32 : at + 4 ≤ length s → r ≡ from_be_bytes w32 (get_or s at 0 ∷ get_or s (at + 1) 0 ∷ get_or s (at + 2) 0 ∷ get_or s (at + 3) 0 ∷ []) → r ≡ big_endian_of 0 (take 4 (drop at s))
+  unfolding big_endian_of
+  bytes32 h e =
+      rw (byte-first s at 3 (omega arith), byte-on s at 1 2 (omega arith), byte-on s at 2 1 (omega arith), byte-on s at 3 0 (omega arith)) (omega (arith, e))
+
+  pub bytes40 : at + 5 ≤ length s → r ≡ from_be_bytes w64 (0 ∷ 0 ∷ 0 ∷ get_or s at 0 ∷ get_or s (at + 1) 0 ∷ get_or s (at + 2) 0 ∷ get_or s (at + 3) 0 ∷ get_or s (at + 4) 0 ∷ []) → r ≡ big_endian_of 0 (take 5 (drop at s))
+  unfolding big_endian_of
+  bytes40 h e =
+      rw (byte-first s at 4 (omega arith), byte-on s at 1 3 (omega arith), byte-on s at 2 2 (omega arith), byte-on s at 3 1 (omega arith), byte-on s at 4 0 (omega arith)) (omega (arith, e))
+
+  pub bytes64 : at + 8 ≤ length s → r ≡ from_be_bytes w64 (get_or s at 0 ∷ get_or s (at + 1) 0 ∷ get_or s (at + 2) 0 ∷ get_or s (at + 3) 0 ∷ get_or s (at + 4) 0 ∷ get_or s (at + 5) 0 ∷ get_or s (at + 6) 0 ∷ get_or s (at + 7) 0 ∷ []) → r ≡ big_endian_of 0 (take 8 (drop at s))
+  unfolding big_endian_of
+  bytes64 h e =
+      rw (byte-first s at 7 (omega arith), byte-on s at 1 6 (omega arith), byte-on s at 2 5 (omega arith), byte-on s at 3 4 (omega arith), byte-on s at 4 3 (omega arith), byte-on s at 5 2 (omega arith), byte-on s at 6 1 (omega arith), byte-on s at 7 0 (omega arith)) (omega (arith, e))
 
 past : (s : List ℕ) (at k : ℕ) → 1 ≤ k → length s < at + k → chunk k s at ≡ no 1 []
 past s at zero b h = absurd (omega arith)
@@ -80,8 +97,9 @@ module _ (k : ℕ) (s : List ℕ) (at : ℕ) where
   unfolding big_endian
   number-here r b h l e = rw (← chunk-here s at k b h l, e.value)
 
-  pub number-read : (r n : ℕ) → 1 ≤ k → at + k ≤ length s → n ≡ at + k → Holds k s at r → ok r n ≡ big_endian k s at
-  number-read r n b h z e = rw z (number-here r b (omega arith) (omega arith) e)
+  pub number-read : (r n : ℕ) → 1 ≤ k → at + k ≤ length s → n ≡ at + k → r ≡ big_endian_of 0 (take k (drop at s)) → ok r n ≡ big_endian k s at
+  unfolding big_endian
+  number-read r n b h z e = rw (z, ← chunk-here s at k b (omega arith) (omega arith), e)
 
   pub number-past : (e : Refusal) → 1 ≤ k → e ≡ Source → length s < at + k → refused e ≡ big_endian k s at
   unfolding big_endian
@@ -113,23 +131,8 @@ module _ (s : List ℕ) (at n : ℕ) where
   part-past e b z h = rw (z, past s at n b h)
 
 -- 32 bits in two's complement
-minus_one : (n : ℕ) → negsuc 0 -ℤ pos n ≡ negsuc n
-minus_one zero = refl
-minus_one (suc n) = let e : 0 + n ≡ n = omega arith in rw e
-
-high_is : (b : ℕ) → 2147483648 ≤ b → b < 2 ^ 32 → negsuc 0 -ℤ to_z w32 (4294967295 - b) ≡ negsuc (4294967295 - b)
-high_is b h f = ap (λ (z : ℤ). negsuc 0 -ℤ z) (to_z_pos w32 {n = 4294967295 - b} (omega arith)) ∙ minus_one (4294967295 - b)
-
-pub low_bits : (b : ℕ) → b < 2147483648 → to_z w32 b ≡ twos_complement b
-low_bits b h = to_z_pos w32 h ∙ rw (lt-ltb b (2 ^ 31) h)
-
-pub high_fits : (b : ℕ) → 2147483648 ≤ b → b < 2 ^ 32 → SFits w32 (negsuc 0 -ℤ to_z w32 (4294967295 - b))
-high_fits b h f = rw (high_is b h f) (record { sfits = omega arith })
-
-pub high_bits : (b : ℕ) → 2147483648 ≤ b → b < 2 ^ 32 → to_z w32 (of_z w32 (negsuc 0 -ℤ to_z w32 (4294967295 - b))) ≡ twos_complement b
-high_bits b h f =
-    let e : 2 ^ 32 - b ≡ suc (4294967295 - b) = omega arith in
-    to_z-of_z {w = w32} (high_fits b h f) ∙ high_is b h f ∙ rw (le-ltb b (2 ^ 31) h, e)
+pub signed32 : (b : ℕ) (z : ℤ) → b < 2 ^ 32 → z ≡ cast_signed w32 b → z ≡ twos_complement b
+signed32 b z f e = let g : 2 ^ 32 - b ≡ suc (2 ^ 32 - suc b) = omega (arith, f) in rw g e
 
 -- the bytes of a span
 module _ (m : List ℕ) (s : Span) where
@@ -144,4 +147,4 @@ module _ (m : List ℕ) (s : Span) where
   pub span-in : take (s.start + s.size - s.start) (drop s.start m) ≡ span_bytes m s
   span-in = let e : s.start + s.size - s.start ≡ s.size = omega arith in rw e
 
-pub ruleset parts = (reads, pair16, pair32, pair40, pair64, number-read, number-past, part_none, part-read, part-past, low_bits, high_fits, high_bits, span-out, span_rest, span-in)
+pub ruleset parts = (reads, bytes16, bytes32, bytes40, bytes64, number-read, number-past, part_none, part-read, part-past, signed32, span-out, span_rest, span-in)

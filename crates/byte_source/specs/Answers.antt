@@ -1,7 +1,8 @@
 -- What a read answers, as the format has it.
 use Rattle.std.specs.Prelude.{ℕ, List, take, drop, Result, Ok, Err}
 use Rattle.parsing.specs.Parse.{Res, ok, Part}
-use Rattle.error.specs.Refusals.{refused}
+use Rattle.error.specs.Refusals.{refused, lent_refused}
+use Rattle.error.specs.declared.LentRefusal.{LentRefusal}
 use Rattle.error.specs.declared.Refusal.{Refusal}
 use Rattle.byte_source.specs.declared.Span.{Span}
 
@@ -12,6 +13,11 @@ read_by view (Err r) = refused r
 
 abbrev pub read_res : {A : Type 0} → Result (A × ℕ) Refusal → Res A
 read_res g = read_by (λ a. a) g
+
+-- the same of a read that may be refused with 15
+abbrev pub lent_res : {A : Type 0} → Result (A × ℕ) LentRefusal → Res A
+lent_res (Ok (a, n)) = ok a n
+lent_res (Err r) = lent_refused r
 
 -- the bytes of a part of the map
 abbrev pub span_bytes : List ℕ → Span → List ℕ

@@ -2,10 +2,10 @@
 // refusal 1.
 #![tactic(auto)]
 
-ghost use Rattle.std.specs.Prelude.{◌≡◌, ◌+◌, ◌*◌, ◌/◌, ◌%◌, ◌≤◌, ◌<◌, ◌^◌, length, take, drop, IfOk, IfErr};
+ghost use Rattle.std.specs.Prelude.{◌≡◌, ◌+◌, ◌≤◌, ◌<◌, length, IfOk, IfErr};
 ghost use Rattle.error.specs.declared.Refusal.TheVariants.{Source};
 ghost use Rattle.parsing.specs.Parse.{byte, part};
-ghost use Rattle.byte_source.specs.BigEndian.{Holds, big_endian, twos_complement, int32};
+ghost use Rattle.byte_source.specs.BigEndian.{big_endian, int32};
 ghost use Rattle.byte_source.specs.Answers.{read_res, read_by, part_in, span_bytes};
 
 use error::Refusal;
@@ -29,49 +29,6 @@ pub fn read_u8(map: &[u8], at: usize) -> Read<u8>
     Err(Refusal::Source)
 }
 
-fn wide(x: u8) -> u64
-    ensures { (result ≡ x) × (result < 256) }
-{
-    x as u64
-}
-
-// The other way round, as the processor loads them: the compiler makes one load of it.
-fn le16(map: &[u8], at: usize) -> u64
-    requires { at + 2 ≤ length map.now }
-    ensures { Holds 2 map.now at (result % 256 * 256 + result / 256) }
-{
-    wide(map[at]) + wide(map[at + 1]) * 256
-}
-
-fn be16(map: &[u8], at: usize) -> u64
-    requires { at + 2 ≤ length map.now }
-    ensures { Holds 2 map.now at result }
-{
-    let n = le16(map, at);
-    n % 256 * 256 + n / 256
-}
-
-fn be32(map: &[u8], at: usize) -> u64
-    requires { at + 4 ≤ length map.now }
-    ensures { Holds 4 map.now at result }
-{
-    be16(map, at) * 65536 + be16(map, at + 2)
-}
-
-fn be40(map: &[u8], at: usize) -> u64
-    requires { at + 5 ≤ length map.now }
-    ensures { Holds 5 map.now at result }
-{
-    wide(map[at]) * 4294967296 + be32(map, at + 1)
-}
-
-fn be64(map: &[u8], at: usize) -> u64
-    requires { at + 8 ≤ length map.now }
-    ensures { Holds 8 map.now at result }
-{
-    be32(map, at) * 4294967296 + be32(map, at + 4)
-}
-
 // The place behind the next `n` bytes, if the map has them.
 fn behind(map: &[u8], at: usize, n: usize) -> Result<usize, Refusal>
     ensures ok { IfOk result (λ next. (next ≡ at + n) × (at + n ≤ length map.now)) }
@@ -83,18 +40,20 @@ fn behind(map: &[u8], at: usize, n: usize) -> Result<usize, Refusal>
     Ok(at + n)
 }
 
+// std's conversions of bytes have a name for each width, and no trait is common to them: so each width has its own read.
 pub fn read_u16_be(map: &[u8], at: usize) -> Read<u16>
     ensures { read_res result ≡ big_endian 2 map.now at }
 {
     let next = behind(map, at, 2)?;
-    Ok((be16(map, at) as u16, next))
+    Ok((u16::from_be_bytes([map[at], map[at + 1]]), next))
 }
 
 pub fn read_u32_be(map: &[u8], at: usize) -> Read<u32>
     ensures { read_res result ≡ big_endian 4 map.now at }
 {
     let next = behind(map, at, 4)?;
-    Ok((be32(map, at) as u32, next))
+    let bytes = [map[at], map[at + 1], map[at + 2], map[at + 3]];
+    Ok((u32::from_be_bytes(bytes), next))
 }
 
 // 5 bytes, as an entry of the tile index has.
@@ -102,31 +61,41 @@ pub fn read_u40_be(map: &[u8], at: usize) -> Read<u64>
     ensures { read_res result ≡ big_endian 5 map.now at }
 {
     let next = behind(map, at, 5)?;
-    Ok((be40(map, at), next))
+    let bytes = [
+        0,
+        0,
+        0,
+        map[at],
+        map[at + 1],
+        map[at + 2],
+        map[at + 3],
+        map[at + 4],
+    ];
+    Ok((u64::from_be_bytes(bytes), next))
 }
 
 pub fn read_u64_be(map: &[u8], at: usize) -> Read<u64>
     ensures { read_res result ≡ big_endian 8 map.now at }
 {
     let next = behind(map, at, 8)?;
-    Ok((be64(map, at), next))
-}
-
-// The number that these 32 bits are in two's complement.
-pub fn to_i32(bits: u32) -> i32
-    ensures { result ≡ twos_complement bits }
-{
-    if bits < 2147483648 {
-        return bits as i32;
-    }
-    -1 - ((4294967295 - bits) as i32)
+    let bytes = [
+        map[at],
+        map[at + 1],
+        map[at + 2],
+        map[at + 3],
+        map[at + 4],
+        map[at + 5],
+        map[at + 6],
+        map[at + 7],
+    ];
+    Ok((u64::from_be_bytes(bytes), next))
 }
 
 pub fn read_i32_be(map: &[u8], at: usize) -> Read<i32>
     ensures { read_res result ≡ int32 map.now at }
 {
     let (bits, next) = read_u32_be(map, at)?;
-    Ok((to_i32(bits), next))
+    Ok((bits.cast_signed(), next))
 }
 
 // The next `size` bytes as a part of the map. 0 bytes are read anywhere.

@@ -1,10 +1,14 @@
 -- The two answers, by the steps that the code takes.
-use Rattle.std.proofs.Common.{◌≡◌, ℕ, ◌*◌, ◌%◌, ◌^◌, ◌<◌, ◌≤◌, [], ℤ, refl, ap, ◌∙◌, arith, shl_exact, w32, to_z, of_z, rules, le-leb}
+use Rattle.std.proofs.Common.{◌≡◌, ℕ, ◌*◌, ◌%◌, ◌^◌, ◌<◌, ◌≤◌, [], ℤ, refl, ap, ◌∙◌, arith, shl_exact, w32, to_z, of_z, to_z-of_z, rules, le-leb}
 use lib.Ieee.{Float, binary64, to_signed, of_bits, of_int, add, sub, mul, div}
+use lib.Ieee.Casts.{to_signed_in}
 use borrow.Author.Tests.{lt-leb}
 use Rattle.parsing.specs.Parse.{ok, no}
 use Rattle.column.specs.Column.{as_float, longitude_of, longitude, column_of, column}
-use Rattle.column.proofs.CutLaws.{kept}
+
+-- a float cut to 32 bits fits them
+pub kept : (x : Float) (z : ℤ) → z ≡ to_signed 31 x → to_z w32 (of_z w32 z) ≡ to_signed 31 x
+kept x z e = rw (e, to_z-of_z {w = w32} (record { sfits = to_signed_in 31 x }))
 
 -- a shift that loses no bit
 pub tiles-at : (k : ℕ) (x : Float) → k ≤ 63 → x ≡ as_float (1 * 2 ^ k % 2 ^ 64) → x ≡ as_float (2 ^ k)

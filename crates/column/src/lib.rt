@@ -2,7 +2,6 @@
 #![tactic(auto)]
 
 ghost use Rattle.std.specs.Prelude.{◌≡◌, ◌^◌, ◌≤◌};
-ghost use Rattle.std.specs.Float.Ieee as Ieee;
 ghost use Rattle.column.specs.Column.{as_float, longitude, column, longitude_res, column_res};
 
 use error::Refusal;
@@ -17,22 +16,6 @@ fn zoom_tiles(zoom: u8) -> f64
     ensures { result ≡ as_float (2 ^ zoom) }
 {
     std::num::nearest_u64_to_f64(1u64 << zoom)
-}
-
-// Toward zero, 0 for a NaN, and the ends saturate.
-fn to_i32(x: f64) -> i32
-    ensures { result ≡ Ieee.to_signed 31 x }
-{
-    if x != x {
-        return 0;
-    }
-    if x < -2147483648.0 {
-        return -2147483648;
-    }
-    if 2147483647.0 < x {
-        return 2147483647;
-    }
-    std::num::truncating_f64_to_i64(x) as i32
 }
 
 // The longitude at which column x starts.
@@ -52,5 +35,7 @@ pub fn tile_column(degrees: Degrees, zoom: u8) -> Result<i32, Refusal>
     if MAX_ZOOM < zoom {
         return Err(Refusal::ZoomTooLarge);
     }
-    Ok(to_i32(zoom_tiles(zoom) * (degrees.0 + 180.0) / 360.0))
+    let column = zoom_tiles(zoom) * (degrees.0 + 180.0) / 360.0;
+    // toward zero, 0 for a NaN, and the ends saturate
+    Ok(std::num::saturating_f64_to_i32(column))
 }

@@ -14,28 +14,30 @@ pub fn put_front(copy: &mut [u8], bytes: &[u8])
     copy[..n].copy_from_slice(&bytes[..n]);
 }
 
-// A byte with its lowest bit (way 0), its highest bit (1), or every bit (2) turned over: the way is what is left of the damage's number.
+// A byte with its lowest bit turned over.
 #[tactic(auto, unfolding(crate::specs::Damage::turned))]
-fn turn(b: u8, way: usize) -> u8
-    ensures { result ≡ turned way b }
+fn lowest_turned(b: u8) -> u8
+    ensures { result ≡ turned 0 b }
 {
-    if way == 0 {
-        if b % 2 == 0 {
-            return b + 1;
-        }
-        return b - 1;
+    if b % 2 == 0 {
+        return b + 1;
     }
-    if way == 1 {
-        if b < 128 {
-            return b + 128;
-        }
-        return b - 128;
-    }
-    255 - b
+    b - 1
 }
 
-// Damage n turns byte n / 3 over in one of the three ways; done again, it takes the damage back.
-#[tactic(auto, using(crate::proofs::CopyLaws::set_past), unfolding(crate::specs::Damage::damaged))]
+// The same with its highest bit.
+#[tactic(auto, unfolding(crate::specs::Damage::turned))]
+fn highest_turned(b: u8) -> u8
+    ensures { result ≡ turned 1 b }
+{
+    if b < 128 {
+        return b + 128;
+    }
+    b - 128
+}
+
+// Damage n turns a bit of byte n / 3 over, its lowest or its highest, or every bit; done again, it takes the damage back.
+#[tactic(auto, using(crate::proofs::CopyLaws::set_past), unfolding(crate::specs::Damage::damaged, crate::specs::Damage::turned))]
 pub fn damage(copy: &mut [u8], n: usize)
     ensures { copy.new ≡ damaged copy.old n }
 {
@@ -43,5 +45,10 @@ pub fn damage(copy: &mut [u8], n: usize)
     if copy.len() <= at {
         return;
     }
-    copy[at] = turn(copy[at], n % 3);
+    let b = copy[at];
+    copy[at] = match n % 3 {
+        0 => lowest_turned(b),
+        1 => highest_turned(b),
+        _ => 255 - b,
+    };
 }

@@ -72,9 +72,13 @@ lent_refused r = no (lent_number r) (lent_values r)
 abbrev pub short_buffer : ℕ → LentRefusal
 short_buffer n = Short (record { list1 = 0; list2 = 0; list3 = 0; list4 = 0; list5 = 0; buffer = n })
 
--- what stands for refusal 1 in an index entry that is read at a place, and in a tile's head
+-- what stands for refusal 1 where a map that is cut off has a refusal of its own
+abbrev pub cut_off_as : Refusal → Refusal → Refusal
+cut_off_as cut_off r = cond (eqb (number_of r) 1) cut_off r
+
+-- in an index entry that is read at a place, and in a tile's head
 abbrev pub in_index : ℕ → Refusal → Refusal
-in_index place r = cond (eqb (number_of r) 1) (IndexCutOff place) r
+in_index place = cut_off_as (IndexCutOff place)
 
 abbrev pub in_tile_head : ℕ → Refusal → Refusal
-in_tile_head place r = cond (eqb (number_of r) 1) (TileHeadCutOff place) r
+in_tile_head place = cut_off_as (TileHeadCutOff place)

@@ -3,7 +3,7 @@
 
 ghost use Rattle.std.specs.Prelude.{◌≡◌};
 ghost use Rattle.error.specs.declared.LentRefusal.TheVariants.{Refused};
-ghost use Rattle.error.specs.Refusals.{number_of, lent_number, short_buffer, in_index, in_tile_head};
+ghost use Rattle.error.specs.Refusals.{number_of, lent_number, short_buffer, cut_off_as};
 
 // The lengths that a call needs: of the lists in the order in which it takes them, and of the buffer. 0 where it takes none.
 #[derive(Clone, Copy)]
@@ -14,6 +14,18 @@ pub struct Lengths {
     pub list4: u64,
     pub list5: u64,
     pub buffer: u64,
+}
+
+impl Lengths {
+    // Of a call that takes no list and no buffer.
+    pub const NONE: Lengths = Lengths {
+        list1: 0,
+        list2: 0,
+        list3: 0,
+        list4: 0,
+        list5: 0,
+        buffer: 0,
+    };
 }
 
 // The table "Answers other than a result" of document 01, in its order, but for 15. The first ten are the Rust's `MapforgeError`. No value is
@@ -119,31 +131,17 @@ pub fn short_buffer(needed: u64) -> LentRefusal
     ensures { result ≡ short_buffer needed }
 {
     LentRefusal::Short(Lengths {
-        list1: 0,
-        list2: 0,
-        list3: 0,
-        list4: 0,
-        list5: 0,
         buffer: needed,
+        ..Lengths::NONE
     })
 }
 
-// What is refused of an index entry that is read at `place`: a map that ends too early has a number of its own there.
-pub fn in_index(refusal: Refusal, place: u64) -> Refusal
-    ensures { result ≡ in_index place refusal }
+// What is refused where a map that ends too early has a refusal of its own, as in an index entry and in a tile's head.
+pub fn cut_off_as(refusal: Refusal, cut_off: Refusal) -> Refusal
+    ensures { result ≡ cut_off_as cut_off refusal }
 {
-    if number_of(refusal) == 1 {
-        return Refusal::IndexCutOff(place);
+    match refusal {
+        Refusal::Source => cut_off,
+        _ => refusal,
     }
-    refusal
-}
-
-// The same of a tile's head.
-pub fn in_tile_head(refusal: Refusal, place: u64) -> Refusal
-    ensures { result ≡ in_tile_head place refusal }
-{
-    if number_of(refusal) == 1 {
-        return Refusal::TileHeadCutOff(place);
-    }
-    refusal
 }

@@ -20,7 +20,6 @@ use Rattle.types.specs.declared.Grid.{Grid}
 use Rattle.types.specs.declared.TagRange.{TagRange}
 use Rattle.tag_table.specs.Tables.{kinds_by}
 use Rattle.tile_layout.specs.declared.TileLayout.{TileLayout}
-use Rattle.quick_head.specs.Quick.{IfKnown}
 use Rattle.visit.specs.declared.Stream.{Stream}
 use Rattle.wire.specs.Wire.{Wire, Crosses}
 use Rattle.index_wire.specs.Index.{tag_wire}
@@ -42,10 +41,6 @@ crosses-by encode Of p p' x w e i q = crosses encode (Of p') x w (subst (λ u. O
 -- a stream's calls, on the stream that the words say
 pub next-crosses : (m letters : List ℕ) (s s' : Stream) (l l' : TileLayout) (a : NextStep) (before w : Wire) → s ≡ s' → l ≡ l' → NextOf m letters l s a → w ≡ next_wire before a → Crosses (next_wire before) (NextOf m letters l' s') w
 next-crosses m letters s s' l l' a before w e h i q = crosses (next_wire before) (NextOf m letters l' s') a w (subst (λ x. NextOf m letters l' x a) e (subst (λ x. NextOf m letters x s a) h i)) q
-
--- an answer that a quick read knew, and that was written
-pub known-crosses : (m letters : List ℕ) (s : Stream) (l : TileLayout) (a : NextStep) (before w : Wire) (t : Bool) → IfKnown t (NextOf m letters l s a) → t ≡ true → w ≡ next_wire before a → Crosses (next_wire before) (NextOf m letters l s) w
-known-crosses m letters s l a before w t i k q = crosses (next_wire before) (NextOf m letters l s) a w (subst (λ b. IfKnown b (NextOf m letters l s a)) k i) q
 
 -- of a try: what was given, on the stream that the words say, and that nothing changed where nothing was
 pub given-crosses : (m letters : List ℕ) (s s' : Stream) (l l' : TileLayout) (before w : Wire) (L : Type 0) (t : Bool) → s ≡ s' → l ≡ l' → QuickOf t (Crosses (next_wire before) (NextOf m letters l s) w) L → t ≡ true → Crosses (next_wire before) (NextOf m letters l' s') w

@@ -14,7 +14,8 @@ use Rattle.visit.specs.Visit.{state_of, NextStep}
 use Rattle.visit.specs.declared.Stream.{Stream}
 use Rattle.selection.specs.Selected.{ways_of}
 use Rattle.selection.specs.declared.Selection.{Selection}
-use Rattle.selection.proofs.NextLaws.{Left, returned, goes_on, fewer, given_back, not-true, not-false}
+use Rattle.std.proofs.lemmas.Bool.{not-true, not-false}
+use Rattle.selection.proofs.NextLaws.{Left, returned, goes_on, fewer, given_back}
 use Rattle.selection.proofs.NextLaws as selection
 use Rattle.wire.specs.Wire.{Wire, wire, lending, list_of, there, Crosses}
 use Rattle.stream_wire.specs.Streams.{stream_in, goes_past, next_wire, decline_wire}

@@ -2,9 +2,10 @@
 // and says what each word is. Each call answers 0, or the number of a refusal, whose values go to the first words. An answer writes its own
 // words, and the others keep their values. What a call needs of the header is handed in: the layout that opening gave, and its sub file's
 // interval.
+// C lends each list by itself: so lists that go together (starts and letters; node counts, latitudes and longitudes) are parameters of their own.
 #![tactic(auto)]
 
-ghost use Rattle.std.specs.Prelude.{◌≡◌, [], ◌∷◌, length};
+ghost use Rattle.std.specs.Prelude.{◌≡◌, [], ◌∷◌};
 ghost use Rattle.parsing.specs.Parse.{map_res};
 ghost use Rattle.format.specs.WayData.{way_data};
 ghost use Rattle.byte_source.specs.Answers.{read_res};
@@ -28,7 +29,7 @@ ghost use Rattle.showing.specs.Showing.{shown};
 ghost use Rattle.showing_wire.specs.Rules.{checked_wire, shown_wire};
 ghost use Rattle.exports.specs.Calls.{grid_in, window_in, OpenOf, tags_from, TagIs, RowOf, SubFileOf, CountOf, IndexOf, EntryOf, WindowCountOf, WindowTileOf, StreamOf, NextOf, QuickOf, SelectedOf, SkipOf, AcceptOf, DeclineOf, TileOf, FeatureOf, RulesOf};
 
-use tile_layout::TileLayout;
+use tile_layout::{TagLists, TileFormat};
 use types::{Grid, TagRange};
 use utils::Degrees;
 use visit::Stream;
@@ -71,7 +72,7 @@ pub fn mapsforge_sub_file(map: &[u8], layout: &[u64; 7], zoom: u8, words: &mut [
 {
     let table = header_wire::intervals_in(*layout);
     let got = zoom_intervals::sub_file_for_zoom(map, table, zoom);
-    index_wire::put_sub_file(got, words)
+    index_wire::put_index(got, words)
 }
 
 // Where the text of tag k stands, of `count` tags from entry `first` of the lists on, and the kind of its inline value.
@@ -100,6 +101,18 @@ pub fn mapsforge_text(text: &[u8], buffer: &mut [u8], words: &mut [u64; 7]) -> u
     index_wire::put_text(got, words)
 }
 
+// The grid of a sub file, as it is handed in.
+fn grid_of(x_min: i32, y_min: i32, x_max: i32, y_max: i32) -> Grid
+    ensures { result ≡ grid_in x_min y_min x_max y_max }
+{
+    Grid {
+        x_min,
+        y_min,
+        x_max,
+        y_max,
+    }
+}
+
 // How many tiles a sub file has.
 pub fn mapsforge_tile_count(
     interval: &[u64; 6],
@@ -111,12 +124,7 @@ pub fn mapsforge_tile_count(
 ) -> u64
     ensures { Crosses (number_wire (lending (words.old ∷ []) [] [])) (CountOf (interval_in interval.now) (grid_in x_min y_min x_max y_max)) (wire result (words.new ∷ []) [] []) }
 {
-    let grid = Grid {
-        x_min,
-        y_min,
-        x_max,
-        y_max,
-    };
+    let grid = grid_of(x_min, y_min, x_max, y_max);
     let got = index::tile_count(index_wire::interval_in(*interval), grid);
     index_wire::put_count(got, words)
 }
@@ -134,12 +142,7 @@ pub fn mapsforge_tile_index(
 ) -> u64
     ensures { Crosses (number_wire (lending (words.old ∷ []) [] [])) (IndexOf x y (interval_in interval.now) (grid_in x_min y_min x_max y_max)) (wire result (words.new ∷ []) [] []) }
 {
-    let grid = Grid {
-        x_min,
-        y_min,
-        x_max,
-        y_max,
-    };
+    let grid = grid_of(x_min, y_min, x_max, y_max);
     let got = index::tile_index_of(index_wire::interval_in(*interval), grid, x, y);
     index_wire::put_index(got, words)
 }
@@ -158,12 +161,7 @@ pub fn mapsforge_index_entry(
 ) -> u64
     ensures { Crosses (entry_wire (lending (words.old ∷ []) [] [])) (EntryOf map.now tile (layout_in layout.now) (interval_in interval.now) (grid_in x_min y_min x_max y_max)) (wire result (words.new ∷ []) [] []) }
 {
-    let grid = Grid {
-        x_min,
-        y_min,
-        x_max,
-        y_max,
-    };
+    let grid = grid_of(x_min, y_min, x_max, y_max);
     let tiles = header_wire::layout_in(*layout);
     let found = index_wire::interval_in(*interval);
     let got = index::tile_index_entry(map, tiles.debug, found, grid, tile);
@@ -210,12 +208,7 @@ pub fn mapsforge_window_count(
 ) -> u64
     ensures { Crosses (window_count_wire (lending (words.old ∷ []) [] [])) (WindowCountOf (window_in left top right bottom) (grid_in x_min y_min x_max y_max)) (wire result (words.new ∷ []) [] []) }
 {
-    let grid = Grid {
-        x_min,
-        y_min,
-        x_max,
-        y_max,
-    };
+    let grid = grid_of(x_min, y_min, x_max, y_max);
     let window = Window {
         left,
         top,
@@ -242,12 +235,7 @@ pub fn mapsforge_window_tile(
 ) -> u64
     ensures { Crosses (window_tile_wire (lending (words.old ∷ []) column_row.old [])) (WindowTileOf k (window_in left top right bottom) (grid_in x_min y_min x_max y_max)) (wire result (words.new ∷ []) column_row.new []) }
 {
-    let grid = Grid {
-        x_min,
-        y_min,
-        x_max,
-        y_max,
-    };
+    let grid = grid_of(x_min, y_min, x_max, y_max);
     let window = Window {
         left,
         top,
@@ -282,24 +270,18 @@ pub fn mapsforge_stream_open(
 ) -> u64
     ensures { Crosses (opened_wire (lending (words.old ∷ state.old ∷ []) [] [])) (StreamOf map.now sub_file tile zoom (layout_in layout.now) (interval_in interval.now) (grid_in x_min y_min x_max y_max)) (wire result (words.new ∷ state.new ∷ []) [] []) }
 {
-    let grid = Grid {
-        x_min,
-        y_min,
-        x_max,
-        y_max,
-    };
+    let grid = grid_of(x_min, y_min, x_max, y_max);
     let tiles = header_wire::layout_in(*layout);
     let found = index_wire::interval_in(*interval);
     let got = visit::open(map, tiles, found, sub_file, grid, tile, zoom);
     stream_wire::put_opened(got, words, state)
 }
 
-// The next point or the next way's head by the quick readers, which may write to the ids before they know that they do not know it. Each large
+// The next point or the next way's head by the quick readers, which may write to the ids before they turn out to have no answer. Each large
 // function that is called here is called here alone, so that the compiler inlines it.
 fn try_quick(
     map: &[u8],
-    tiles: TileLayout,
-    letters: &[u8],
+    format: TileFormat<'_>,
     stream: Stream,
     state: &mut [u64; 8],
     words: &mut [u64; 22],
@@ -307,19 +289,17 @@ fn try_quick(
     degrees: &mut [f64; 2],
     ids: &mut [u64; 15],
 ) -> bool
-    ensures { QuickOf result (Crosses (next_wire (lending (words.old ∷ ids.old ∷ state.old ∷ []) signed_words.old degrees.old)) (NextOf map.now letters.now tiles «stream») (wire 0 (words.new ∷ ids.new ∷ state.new ∷ []) signed_words.new degrees.new)) (wire 0 (words.new ∷ ids.new ∷ state.new ∷ []) signed_words.new degrees.new ≡ lending (words.old ∷ ids.old ∷ state.old ∷ []) signed_words.old degrees.old) }
+    ensures { QuickOf result (Crosses (next_wire (lending (words.old ∷ ids.old ∷ state.old ∷ []) signed_words.old degrees.old)) (NextOf map.now format.entry.letters.now format.entry.layout «stream») (wire 0 (words.new ∷ ids.new ∷ state.new ∷ []) signed_words.new degrees.new)) (wire 0 (words.new ∷ ids.new ∷ state.new ∷ []) signed_words.new degrees.new ≡ lending (words.old ∷ ids.old ∷ state.old ∷ []) signed_words.old degrees.old) }
 {
-    if !quick_next::is_quick(tiles, stream) {
+    if !quick_next::is_quick(format.layout, stream) {
         return false;
     }
     let kept = *ids;
-    let way = quick_next::way_step(map, tiles, letters, stream, ids);
-    if way.known {
+    if let Some(way) = quick_next::way_step(map, format, stream, ids) {
         stream_wire::put_way_step(way, state, words, signed_words);
         return true;
     }
-    let point = quick_next::point_step(map, tiles, letters, stream, ids);
-    if point.known {
+    if let Some(point) = quick_next::point_step(map, format, stream, ids) {
         stream_wire::put_point_step(point, state, words, signed_words, degrees);
         return true;
     }
@@ -343,12 +323,12 @@ pub fn mapsforge_stream_next(
     // each slice anew: so the compiler takes address and length in registers, also from the calls below, and not through memory
     let map = &map[..];
     let letters = &letters[..];
-    let tiles = header_wire::layout_in(*layout);
+    let layout = header_wire::layout_in(*layout);
+    let format = TileFormat { layout, letters };
     let stream = stream_wire::stream_in(*state);
     if try_quick(
         map,
-        tiles,
-        letters,
+        format,
         stream,
         state,
         words,
@@ -358,15 +338,8 @@ pub fn mapsforge_stream_next(
     ) {
         return 0;
     }
-    let step = visit::next(map, tiles, letters, stream);
+    let step = visit::next(map, format, stream);
     stream_wire::put_next(step, state, words, signed_words, degrees, ids)
-}
-
-// Says how many words there are in lent arrays, which is not told of a reference to one. It costs nothing.
-fn sized(words: [u64; 22], state: [u64; 8]) -> bool
-    ensures { (length words ≡ 22) × (length state ≡ 8) }
-{
-    true
 }
 
 // A refused call leaves the state before it.
@@ -404,7 +377,6 @@ pub fn mapsforge_stream_next_selected(
     let row = *ids;
     let before = *state;
     let mut aside = [0; 6];
-    let counted = sized(said, before);
     loop {
         let number = mapsforge_stream_next(
             map,
@@ -468,7 +440,6 @@ pub fn mapsforge_stream_skip(
 {
     let before = *state;
     let mut aside = [0; 6];
-    let counted = sized(*words, before);
     let refused = mapsforge_stream_decline(state, &mut aside);
     if refused != 0 {
         return refused;
@@ -504,15 +475,11 @@ pub fn mapsforge_collect(
 ) -> u64
     ensures { Crosses (tile_wire (lending (words.old ∷ []) [] [])) (TileOf map.now letters.now tile (lent_tile points.old ways.old places.old) (lent_tile points.new ways.new places.new) (layout_in layout.now) (interval_in interval.now) (grid_in x_min y_min x_max y_max)) (wire result (words.new ∷ []) [] []) }
 {
-    let grid = Grid {
-        x_min,
-        y_min,
-        x_max,
-        y_max,
-    };
-    let tiles = header_wire::layout_in(*layout);
+    let grid = grid_of(x_min, y_min, x_max, y_max);
+    let layout = header_wire::layout_in(*layout);
+    let format = TileFormat { layout, letters };
     let found = index_wire::interval_in(*interval);
-    let got = tile::collect(map, tiles, letters, found, grid, tile, points, ways, places);
+    let got = tile::collect(map, format, found, grid, tile, points, ways, places);
     feature_wire::put_tile(got, words)
 }
 
@@ -541,11 +508,11 @@ pub fn mapsforge_fetch(
     ensures { Crosses (fetch_wire (lending (words.old ∷ ids.old ∷ tags.old ∷ []) signed_words.old degrees.old)) (FeatureOf map.now starts.now letters.now places.now points ways feature (lent_all node_counts.old latitudes.old longitudes.old initial_latitudes.old initial_longitudes.old buffer.old) (lent_all node_counts.new latitudes.new longitudes.new initial_latitudes.new initial_longitudes.new buffer.new) (layout_in layout.now)) (wire result (words.new ∷ ids.new ∷ tags.new ∷ []) signed_words.new degrees.new) }
 {
     let tiles = header_wire::layout_in(*layout);
+    let lists = TagLists { starts, letters };
     let fetch = fetch::fetch_feature(
         map,
         tiles,
-        starts,
-        letters,
+        lists,
         places,
         points,
         ways,
@@ -636,14 +603,10 @@ pub fn mapsforge_wanted(
 ) -> u64
     ensures { Crosses (wanted_wire (lending (words.old ∷ []) [] [])) (WantedOf map.now letters.now decisions.now tile zoom (layout_in layout.now) (interval_in interval.now) (grid_in x_min y_min x_max y_max)) (wire result (words.new ∷ []) [] []) }
 {
-    let grid = Grid {
-        x_min,
-        y_min,
-        x_max,
-        y_max,
-    };
-    let tiles = header_wire::layout_in(*layout);
+    let grid = grid_of(x_min, y_min, x_max, y_max);
+    let layout = header_wire::layout_in(*layout);
+    let format = TileFormat { layout, letters };
     let found = index_wire::interval_in(*interval);
-    let got = wanted::wanted(map, tiles, letters, found, grid, tile, zoom, decisions);
+    let got = wanted::wanted(map, format, found, grid, tile, zoom, decisions);
     wanted_wire::put_wanted(got, words)
 }

@@ -1,6 +1,7 @@
 // The library `exports` as programs in other languages link it; include/mapsforge.h declares these functions and says what each word is. A
 // slice goes by its address and its length, an array by its address alone. Each function here calls the library's of the same name, with the
 // same arguments, and states its clauses again; what they promise is said there.
+// C lends each list by itself: so lists that go together (starts and letters; node counts, latitudes and longitudes) are parameters of their own.
 #![tactic(auto)]
 
 ghost use Rattle.std.specs.Prelude.{◌≡◌, [], ◌∷◌};
@@ -159,7 +160,7 @@ pub extern "C" fn mapsforge_column(
     exports::mapsforge_column(longitude, zoom, words, column)
 }
 
-// The longitude at which a column starts.
+// The longitude at which a column starts. C has a function for each call, also where two take arguments of like types.
 #[unsafe(no_mangle)]
 pub extern "C" fn mapsforge_longitude(
     column: u32,
@@ -334,7 +335,7 @@ pub extern "C" fn mapsforge_stream_decline(state: &mut [u64; 8], words: &mut [u6
 }
 
 // Past the waiting way and then the next point, way or end, in one call, for a program that declines most ways. 16 while no way waits; a
-// refused call leaves the way waiting.
+// refused call leaves the way waiting. C has no function that takes which of two calls is meant.
 #[unsafe(no_mangle)]
 pub extern "C" fn mapsforge_stream_skip(
     map: &[u8],

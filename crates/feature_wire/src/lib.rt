@@ -17,8 +17,8 @@ fn put_summary(summary: TileSummary, words: &mut [u64; 15])
     ensures { wire 0 (words.new ∷ []) [] [] ≡ put_summary summary (lending (words.old ∷ []) [] []) }
 {
     let signature = wire::span_words(summary.signature);
-    let exact = wire::bit(summary.exact);
-    let plain = wire::bit(summary.plain);
+    let exact = u64::from(summary.exact);
+    let plain = u64::from(summary.plain);
     words[6] = signature.present;
     words[7] = signature.start;
     words[8] = signature.size;
@@ -102,7 +102,7 @@ fn put_texts(texts: FeatureTexts, words: &mut [u64; 37])
     words[28] = r.value_code;
 }
 
-// Five words for each tag.
+// Five words for each tag. By number: a chunk of five words would be written by number too.
 fn put_tags(tags: [TagText; 15], words: &mut [u64; 75])
     ensures { words.new ≡ tag_words tags }
 {
@@ -122,7 +122,7 @@ fn put_signs(poi: FetchedPoi, signed_words: &mut [i64; 2])
     ensures { signed_words.new ≡ sets signed_words.old 0 (poi.layer ∷ (metre_words poi.elevation).metres ∷ []) }
 {
     let elevation = wire::metre_words(poi.elevation);
-    signed_words[0] = wire::wide_i8(poi.layer);
+    signed_words[0] = i64::from(poi.layer);
     signed_words[1] = elevation.metres;
 }
 
@@ -138,7 +138,7 @@ fn put_point(
 {
     let signature = wire::span_words(poi.signature);
     let elevation = wire::metre_words(poi.elevation);
-    let plain = wire::bit(poi.plain);
+    let plain = u64::from(poi.plain);
     words[6] = 0;
     words[7] = poi.tag_ids.count as u64;
     words[8] = signature.present;
@@ -158,7 +158,7 @@ fn put_point(
 fn put_layer(way: FetchedWay, signed_words: &mut [i64; 2])
     ensures { signed_words.new ≡ sets signed_words.old 0 (way.layer ∷ []) }
 {
-    signed_words[0] = wire::wide_i8(way.layer);
+    signed_words[0] = i64::from(way.layer);
 }
 
 // What a fetched way has besides its nodes.
@@ -174,9 +174,9 @@ fn put_way(
 {
     let signature = wire::span_words(way.signature);
     let label = wire::place_words(way.label_position);
-    let double_delta = wire::bit(way.double_delta);
-    let plain = wire::bit(way.plain);
-    let head_plain = wire::bit(way.head_plain);
+    let double_delta = u64::from(way.double_delta);
+    let plain = u64::from(way.plain);
+    let head_plain = u64::from(way.head_plain);
     words[6] = 1;
     words[7] = way.tag_ids.count as u64;
     words[8] = signature.present;

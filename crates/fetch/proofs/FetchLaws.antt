@@ -40,7 +40,9 @@ use Rattle.tile.specs.Tile.{shown_tile, places_of, feature_places, collect_tile,
 use Rattle.tile.specs.declared.Tile.{Tile}
 use Rattle.tile.proofs.PlaceLaws.{places-length, stands}
 use Rattle.tile.proofs.CollectLaws.{is-collected}
-use Rattle.fetched.specs.Fetched.{started_name, buffered, FetchLists, Fetched, fetched_point, poi_lists, fetched_way, fits_all, FetchReply, deliver_all, fetched_res, fetch_reply}
+use Rattle.byte_source.specs.Answers.{lent_res}
+use Rattle.index.specs.Answers.{lent_answer}
+use Rattle.fetched.specs.Fetched.{started_name, buffered, FetchLists, Fetched, fetched_point, poi_lists, fetched_way, fits_all, FetchReply, deliver_all, fetch_reply}
 use Rattle.fetched.specs.declared.Feature.{Feature}
 use Rattle.fetched.specs.declared.Feature.TheVariants as feature
 use Rattle.fetched.specs.declared.FetchedPoi.{FetchedPoi}
@@ -50,7 +52,7 @@ use Rattle.measured_way.specs.MeasuredWay.{way_stored}
 use Rattle.fetch_way.specs.FetchWay.{lent, WayFetchIs}
 use Rattle.fetch.specs.declared.FeaturePlace.{FeaturePlace}
 use Rattle.fetch.specs.declared.FeaturePlace.TheVariants as place
-use Rattle.fetch.specs.Fetch.{fetched_as, given_by, given, fetch_at, fetch_tile, feature_res, FeatureIs, listed_place, read_at, fetch_listed}
+use Rattle.fetch.specs.Fetch.{fetched_as, given_by, given, fetch_at, fetch_tile, FeatureIs, listed_place, read_at, fetch_listed}
 use Rattle.fetch.specs.Direct.{Direct, feature_bytes}
 
 -- delivering a point or a way is delivering a feature
@@ -74,7 +76,7 @@ feature-is {A} f stored l left r q =
     ap (λ (a : Res Feature). record { answer = a; lists = left }) (same r)
     ∙ ap (λ (a : FetchReply A). record { answer = answered (map_res f a.answer); lists = a.lists }) q ∙ delivered-as f stored l
   where
-    same : (r : Result (A × ℕ) LentRefusal) → feature_res (shown_as f r) ≡ answered (map_res f (fetched_res r))
+    same : (r : Result (A × ℕ) LentRefusal) → lent_answer (shown_as f r) ≡ answered (map_res f (lent_res r))
     same (Ok (v, n)) = refl
     same (Err x) = refl
 

@@ -1,12 +1,12 @@
 -- Fetching: document 01, "The stream and the collected tile": "Feature k of a collected tile can then be fetched, points from 0, ways
 -- behind them". Which feature that is says `fetch` of crate agreement; what is given of it, crate fetched.
-use Rattle.std.specs.Prelude.{ℕ, ◌+◌, Bool, ◌&&◌, cond, ◌≡◌, List, [], ltb, length, get_or, Result, Ok, Err}
+use Rattle.std.specs.Prelude.{ℕ, ◌+◌, Bool, ◌&&◌, cond, ◌≡◌, List, [], ltb, length, get_or, Result}
 use Rattle.parsing.specs.Parse.{Res, no, and_then, map_res, Maybe}
-use Rattle.error.specs.Refusals.{lent_refused}
 use Rattle.error.specs.declared.LentRefusal.{LentRefusal}
 use Rattle.format.specs.Header.{Interval}
 use Rattle.format.specs.Index.{answer, answered, Grid, Located, locate, tile_at}
 use Rattle.format.specs.Rows.{located_head}
+use Rattle.index.specs.Answers.{lent_answer}
 use Rattle.tag_table.specs.Tables.{kinds_by}
 use Rattle.tag.specs.declared.Kind.{Kind}
 use Rattle.agreement.specs.TileFormat.{tile_end, tile_format}
@@ -61,11 +61,6 @@ read_at l starts letters (place.Way i) m = map_res (fetched_as feature.Way) (way
 abbrev pub fetch_listed : TileLayout → (starts letters places : List ℕ) → (points ways k : ℕ) → List ℕ → Res (Fetched Feature)
 fetch_listed l starts letters places points ways k m = answered (and_then (listed_place places points ways k) (λ p _. read_at l starts letters p m))
 
--- the answer of the code
-abbrev pub feature_res : Result Feature LentRefusal → Res Feature
-feature_res (Ok f) = answer f
-feature_res (Err r) = lent_refused r
-
 -- the answer to a call, where the definition says `stored`, and the lists after it: 15, if a list or the buffer is too short, comes last
 abbrev pub FeatureIs : (stored : Res (Fetched Feature)) → (lent : FetchLists) → Result Feature LentRefusal → (left : FetchLists) → Type 0
-FeatureIs stored lent r left = ◌≡◌ {A = FetchReply Feature} (record { answer = feature_res r; lists = left }) (deliver_all stored lent)
+FeatureIs stored lent r left = ◌≡◌ {A = FetchReply Feature} (record { answer = lent_answer r; lists = left }) (deliver_all stored lent)

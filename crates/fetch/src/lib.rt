@@ -8,7 +8,7 @@ ghost use Rattle.fetch.specs.Fetch.{listed_place, fetch_listed, FeatureIs};
 
 use error::{LentRefusal, Refusal};
 use fetched::Feature;
-use tile_layout::TileLayout;
+use tile_layout::{TagLists, TileLayout};
 
 // Where a point starts, or a way; its signature's place in debug maps.
 #[derive(Clone, Copy)]
@@ -43,11 +43,11 @@ fn listed_place(
 // features or the list's length, before reading; 15 last, with every length needed, if a list or the buffer is too short. A point's texts
 // go to the buffer; a way's node counts, latitudes and longitudes go to the first three lists, its blocks' initial latitudes and longitudes
 // to the others. A refusal leaves them all alone.
+// Each list is a parameter: of a struct of &muts every function would have to promise, too, that its fields are the same lists.
 pub fn fetch_feature(
     map: &[u8],
     layout: TileLayout,
-    starts: &[u64],
-    letters: &[u8],
+    lists: TagLists<'_>,
     places: &[u64],
     points: u64,
     ways: u64,
@@ -59,7 +59,7 @@ pub fn fetch_feature(
     initial_longitudes: &mut [f64],
     buffer: &mut [u8],
 ) -> Result<Feature, LentRefusal>
-    ensures { FeatureIs (fetch_listed layout starts.now letters.now places.now points ways feature map.now) (lent node_counts.old latitudes.old longitudes.old initial_latitudes.old initial_longitudes.old buffer.old) result (lent node_counts.new latitudes.new longitudes.new initial_latitudes.new initial_longitudes.new buffer.new) }
+    ensures { FeatureIs (fetch_listed layout lists.entry.starts.now lists.entry.letters.now places.now points ways feature map.now) (lent node_counts.old latitudes.old longitudes.old initial_latitudes.old initial_longitudes.old buffer.old) result (lent node_counts.new latitudes.new longitudes.new initial_latitudes.new initial_longitudes.new buffer.new) }
 {
     let place = listed_place(places, points, ways, feature)?;
     match place {
@@ -68,8 +68,7 @@ pub fn fetch_feature(
                 map,
                 at,
                 layout.debug,
-                starts,
-                letters,
+                lists,
                 layout.poi_tags,
                 buffer,
             )?;
@@ -80,8 +79,7 @@ pub fn fetch_feature(
                 map,
                 at,
                 layout.debug,
-                starts,
-                letters,
+                lists,
                 layout.way_tags,
                 node_counts,
                 latitudes,

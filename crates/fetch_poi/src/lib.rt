@@ -8,6 +8,7 @@ use error::LentRefusal;
 use feature_texts::TextParts;
 use fetched::{FeatureTexts, FetchedPoi};
 use poi::Poi;
+use tile_layout::TagLists;
 use types::TagRange;
 
 // What the texts of a point are made of.
@@ -63,15 +64,14 @@ pub fn fetch_poi(
     map: &[u8],
     at: usize,
     debug: bool,
-    starts: &[u64],
-    letters: &[u8],
+    lists: TagLists<'_>,
     tags: TagRange,
     buffer: &mut [u8],
 ) -> Result<(FetchedPoi, usize), LentRefusal>
-    ensures { PoiFetchIs (poi_stored debug starts.now letters.now tags map.now at) buffer.old result buffer.new }
+    ensures { PoiFetchIs (poi_stored debug lists.entry.starts.now lists.entry.letters.now tags map.now at) buffer.old result buffer.new }
 {
-    let (poi, next) = poi::read_poi(map, at, debug, letters, tags)?;
+    let (poi, next) = poi::read_poi(map, at, debug, lists.letters, tags)?;
     let ids = poi.tag_ids.ids;
     let count = poi.tag_ids.count;
-    write_poi(map, poi, &ids[..count], next, starts, tags, buffer)
+    write_poi(map, poi, &ids[..count], next, lists.starts, tags, buffer)
 }

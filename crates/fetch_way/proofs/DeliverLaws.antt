@@ -8,7 +8,7 @@ use lib.Dec.{leb}
 use lib.Ieee.{Float}
 use lib.ListN.{length, take, length-map}
 use borrow.Author.Tests.{leb-true, lt-ltb, le-leb}
-use Rattle.std.specs.Prelude.{Ok}
+use Rattle.std.specs.Prelude.{Ok, Some}
 use Rattle.parsing.specs.Parse.{Res, ok, no, and_then, map_res}
 use Rattle.parsing.specs.Good.{ok-val, ok_at, no_ok}
 use Rattle.error.specs.Refusals.{lent_refused}
@@ -111,7 +111,7 @@ module _ (debug : Bool) (starts letters : List ℕ) (t : TagRange) (m : List ℕ
 
   -- what was written
   module _ (g : MeasuredWay) (n : ℕ) (q : ok g n ≡ map_res shown_of (measured (room_of given) (told_way debug starts letters t m at)))
-      (c' : List ℕ) (la' lo' il' io' : List Float) (bu' : List ℕ) (w : ListsWritten m g.lists c la lo il io c' la' lo' il' io') (u : bu' ≡ texts_written starts m g.texts bu) where
+      (c' : List ℕ) (la' lo' il' io' : List Float) (bu' : List ℕ) (w : ListsWritten m (Some g.lists) c la lo il io c' la' lo' il' io') (u : bu' ≡ texts_written starts m g.texts bu) where
     abbrev left : FetchLists
     left = lent c' la' lo' il' io' bu'
 

@@ -8,6 +8,7 @@ use lib.Ieee.{Float}
 use lib.ListN.{length, take, drop, length-map}
 use lib.Seq.{take_at}
 use borrow.Author.Tests.{le-leb}
+use Rattle.std.specs.Prelude.{Some}
 use Rattle.parsing.specs.Parse.{ok}
 use Rattle.format.specs.Lent.{front, LentLists, fits, written, deliver}
 use Rattle.format.specs.WayData.{Node, concat}
@@ -42,7 +43,7 @@ lists_of d counts lats lons initial_lats initial_lons buffer = record {
 }
 
 -- the lists of a body that was read and has room, at the fronts of those that were lent
-module _ (m : List ℕ) (p : ListPlan) (c : List ℕ) (la lo il io : List Float) (c' : List ℕ) (la' lo' il' io' : List Float) (w : ListsWritten m p c la lo il io c' la' lo' il' io') where
+module _ (m : List ℕ) (p : ListPlan) (c : List ℕ) (la lo il io : List Float) (c' : List ℕ) (la' lo' il' io' : List Float) (w : ListsWritten m (Some p) c la lo il io c' la' lo' il' io') where
   module _ (d : Body) (e : ℕ) (f : body m p.start ≡ ok d e) (n : p.blocks ≡ length (concat d.data_blocks)) (h : fits (body_lists d) (lists.lent c la lo) ≡ true) where
     abbrev all : List (List Node)
     all = concat d.data_blocks

@@ -8,6 +8,7 @@ ghost use Rattle.fetch_way.specs.FetchWay.{lent, WayFetchIs, texts_written};
 use error::{Lengths, LentRefusal};
 use fetched::FetchedWay;
 use measured_way::TextPlan;
+use tile_layout::TagLists;
 use types::TagRange;
 
 // The planned texts in the buffer.
@@ -21,12 +22,12 @@ fn write_texts(map: &[u8], starts: &[u64], plan: TextPlan, buffer: &mut [u8])
 }
 
 // The way at a place. Refused as it is read; then 15 with every length needed if a list or the buffer is too short.
+// Each list is a parameter: of a struct of &muts every function would have to promise, too, that its fields are the same lists.
 pub fn fetch_way(
     map: &[u8],
     at: usize,
     debug: bool,
-    starts: &[u64],
-    letters: &[u8],
+    lists: TagLists<'_>,
     tags: TagRange,
     node_counts: &mut [u64],
     latitudes: &mut [f64],
@@ -35,7 +36,7 @@ pub fn fetch_way(
     initial_longitudes: &mut [f64],
     buffer: &mut [u8],
 ) -> Result<(FetchedWay, usize), LentRefusal>
-    ensures { WayFetchIs (way_stored debug starts.now letters.now tags map.now at) (lent node_counts.old latitudes.old longitudes.old initial_latitudes.old initial_longitudes.old buffer.old) result (lent node_counts.new latitudes.new longitudes.new initial_latitudes.new initial_longitudes.new buffer.new) }
+    ensures { WayFetchIs (way_stored debug lists.entry.starts.now lists.entry.letters.now tags map.now at) (lent node_counts.old latitudes.old longitudes.old initial_latitudes.old initial_longitudes.old buffer.old) result (lent node_counts.new latitudes.new longitudes.new initial_latitudes.new initial_longitudes.new buffer.new) }
 {
     let room = Lengths {
         list1: node_counts.len() as u64,
@@ -45,16 +46,16 @@ pub fn fetch_way(
         list5: initial_longitudes.len() as u64,
         buffer: buffer.len() as u64,
     };
-    let (measured, next) = measured_way::measure_way(map, at, debug, starts, letters, tags, room)?;
+    let (measured, next) = measured_way::measure_way(map, at, debug, lists, tags, room)?;
     way_lists::write_lists(
         map,
-        measured.lists,
+        Some(measured.lists),
         node_counts,
         latitudes,
         longitudes,
         initial_latitudes,
         initial_longitudes,
     );
-    write_texts(map, starts, measured.texts, buffer);
+    write_texts(map, lists.starts, measured.texts, buffer);
     Ok((measured.way, next))
 }

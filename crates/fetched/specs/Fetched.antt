@@ -2,10 +2,11 @@
 -- `addr:housenumber` and `ref`, for the texts it has") and "The stream and the collected tile" (texts one behind the other in a
 -- buffer, each maximal ill-formed part replaced; keys, values and hashes over the replaced text; a way's blocks and their initial
 -- positions). `name_of` gives the stored bytes of a tag's name by its id.
-use Rattle.std.specs.Prelude.{ℕ, Bool, ◌&&◌, List, [], ◌++◌, map, leb, Float, length, replicate, Option, Some, None, Result, Ok, Err}
+use Rattle.std.specs.Prelude.{ℕ, Bool, ◌&&◌, List, [], ◌++◌, map, leb, Float, length, replicate, Option, Some, None, Result}
 use Rattle.parsing.specs.Parse.{Res, ok, no, Part, Maybe, none, some, nth}
-use Rattle.error.specs.Refusals.{lent_refused, lengths}
+use Rattle.error.specs.Refusals.{lengths}
 use Rattle.error.specs.declared.LentRefusal.{LentRefusal}
+use Rattle.byte_source.specs.Answers.{lent_res}
 use Rattle.arithmetic.specs.Cut.{cut}
 use Rattle.text.specs.Utf8.{replaced}
 use Rattle.tag.specs.Tag.{new_tag, tag_of, key_bytes}
@@ -170,11 +171,6 @@ FetchReply A = Replied FetchLists (Res A)
 abbrev pub deliver_all : {A : Type 0} → Res (Fetched A) → (lent : FetchLists) → FetchReply A
 deliver_all r l = deliver_to (record { room = fits_all; put = written_all; need = needed_all }) (λ f. f.value) (λ f. f.values) r l
 
--- an answer of the code: a feature with the place behind it, or why there is none
-abbrev pub fetched_res : {A : Type 0} → Result (A × ℕ) LentRefusal → Res A
-fetched_res (Ok (v, n)) = ok v n
-fetched_res (Err r) = lent_refused r
-
--- with what the lists hold after the call
+-- an answer of the code, with what the lists hold after the call
 abbrev pub fetch_reply : {A : Type 0} → Result (A × ℕ) LentRefusal → (left : FetchLists) → FetchReply A
-fetch_reply r left = record { answer = fetched_res r; lists = left }
+fetch_reply r left = record { answer = lent_res r; lists = left }

@@ -14,7 +14,7 @@ pub struct TagText {
 }
 
 // The texts of a feature in the order of the buffer: one for each tag id, from the front, empty ones behind them; then the others. A
-// text that is absent takes no room.
+// text that is absent takes no room. An array, since they are handed out by value and there is no heap.
 #[derive(Clone, Copy)]
 pub struct FeatureTexts {
     pub tags: [TagText; 15],

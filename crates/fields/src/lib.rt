@@ -15,7 +15,7 @@ use byte_source::{Read, Span};
 use types::Position;
 use utils::Noted;
 
-// In debug maps, the 32 bytes in front of a tile or a feature.
+// In debug maps, the 32 bytes in front of a tile or a feature. One function for this and a text would take the read with its view: no plainer.
 pub fn read_signature(map: &[u8], at: usize, debug: bool) -> Read<Option<Span>>
     ensures { read_by (maybe_part map.now) result ≡ debug_signature debug map.now at }
 {

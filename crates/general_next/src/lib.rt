@@ -9,6 +9,8 @@ ghost use Rattle.wire.specs.Wire.{wire, lending, Crosses};
 ghost use Rattle.header_wire.specs.Header.{layout_in};
 ghost use Rattle.stream_wire.specs.Streams.{stream_in, next_wire};
 
+use tile_layout::TileFormat;
+
 // The parameters and the contract of `mapsforge_stream_next`, with its `NextOf` written out.
 #[unsafe(no_mangle)]
 pub extern "C" fn mapsforge_general_next(
@@ -23,8 +25,9 @@ pub extern "C" fn mapsforge_general_next(
 ) -> u64
     ensures { Crosses (next_wire (lending (words.old ∷ ids.old ∷ state.old ∷ []) signed_words.old degrees.old)) (NextIs (shown_step (on_next (format_of (kinds_of (layout_in layout.now) letters.now)) map.now (state_of (stream_in state.old))))) (wire result (words.new ∷ ids.new ∷ state.new ∷ []) signed_words.new degrees.new) }
 {
-    let tiles = header_wire::layout_in(*layout);
+    let layout = header_wire::layout_in(*layout);
+    let format = TileFormat { layout, letters };
     let stream = stream_wire::stream_in(*state);
-    let step = visit::next(map, tiles, letters, stream);
+    let step = visit::next(map, format, stream);
     stream_wire::put_next(step, state, words, signed_words, degrees, ids)
 }

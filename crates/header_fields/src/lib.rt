@@ -3,7 +3,7 @@
 
 ghost use Rattle.std.specs.Prelude.{◌≡◌, ◌&&◌};
 ghost use Rattle.byte_source.specs.Answers.{read_by};
-ghost use Rattle.format.specs.Header.{same, versioned, preamble, place, box, between, on_earth, valid_box};
+ghost use Rattle.format.specs.Header.{same, versioned, preamble, place, box, on_earth, valid_box};
 ghost use Rattle.header_fields.specs.Fields.{place_of, box_of, preamble_of};
 
 use byte_source::Read;
@@ -31,7 +31,8 @@ pub struct Preamble {
     pub file_version: u32,
 }
 
-// Whether two slices hold the same bytes.
+// Whether two slices hold the same bytes: std's `==` under the format's word, on which the proofs of its callers rest. With `==` in place
+// that of `read_preamble` did not close.
 pub fn same_bytes(a: &[u8], b: &[u8]) -> bool
     ensures { result ≡ same a.now b.now }
 {
@@ -90,22 +91,13 @@ pub fn read_position(map: &[u8], at: usize) -> Read<StoredPosition>
     Ok((position, at))
 }
 
-fn between(low: Microdegrees, high: Microdegrees, v: Microdegrees) -> bool
-    ensures { result ≡ between low.0 high.0 v.0 }
-{
-    low.0 <= v.0 && v.0 <= high.0
-}
-
 // Latitudes from -90 to 90 degrees, longitudes from -180 to 180.
 fn on_earth(p: StoredPosition) -> bool
     ensures { result ≡ on_earth (place_of p) }
 {
-    between(Microdegrees(-90000000), Microdegrees(90000000), p.latitude)
-        && between(
-            Microdegrees(-180000000),
-            Microdegrees(180000000),
-            p.longitude,
-        )
+    let in_latitudes = -90000000 <= p.latitude.0 && p.latitude.0 <= 90000000;
+    let in_longitudes = -180000000 <= p.longitude.0 && p.longitude.0 <= 180000000;
+    in_latitudes && in_longitudes
 }
 
 fn valid_box(a: StoredPosition, b: StoredPosition) -> bool

@@ -17,6 +17,7 @@ struct ByteWords {
     value: u64,
 }
 
+// Whether there is a byte, and the byte. An elevation crosses beside this in a signed word, so `metre_words` fills another struct.
 fn byte_words(byte: Option<u8>) -> ByteWords
     ensures { result ≡ byte_words byte }
 {
@@ -35,7 +36,7 @@ fn byte_words(byte: Option<u8>) -> ByteWords
 fn debug_bit(flags: u8) -> u64
     ensures { result ≡ cond (bit 7 flags) 1 0 }
 {
-    wire::bit(flags / 128 % 2 == 1)
+    u64::from(flags / 128 % 2 == 1)
 }
 
 // What tiles and sub files need of a header that ends here: the debug flag, and where tags and intervals stand.
@@ -59,7 +60,7 @@ pub fn layout_in(words: [u64; 7]) -> TileLayout
     let points = words[2] as usize;
     let ways = words[4] as usize;
     TileLayout {
-        debug: wire::truth_of(words[0]),
+        debug: 0 < words[0],
         poi_tags: TagRange {
             first: 0,
             count: points,

@@ -17,7 +17,7 @@ pub fn push_text(words: Words, map: &[u8], span: Span) -> Words
 {
     let bytes = byte_source::span_bytes(map, span);
     let words = report::push(words, text::replaced_len(bytes) as u64);
-    report::push(words, report::mix_text(14695981039346656037, bytes))
+    report::push(words, report::mix_text(report::EMPTY, bytes))
 }
 
 // 0 for what is absent, and 1 in front of what is there.

@@ -1,7 +1,6 @@
 // Cut and damaged copies of the base map, opened.
 use crate::opened;
-use crate::opened::EMPTY;
-use report::Words;
+use report::{EMPTY, Words};
 
 fn cut_words(map: &[u8], size: usize) -> Words {
     match map.get(..size) {

@@ -1,9 +1,6 @@
 // A header as words.
-use report::Words;
+use report::{EMPTY, Words};
 use types::{MapHeader, TagTable};
-
-// A digest of nothing.
-pub(crate) const EMPTY: u64 = 14695981039346656037;
 
 // The tags' texts, one behind the other.
 fn tags_digest(map: &[u8], table: TagTable) -> u64 {

@@ -1,15 +1,19 @@
 -- The intervals in the array's front, by number and by zoom.
-use Prim.Native.Nat.{ℕ, zero, suc, ◌≤◌, ◌<◌}
+use Prim.Native.Nat.{ℕ, zero, suc, ◌+◌, ◌≤◌, ◌<◌}
 use native.Mathlib.Omega.{arith}
 use mathlib.Core.Path.{◌≡◌, refl}
+use mathlib.Core.Bool.{Bool, true, false, cond}
 use mathlib.Core.List.{List, [], ◌∷◌}
 use mathlib.Core.List.{map as mapped}
-use lib.ListN.{length, get_or, take, drop, length-map}
+use lib.ListN.{length, get_or, take, length-map}
 use borrow.Author.Rules.{rules}
+use Rattle.std.specs.Prelude.{Option, Some}
+use Rattle.std.specs.List.{position_from}
 use Rattle.parsing.specs.Parse.{Maybe, none, some, nth}
-use Rattle.format.specs.Index.{sub_file_from}
+use Rattle.format.specs.Index.{holds_zoom, sub_file_from}
 use Rattle.types.specs.Types.{interval_of}
 use Rattle.types.specs.declared.ZoomInterval.{ZoomInterval}
+use Rattle.index.specs.Answers.{maybe}
 
 pub file-missing : (l : List ZoomInterval) (n k : ℕ) → n ≤ k → none ≡ nth (mapped interval_of (take n l)) k
 file-missing l zero k h = refl
@@ -27,8 +31,13 @@ file-at (z ∷ l) (suc n) (suc k) d h b = file-at l n k d (omega arith) (omega a
 pub counted-in : {B : Type 0} (f : ZoomInterval → B) (l : List ZoomInterval) (n : ℕ) → length (mapped f l) ≡ 255 → n < 256 → n ≤ length l
 counted-in f l n e b = omega (arith, length-map l f)
 
--- the intervals from number i on
-abbrev pub from : List ZoomInterval → ℕ → ℕ → ℕ → Maybe ℕ
-from l n zoom i = sub_file_from i (mapped interval_of (drop i (take n l))) zoom
+-- the first interval that holds the zoom, of those from number i on
+pub file-from : (l : List ZoomInterval) (zoom i : ℕ) → maybe (position_from (λ z. holds_zoom (interval_of z) zoom) i l) ≡ sub_file_from i (mapped interval_of l) zoom
+file-from [] zoom i = refl
+file-from (z ∷ l) zoom i = by (holds_zoom (interval_of z) zoom) _ _ (file-from l zoom (i + 1))
+  where
+    by : (b : Bool) (o : Option ℕ) (m : Maybe ℕ) → maybe o ≡ m → maybe (cond b (Some i) o) ≡ cond b (some i) m
+    by true o m e = refl
+    by false o m e = e
 
 pub ruleset files = (rules, file-missing, file-at, counted-in)

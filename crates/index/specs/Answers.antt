@@ -2,7 +2,8 @@
 -- than a result").
 use Rattle.std.specs.Prelude.{Option, Some, None, Result, Ok, Err}
 use Rattle.parsing.specs.Parse.{Res, and_then, Maybe, none, some}
-use Rattle.error.specs.Refusals.{refused}
+use Rattle.error.specs.Refusals.{refused, lent_refused}
+use Rattle.error.specs.declared.LentRefusal.{LentRefusal}
 use Rattle.error.specs.declared.Refusal.{Refusal}
 use Rattle.arithmetic.specs.Cut.{cut}
 use Rattle.format.specs.Header.{Interval}
@@ -29,6 +30,11 @@ answer_by view (Err r) = refused r
 
 abbrev pub answer_res : {A : Type 0} → Result A Refusal → Res A
 answer_res g = answer_by (λ a. a) g
+
+-- the same of an answer that may be 15
+abbrev pub lent_answer : {A : Type 0} → Result A LentRefusal → Res A
+lent_answer (Ok a) = answer a
+lent_answer (Err r) = lent_refused r
 
 -- an entry as the code holds it: 2 ^ 64 - 1 stands for an absolute offset above it, and no read goes on behind the entry
 abbrev pub held_entry : Entry → TileIndexEntry

@@ -1,14 +1,13 @@
 // tile.rs and visit.rs: sub files, the tiles of their grids, and the tile index.
 #![tactic(auto)]
 
-ghost use Rattle.std.specs.Prelude.{◌≡◌, cond, ◌+◌, ◌*◌, ◌≤◌, ◌<◌, ◌^◌, nat_abs, ◌-ℤ◌};
-ghost use Rattle.std.specs.Int.Signed.{le_z};
+ghost use Rattle.std.specs.Prelude.{◌≡◌, cond, ◌+◌, ◌*◌, ◌≤◌, ◌<◌, ◌^◌};
 ghost use Rattle.arithmetic.specs.Cut.{cut};
 ghost use Rattle.parsing.specs.Parse.{nth};
 ghost use Rattle.format.specs.Header.{between};
 ghost use Rattle.format.specs.Index.{holds_zoom, sub_file_for_zoom, width, grid_tiles, tile_count, in_grid, row_major, grid_index, tile_index_of, entry, entry_at, entry_asked, tile_index_entry};
 ghost use Rattle.types.specs.Types.{interval_of, intervals_of, grid_of};
-ghost use Rattle.index.specs.Asked.{Ordered, Inside};
+ghost use Rattle.index.specs.Asked.{Inside};
 ghost use Rattle.index.specs.Answers.{maybe, interval_found, answer_by, answer_res, held_res};
 
 use error::Refusal;
@@ -44,36 +43,18 @@ pub fn sub_file_for_zoom(header: MapHeader, zoom: u8) -> Option<usize>
     ensures { maybe result ≡ sub_file_for_zoom (intervals_of header) zoom }
 {
     let n = header.num_zoom_intervals as usize;
-    for i in 0..n {
-        if holds_zoom(header.zoom_interval_configuration[i], zoom) {
-            return Some(i);
-        }
-    }
-    None
-}
-
-fn at_most(a: i32, b: i32) -> bool
-    ensures { result ≡ le_z a b }
-{
-    a <= b
-}
-
-// From low up to high.
-fn steps(low: i32, high: i32) -> u64
-    requires { Ordered low high }
-    ensures { (result ≡ nat_abs (high -ℤ low)) × (result < 2 ^ 32) }
-{
-    (high as i64 - low as i64) as u64
+    let intervals = &header.zoom_interval_configuration[..n];
+    intervals.iter().position(|&z| holds_zoom(z, zoom))
 }
 
 // The columns or rows from low to high, both included; 0 if they are reversed.
 fn width_of(low: i32, high: i32) -> u64
     ensures { result ≡ width low high }
 {
-    if !at_most(low, high) {
+    if high < low {
         return 0;
     }
-    steps(low, high) + 1
+    high.abs_diff(low) as u64 + 1
 }
 
 // How many tiles a grid has. The product of two widths may pass 64 bits, so it is tested before it is made.
@@ -106,10 +87,11 @@ pub fn tile_count(found: Option<ZoomInterval>, grid: Grid) -> Result<Option<u32>
     Ok(Some(tiles as u32))
 }
 
+// `contains` alone: the proof of a test of both ranges in one expression did not close.
 fn in_range(low: i32, v: i32, high: i32) -> bool
     ensures { result ≡ between low high v }
 {
-    at_most(low, v) && at_most(v, high)
+    (low..=high).contains(&v)
 }
 
 fn in_grid(grid: Grid, x: i32, y: i32) -> bool
@@ -123,8 +105,8 @@ fn row_major(grid: Grid, x: i32, y: i32) -> usize
     requires { Inside (grid_of grid) x y }
     ensures { result ≡ row_major (grid_of grid) x y }
 {
-    let row = steps(grid.y_min, y);
-    let column = steps(grid.x_min, x);
+    let row = y.abs_diff(grid.y_min) as u64;
+    let column = x.abs_diff(grid.x_min) as u64;
     (row * width_of(grid.x_min, grid.x_max) + column) as usize
 }
 
@@ -179,7 +161,10 @@ fn entry_place(debug: bool, start: u64, tile: usize) -> usize
 fn read_entry(map: &[u8], start: u64, at: usize) -> Result<TileIndexEntry, Refusal>
     ensures { answer_res result ≡ held_res (entry start map.now at) }
 {
-    let (n, _) = byte_source::read_u40_be(map, at).map_err(|r| error::in_index(r, at as u64))?;
+    let (n, _) = byte_source::read_u40_be(map, at).map_err(|r| error::cut_off_as(
+        r,
+        Refusal::IndexCutOff(at as u64),
+    ))?;
     let offset = n % 549755813888;
     let absolute = arithmetic::saturating_add_usize(start as usize, offset as usize);
     Ok(TileIndexEntry {

@@ -52,12 +52,6 @@ pub fn put_index(got: Result<Option<usize>, Refusal>, words: &mut [u64; 8]) -> u
     }
 }
 
-pub fn put_sub_file(got: Result<Option<usize>, Refusal>, words: &mut [u64; 8]) -> u64
-    ensures { wire result (words.new ∷ []) [] [] ≡ number_wire (lending (words.old ∷ []) [] []) got }
-{
-    put_index(got, words)
-}
-
 // A sub file's interval, as other calls take it; of a missing one only the mark that there is none.
 pub fn put_interval(
     got: Result<Option<ZoomInterval>, Refusal>,
@@ -105,7 +99,7 @@ pub fn put_entry(got: Result<TileIndexEntry, Refusal>, words: &mut [u64; 9]) -> 
 {
     match got {
         Ok(e) => {
-            let water = wire::bit(e.is_water);
+            let water = u64::from(e.is_water);
             words[6] = water;
             words[7] = e.offset;
             words[8] = e.offset_abs;
@@ -164,7 +158,7 @@ pub fn put_column(got: Result<i32, Refusal>, words: &mut [u64; 6], column: &mut 
 {
     match got {
         Ok(x) => {
-            let found = wire::wide_i32(x);
+            let found = i64::from(x);
             column[0] = found;
             0
         }
@@ -192,7 +186,7 @@ pub fn put_longitude(
 fn put_sizes(sizes: Sizes, end: usize, words: &mut [u64; 10]) -> u64
     ensures { wire result (words.new ∷ []) [] [] ≡ put_sizes sizes end (lending (words.old ∷ []) [] []) }
 {
-    let plain = wire::bit(sizes.plain);
+    let plain = u64::from(sizes.plain);
     words[6] = sizes.blocks;
     words[7] = sizes.nodes;
     words[8] = end as u64;
@@ -209,7 +203,7 @@ pub fn put_way_data(got: Read<Sizes>, words: &mut [u64; 10]) -> u64
     }
 }
 
-// The same of data that was written.
+// The same of data that was written. It refuses with another type, and what puts the one refusal does not put the other.
 pub fn put_data_written(got: Result<(Sizes, usize), LentRefusal>, words: &mut [u64; 10]) -> u64
     ensures { wire result (words.new ∷ []) [] [] ≡ data_written_wire (lending (words.old ∷ []) [] []) got }
 {

@@ -1,11 +1,8 @@
 // The answer of each leaf as words.
 use byte_source::{Read, Span};
 use error::Refusal;
-use report::Words;
-use tag::{Kind, Tag};
-
-// A digest of nothing.
-pub(crate) const EMPTY: u64 = 14695981039346656037;
+use report::{EMPTY, Words};
+use tag::Tag;
 
 // A number, and the place behind it.
 fn number<T: Into<u64>>(got: Read<T>) -> Result<Words, Refusal> {
@@ -56,23 +53,12 @@ fn parsed(t: Tag) -> Words {
     report::push(report::push(words, t.key_code), t.value_code)
 }
 
-fn kind_of(letter: u8) -> Kind {
-    match letter {
-        b'b' => Kind::Byte,
-        b'h' => Kind::Short,
-        b'i' => Kind::Int,
-        b'f' => Kind::Float,
-        b's' => Kind::Text,
-        _ => Kind::Nothing,
-    }
-}
-
 // The first byte of the input is the letter, and the rest is the map.
 fn value(input: &[u8]) -> Result<Words, Refusal> {
     let Some((&letter, map)) = input.split_first() else {
         return Ok(report::no_words());
     };
-    let (stored, at) = tag::skip_inline_value(map, 0, kind_of(letter))?;
+    let (stored, at) = tag::skip_inline_value(map, 0, tag::kind_of(letter))?;
     let span = stored.value;
     Ok(questions::three(span.start as u64, span.size as u64, at as u64))
 }

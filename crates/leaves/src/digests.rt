@@ -1,6 +1,6 @@
 // Digests of the answers to every short input, a line for each first byte.
 use crate::answers;
-use crate::answers::EMPTY;
+use report::EMPTY;
 use std::io;
 use std::io::Write;
 

@@ -33,7 +33,7 @@ fn answer_all<W: Write>(to: &mut W, input: &[u8]) -> io::Result<()> {
     Ok(())
 }
 
-// More input than a map has room for is left unread.
+// More input than a map has room for is left unread. Each program has its `main`: what it calls is its own.
 fn main(rt: HostRuntime) -> io::Result<()> {
     let mut input = Vec::new(rt.alloc());
     rt.reader().take(1100000).read_to_end(&mut input)?;

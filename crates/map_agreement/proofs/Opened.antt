@@ -22,7 +22,8 @@ use Rattle.format.specs.Tile.{Point, Head, Body}
 use Rattle.tag.specs.declared.Kind.{Kind}
 use Rattle.types.specs.Types.{intervals_of}
 use Rattle.header.specs.HeaderView.{map_header}
-use Rattle.opening.specs.Opening.{lent_res, OpenIs}
+use Rattle.byte_source.specs.Answers.{lent_res}
+use Rattle.opening.specs.Opening.{OpenIs}
 use Rattle.header.proofs.HeaderLaws.{intervals-back}
 use Rattle.tile_layout.specs.TileLayout.{layout_of, kinds_of}
 use Rattle.tile_layout.specs.declared.TileLayout.{TileLayout}

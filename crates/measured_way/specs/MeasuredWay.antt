@@ -14,7 +14,8 @@ use Rattle.way.specs.declared.WayBody.{WayBody}
 use Rattle.way_head.specs.WayHead.{head_of}
 use Rattle.way_head.specs.declared.WayHead.{WayHead}
 use Rattle.way_lists.specs.declared.ListPlan.{ListPlan}
-use Rattle.fetched.specs.Fetched.{started_name, FetchLists, Fetched, fetched_way, needed_all, fetched_res}
+use Rattle.byte_source.specs.Answers.{lent_res}
+use Rattle.fetched.specs.Fetched.{started_name, FetchLists, Fetched, fetched_way, needed_all}
 use Rattle.fetched.specs.declared.FeatureTexts.{FeatureTexts}
 use Rattle.fetched.specs.declared.FetchedWay.{FetchedWay}
 use Rattle.feature_texts.specs.declared.TextParts.{TextParts}
@@ -85,7 +86,7 @@ shown_of x = record { way = x.fetched.value; texts = x.texts; lists = x.lists }
 
 -- a way that is told, or is not, by what the definition says
 abbrev pub ToldAs : Res Told → Result (MeasuredWay × ℕ) LentRefusal → Type 0
-ToldAs stored r = fetched_res r ≡ map_res shown_of stored
+ToldAs stored r = lent_res r ≡ map_res shown_of stored
 
 abbrev pub MeasuredIs : Bool → (starts letters : List ℕ) → TagRange → Lengths → List ℕ → (at : ℕ) → Result (MeasuredWay × ℕ) LentRefusal → Type 0
 MeasuredIs debug starts letters t room m at r = ToldAs (measured room (told_way debug starts letters t m at)) r

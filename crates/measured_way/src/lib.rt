@@ -8,6 +8,7 @@ use error::{Lengths, LentRefusal};
 use feature_texts::TextParts;
 use fetched::{FeatureTexts, FetchedWay};
 use tagged::TagIds;
+use tile_layout::TagLists;
 use types::TagRange;
 use way::WayBody;
 use way_head::WayHead;
@@ -139,15 +140,14 @@ pub fn measure_way(
     map: &[u8],
     at: usize,
     debug: bool,
-    starts: &[u64],
-    letters: &[u8],
+    lists: TagLists<'_>,
     tags: TagRange,
     room: Lengths,
 ) -> Result<(MeasuredWay, usize), LentRefusal>
-    ensures { MeasuredIs debug starts.now letters.now tags room map.now at result }
+    ensures { MeasuredIs debug lists.entry.starts.now lists.entry.letters.now tags room map.now at result }
 {
-    let (head, start) = way_head::read_way_head(map, at, debug, letters, tags)?;
+    let (head, start) = way_head::read_way_head(map, at, debug, lists.letters, tags)?;
     let ids = head.tag_ids.ids;
     let count = head.tag_ids.count;
-    measure_body(map, head, &ids[..count], start, starts, tags, room)
+    measure_body(map, head, &ids[..count], start, lists.starts, tags, room)
 }

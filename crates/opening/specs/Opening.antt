@@ -1,9 +1,9 @@
 -- Opening a map that lists its tag strings (request 3, document 02): what the calls answer, and the lent lists after the call. The answer is
 -- the stored header in a view, or the refusal, which may be 15.
-use Rattle.std.specs.Prelude.{ℕ, ◌≡◌, List, Result, Ok, Err}
-use Rattle.parsing.specs.Parse.{Res, ok, map_res}
-use Rattle.error.specs.Refusals.{lent_refused}
+use Rattle.std.specs.Prelude.{ℕ, ◌≡◌, List, Result}
+use Rattle.parsing.specs.Parse.{Res, map_res}
 use Rattle.error.specs.declared.LentRefusal.{LentRefusal}
+use Rattle.byte_source.specs.Answers.{lent_res}
 use Rattle.format.specs.Header.{Header}
 use Rattle.format.specs.Lent.{Replied}
 use Rattle.format.specs.TagLists.{TagLists, listing}
@@ -19,10 +19,6 @@ abbrev pub listing_as : {A : Type 0} → (view : Header → A) → Res Header �
 listing_as view stored lent = record { answer = map_res view (listing stored lent).answer; lists = (listing stored lent).lists }
 
 -- the header of the code with the place behind it, or why there is none
-abbrev pub lent_res : {A : Type 0} → Result (A × ℕ) LentRefusal → Res A
-lent_res (Ok (a, n)) = ok a n
-lent_res (Err r) = lent_refused r
-
 abbrev pub replied : {A : Type 0} → Result (A × ℕ) LentRefusal → (left : TagLists) → Replied TagLists (Res A)
 replied r left = record { answer = lent_res r; lists = left }
 

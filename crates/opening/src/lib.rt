@@ -34,7 +34,7 @@ fn check_signatures(map: &[u8], table: IntervalTable) -> Result<(), Refusal>
     ensures { answer_res result ≡ rows_signed table.count map.now table.start }
 {
     let mut at = table.start;
-    for i in 0..table.count {
+    for _ in 0..table.count {
         let (one, next) = zoom_intervals::read_interval(map, at)?;
         check_signature(map, one.sub_file_start)?;
         at = next;
@@ -71,6 +71,7 @@ fn text_letter(map: &[u8], text: Span) -> u8
 
 // Lists a table's tags, from entry `first` on: where each starts, which is the first byte of its length, and its letter. Opening has read
 // the texts, so none is refused.
+// Here and below each list is a parameter: of a struct of &muts every function would have to promise, too, that its fields are the same lists.
 fn list_tags(map: &[u8], table: TagTable, starts: &mut [u64], letters: &mut [u8], first: usize)
     requires { TagsFit map.now table first starts.old letters.old }
     ensures { TagsListed map.now table first starts.old letters.old starts.new letters.new }
@@ -112,10 +113,7 @@ fn too_short(n: usize) -> LentRefusal
     LentRefusal::Short(Lengths {
         list1: n as u64,
         list2: n as u64,
-        list3: 0,
-        list4: 0,
-        list5: 0,
-        buffer: 0,
+        ..Lengths::NONE
     })
 }
 
@@ -144,7 +142,6 @@ pub fn open_map(
 ) -> Result<(MapHeader, usize), LentRefusal>
     ensures { OpenIs (opened map.now) (lists starts.old letters.old) result (lists starts.new letters.new) }
 {
-    let (fields, at) = open_listed(map, starts, letters)?;
-    let (header, at) = header::with_intervals(map, Ok((fields, at)))?;
-    Ok((header, at))
+    let opened = open_listed(map, starts, letters)?;
+    Ok(header::with_intervals(map, Ok(opened))?)
 }

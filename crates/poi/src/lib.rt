@@ -39,13 +39,14 @@ struct PoiFields {
     plain: bool,
 }
 
-// As an elevation is stored: the low 32 bits of a number.
+// As an elevation is stored: the low 32 bits of a number. A cast loses no bits in Rattle, so it is the remainder that is cast.
 pub fn low32(v: i64) -> i32
     ensures { result ≡ low32 v }
 {
-    byte_source::to_i32(v.rem_euclid(4294967296) as u32)
+    (v.rem_euclid(4294967296) as u32).cast_signed()
 }
 
+// An elevation that a flag announces. One function for this and `read_noted_text` would take a reader with its view and parser: no plainer.
 fn read_elevation(map: &[u8], at: usize, flag: bool) -> Read<Noted<Option<i32>>>
     ensures { read_by noted_held result ≡ map_res noted_elevation (optional flag noted_signed map.now at) }
 {
@@ -81,7 +82,8 @@ fn read_poi_fields(map: &[u8], at: usize) -> Read<PoiFields>
     Ok((fields, at))
 }
 
-// A point with raw texts.
+// A point with raw texts. Here and in `read_way_head` no TileFormat stands for `debug`, `letters` and `tags`: it has the tags of points and
+// those of ways, and would be made to be taken apart.
 pub fn read_poi(map: &[u8], at: usize, debug: bool, letters: &[u8], tags: TagRange) -> Read<Poi>
     ensures { read_res result ≡ map_res poi_of (point debug (kinds_by letters.now tags) map.now at) }
 {

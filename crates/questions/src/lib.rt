@@ -11,7 +11,8 @@ use error::{Lengths, LentRefusal, Refusal};
 use report::Words;
 use tag::Kind;
 
-// The numbers that stand at a place of a question; 0 where it ends too early.
+// The numbers that stand at a place of a question; 0 where it ends too early. One function for the four would take the read, and be no
+// plainer.
 pub fn byte_at(question: &[u8], at: usize) -> u8
     ensures { result ≡ byte_at question.now at }
 {
@@ -42,7 +43,8 @@ fn push_lengths(words: Words, l: Lengths) -> Words
     report::push(report::push(report::push(words, l.list1), l.list2), l.list3)
 }
 
-// The number of what stands for a refusal in the Rust: a map that ends in an index entry or in a tile's head is its `Source`.
+// The number of what stands for a refusal in the Rust: a map that ends in an index entry or in a tile's head is its `Source`. By the numbers,
+// as the definition has it.
 fn rust_number(refusal: Refusal) -> u8
     ensures { result ≡ in_rust (number_of refusal) 1 (number_of refusal) }
 {
@@ -110,12 +112,5 @@ pub fn flag(b: bool) -> u64
 pub fn letter_of(kind: Kind) -> u64
     ensures { result ≡ letter_of kind }
 {
-    match kind {
-        Kind::Byte => 98,
-        Kind::Short => 104,
-        Kind::Int => 105,
-        Kind::Float => 102,
-        Kind::Text => 115,
-        Kind::Nothing => 0,
-    }
+    u64::from(tag::letter_of(kind))
 }

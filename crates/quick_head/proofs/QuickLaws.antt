@@ -2,10 +2,10 @@
 use Prim.Native.Nat.{ℕ, zero, suc, ◌+◌, ◌-◌, ◌*◌, ◌/◌, ◌%◌, ◌^◌, ◌<◌, ◌≤◌}
 use native.Mathlib.Nat.{mod-eq_of_lt}
 use native.Mathlib.Omega.{arith}
-use mathlib.Core.Path.{◌≡◌, refl, sym, ap, ◌∙◌, subst}
-use mathlib.Core.Bool.{Bool, true, false, not, cond, ◌&&◌}
+use mathlib.Core.Path.{◌≡◌, refl, sym, ap, ◌∙◌}
+use mathlib.Core.Bool.{Bool, true, false, cond, ◌&&◌}
 use mathlib.Core.List.{List, [], ◌∷◌, ◌++◌}
-use lib.Dec.{leb, eqb, lit<, lit≤}
+use lib.Dec.{eqb, lit<, lit≤}
 use lib.IntN.{ℤ}
 use lib.Signed.{mag}
 use mir.Syntax.{w8, w64}
@@ -14,7 +14,8 @@ use lib.ListN.{length, get_or, take, drop, set, drop_of_length-le, length-take}
 use lib.Seq.{drop-cons, get_or-take, length-take-le, take-append_seam}
 use native.Mathlib.Numerals.{add-one}
 use borrow.Author.Rules.{rules}
-use borrow.Author.Tests.{not-false, ne_eqb, lt-ltb, leb-true, le-leb}
+use borrow.Author.Tests.{ne_eqb, lt-ltb, le-leb}
+use Rattle.std.specs.Prelude.{Option, IfSome}
 use Rattle.parsing.specs.Parse.{Res, ok, no, map_res, and_then, many, Part, part, none, optional}
 use Rattle.parsing.specs.Good.{ok-val, ok_at, no_ok}
 use Rattle.parsing.proofs.Steps.{eqb_yes, eqb_no, byte-here}
@@ -33,11 +34,7 @@ use Rattle.format.specs.Tile.{Tagged, debug_signature, tag_id, kind_at, values, 
 use Rattle.tagged.proofs.LayerLaws.{layer-bits}
 use Rattle.utils.specs.Vbe.{groups, Noted, noted, values_of, all_plain, noted_unsigned}
 use Rattle.utils.proofs.VbeLaws.{above-none, loop-more, loop-last, unsigned-one}
-use Rattle.quick_head.specs.Quick.{IfKnown, Reads, whole, is_plain, are_plain, width_of, put, filled, ShownTags, tags_of, head_of, FrontIs}
-use Rattle.quick_head.specs.declared.QuickNumber.{QuickNumber}
-use Rattle.quick_head.specs.declared.QuickPlace.{QuickPlace}
-use Rattle.quick_head.specs.declared.QuickTags.{QuickTags}
-use Rattle.quick_head.specs.declared.QuickFront.{QuickFront}
+use Rattle.quick_head.specs.Quick.{Reads, whole, is_plain, are_plain, width_of, put, filled, ShownTags, tags_of, head_of, FrontIs}
 
 -- numbers
 module _ (m : List ℕ) (at a : ℕ) where
@@ -57,20 +54,8 @@ module _ (m : List ℕ) (at a : ℕ) where
       let j : at + 1 + 1 ≡ at + 2 = omega arith in
       record { same = rw (← groups-two 128 b (omega arith) e l q s, i, j, le-leb 128 (a % 128 + 128 * b) (omega arith)); inside = omega arith }
 
--- an answer that is known
-pub told : {A : Type 0} (t : Bool) → IfKnown t A → not t ≡ false → A
-told {A = A} t h e = subst (λ (b : Bool). IfKnown b A) (not-false t e) h
-
-pub if-known : {A B : Type 0} (t : Bool) → (A → B) → IfKnown t A → IfKnown t B
-if-known true f h = f h
-if-known false f h = tt
-
--- one that is not says nothing
-pub untold : (A : Type 0) (t : Bool) → t ≡ false → IfKnown t A
-untold A t e = subst (λ (b : Bool). IfKnown b A) (sym e) tt
-
-pub told-inside : {A B : Type 0} (view : A → B) (r : Res A) (n e : ℕ) (v : B) (t : Bool) → IfKnown t (Reads view r n v e) → not t ≡ false → e ≤ n
-told-inside view r n e v t h k = (told t h k).inside
+pub reads-inside : {A B : Type 0} (view : A → B) (r : Res A) (n e : ℕ) (v : B) → Reads view r n v e → e ≤ n
+reads-inside view r n e v h = h.inside
 
 pub whole_is : {A : Type 0} {v : A} {e : ℕ} (r : Res A) → map_res whole r ≡ ok v e → r ≡ ok v e
 whole_is (ok a x) h = h
@@ -94,12 +79,11 @@ part-is m at (suc n) h l = sym (part-here m at (suc n) (omega arith) h l)
 
 -- values
 module _ (m : List ℕ) (at : ℕ) where
-  pub sized-is : (g : QuickNumber) → IfKnown g.known (Reads whole (noted_unsigned m at) (length m) (noted g.value true) g.next) → not g.known ≡ false → g.value ≤ length m - g.next → Reads is_plain (sized m at) (length m) true (g.next + g.value)
+  pub sized-is : (v e : ℕ) → Reads whole (noted_unsigned m at) (length m) (noted v true) e → v ≤ length m - e → Reads is_plain (sized m at) (length m) true (e + v)
   unfolding sized
-  sized-is g h k l =
-      let r = told g.known h k in
+  sized-is v e r l =
       let i = r.inside in
-      record { same = rw (whole_is (noted_unsigned m at) r.same, part-is m g.next g.value i l); inside = omega arith }
+      record { same = rw (whole_is (noted_unsigned m at) r.same, part-is m e v i l); inside = omega arith }
 
   value-width : (l : ℕ) → (l ≡ 115 → ⊥) → value (kind_of l) ≡ fixed (width_of l)
   unfolding value
@@ -116,9 +100,9 @@ module _ (m : List ℕ) (at : ℕ) where
   unfolding value part
   value_none l e h = record { same = rw e; inside = h }
 
-  pub value-sized : (l : ℕ) (t : Bool) (e : ℕ) → l ≡ 115 → IfKnown t (Reads is_plain (sized m at) (length m) true e) → IfKnown t (Reads is_plain (value (kind_of l) m at) (length m) true e)
+  pub value-sized : (l : ℕ) (r : Option ℕ) → l ≡ 115 → IfSome r (λ e. Reads is_plain (sized m at) (length m) true e) → IfSome r (λ e. Reads is_plain (value (kind_of l) m at) (length m) true e)
   unfolding value
-  value-sized l t e q h = rw q h
+  value-sized l r q h = rw q h
 
   pub value-wide : (l n : ℕ) → (l ≡ 115 → ⊥) → n ≡ width_of l → at ≤ length m → n ≤ length m - at → Reads is_plain (value (kind_of l) m at) (length m) true (at + n)
   value-wide l n q w h b = record { same = rw (value-width l q, ← w, part-is m at n h b); inside = omega arith }
@@ -133,9 +117,9 @@ module _ (letters : List ℕ) (first tags : ℕ) where
 
 -- ids
 module _ (m : List ℕ) (tags i at n : ℕ) (lent l : List ℕ) where
-  id-is : (g : QuickNumber) → Reads whole (noted_unsigned m n) (length m) (noted g.value true) g.next → g.value < tags → map_res whole (tag_id tags m n) ≡ ok (noted g.value true) g.next
+  id-is : (v e : ℕ) → Reads whole (noted_unsigned m n) (length m) (noted v true) e → v < tags → map_res whole (tag_id tags m n) ≡ ok (noted v true) e
   unfolding tag_id
-  id-is g r h = rw (whole_is (noted_unsigned m n) r.same, lt-ltb g.value tags h)
+  id-is v e r h = rw (whole_is (noted_unsigned m n) r.same, lt-ltb v tags h)
 
   abbrev put_id : Noted (List ℕ) → ℕ → Noted ℕ → Noted (List ℕ)
   put_id l i v = noted (set l.value i v.value) (l.plain && v.plain)
@@ -146,9 +130,9 @@ module _ (m : List ℕ) (tags i at n : ℕ) (lent l : List ℕ) where
       let k = values_length xs in
       rw (values-snoc xs v, front-more (values_of xs) v.value lent (omega arith), k, plain-snoc xs v)
 
-  pub ids_more : (g : QuickNumber) (k : ℕ) → map_res (filled lent) (many (tag_id tags) i m at) ≡ ok (noted l true) n → IfKnown g.known (Reads whole (noted_unsigned m n) (length m) (noted g.value true) g.next) → not g.known ≡ false → g.value < tags → length lent ≡ 15 → k ≤ 15 → i < k → map_res (filled lent) (many (tag_id tags) (i + 1) m at) ≡ ok (noted (set l i g.value) true) g.next
-  ids_more g c h r k b d e f =
-      held_more (filled lent) whole put_id (length lent) grows (tag_id tags) m i at n (noted l true) g.next (noted g.value true) h (id-is g (told g.known r k) b) (omega arith)
+  pub ids_more : (v e k : ℕ) → map_res (filled lent) (many (tag_id tags) i m at) ≡ ok (noted l true) n → Reads whole (noted_unsigned m n) (length m) (noted v true) e → v < tags → length lent ≡ 15 → k ≤ 15 → i < k → map_res (filled lent) (many (tag_id tags) (i + 1) m at) ≡ ok (noted (set l i v) true) e
+  ids_more v e k h r b c d f =
+      held_more (filled lent) whole put_id (length lent) grows (tag_id tags) m i at n (noted l true) e (noted v true) h (id-is v e r b) (omega arith)
 
   pub ids-done : (k : ℕ) → map_res (filled lent) (many (tag_id tags) i m at) ≡ ok (noted l true) n → n ≤ length m → i ≤ k → k ≤ i → Reads (filled lent) (many (tag_id tags) k m at) (length m) (noted l true) n
   ids-done k h b c d = let e : i ≡ k = omega arith in record { same = rw e at h; inside = b }
@@ -167,14 +151,14 @@ module _ (K : List Kind) (m ids : List ℕ) (count i n : ℕ) (T : Res Bool) whe
       behind (ok l y) = rw p
       behind (no k y) = refl
 
-  pub values-more : (g : QuickPlace) (l : ℕ) → map_res are_plain (values K (drop i (take count ids)) m n) ≡ T → IfKnown g.known (Reads is_plain (value (kind_of l) m n) (length m) true g.next) → not g.known ≡ false → kind_of l ≡ kind_at K (get_or ids i 0) → i < count → count ≤ 15 → length ids ≡ 15 → map_res are_plain (values K (drop (i + 1) (take count ids)) m g.next) ≡ T
-  values-more g l h r k q b c d =
+  pub values-more : (e l : ℕ) → map_res are_plain (values K (drop i (take count ids)) m n) ≡ T → Reads is_plain (value (kind_of l) m n) (length m) true e → kind_of l ≡ kind_at K (get_or ids i 0) → i < count → count ≤ 15 → length ids ≡ 15 → map_res are_plain (values K (drop (i + 1) (take count ids)) m e) ≡ T
+  values-more e l h r q b c d =
       let len : length (take count ids) ≡ count = length-take-le count ids (omega arith) in
       let b' : i < length (take count ids) = omega arith in
       let here : get_or (take count ids) i 0 ≡ get_or ids i 0 = get_or-take count ids i 0 b in
-      let s = stored is_plain (value (kind_of l) m n) true g.next (told g.known r k).same in
-      let one : value (kind_at K (get_or (take count ids) i 0)) m n ≡ ok s.value g.next = rw (here, ← q) s.is in
-      rw add-one (sym (values-step g.next s.value (drop (suc i) (take count ids)) (get_or (take count ids) i 0) one s.shown) ∙ (rw (drop-cons (take count ids) i 0 b') at h))
+      let s = stored is_plain (value (kind_of l) m n) true e r.same in
+      let one : value (kind_at K (get_or (take count ids) i 0)) m n ≡ ok s.value e = rw (here, ← q) s.is in
+      rw add-one (sym (values-step e s.value (drop (suc i) (take count ids)) (get_or (take count ids) i 0) one s.shown) ∙ (rw (drop-cons (take count ids) i 0 b') at h))
 
 module _ (K : List Kind) (m ids : List ℕ) (count i at n : ℕ) where
   pub values-done : map_res are_plain (values K (drop i (take count ids)) m n) ≡ map_res are_plain (values K (take count ids) m at) → n ≤ length m → count ≤ i → Reads are_plain (values K (take count ids) m at) (length m) true n
@@ -184,16 +168,6 @@ module _ (K : List Kind) (m ids : List ℕ) (count i at n : ℕ) where
       record { same = sym (rw e at h); inside = b }
 
 -- layer and tags
-pub has_all : (first tags n : ℕ) → first ≤ n → IfKnown (leb tags (n - first)) (first + tags ≤ n)
-has_all first tags n h = go (leb tags (n - first)) refl
-  where
-    go : (t : Bool) → leb tags (n - first) ≡ t → IfKnown t (first + tags ≤ n)
-    go true e = omega (arith, leb-true tags (n - first) e)
-    go false e = tt
-
-pub told-all : (first tags n : ℕ) (t : Bool) → IfKnown t (first + tags ≤ n) → not t ≡ false → first + tags ≤ n
-told-all first tags n t h k = told t h k
-
 filled-front : (lent a l : List ℕ) (k : ℕ) → put lent a ≡ l → length a ≡ k → take k l ≡ a
 unfolding put
 filled-front lent a l k h c = rw (← h, ← c) (take-append_seam a (drop (length a) lent))
@@ -219,49 +193,43 @@ module _ (letters : List ℕ) (first tags : ℕ) (m lent l : List ℕ) where
   unfolding tagged
   tagged_is at s n e xs v h q i j = rw (byte-here m at h, ← q, length-kinds letters first tags, i, j)
 
-  pub tags-is : (a b : QuickPlace) (at s : ℕ) (y : ℤ) → at < length m → s ≡ get_or m at 0 → IfKnown a.known (Reads (filled lent) (many (tag_id tags) (s % 16) m (at + 1)) (length m) (noted l true) a.next) → not a.known ≡ false → IfKnown b.known (Reads are_plain (values K (take (s % 16) l) m a.next) (length m) true b.next) → not b.known ≡ false → y ≡ layer_of s → mag y < 2 ^ 7
-      → Reads (tags_of lent) (tagged K m at) (length m) (record { layer = to_z w8 (of_z w8 y); ids = l; count = s % 16; plain = true }) b.next
-  tags-is a b at s y h q i j k o w z =
-      let x = stored (filled lent) (many (tag_id tags) (s % 16) m (at + 1)) (noted l true) a.next (told a.known i j).same in
+  pub tags-is : (n e at s : ℕ) (y : ℤ) → at < length m → s ≡ get_or m at 0 → Reads (filled lent) (many (tag_id tags) (s % 16) m (at + 1)) (length m) (noted l true) n → Reads are_plain (values K (take (s % 16) l) m n) (length m) true e → y ≡ layer_of s → mag y < 2 ^ 7
+      → Reads (tags_of lent) (tagged K m at) (length m) (record { layer = to_z w8 (of_z w8 y); ids = l; count = s % 16; plain = true }) e
+  tags-is n e at s y h q i r w z =
+      let x = stored (filled lent) (many (tag_id tags) (s % 16) m (at + 1)) (noted l true) n i.same in
       let xs = x.value in
       let ids = filled-ids lent l xs x.shown in
-      let c = values_length xs ∙ many-count (tag_id tags) m (s % 16) (at + 1) xs a.next x.is in
-      let r = told b.known k o in
-      let g : map_res are_plain (values K (values_of xs) m a.next) ≡ ok true b.next = rw (filled-front lent (values_of xs) l (s % 16) ids c) at r.same in
-      let v = stored are_plain (values K (values_of xs) m a.next) true b.next g in
-      let t = tagged_is at s a.next b.next xs v.value h q x.is v.is in
-      record { same = ap (map_res (tags_of lent)) t ∙ same-tags _ _ _ _ _ _ _ _ b.next (sym (layer-bits y z ∙ w)) ids c (both-plain _ _ (filled-plain lent l xs x.shown) v.shown); inside = r.inside }
+      let c = values_length xs ∙ many-count (tag_id tags) m (s % 16) (at + 1) xs n x.is in
+      let g : map_res are_plain (values K (values_of xs) m n) ≡ ok true e = rw (filled-front lent (values_of xs) l (s % 16) ids c) at r.same in
+      let v = stored are_plain (values K (values_of xs) m n) true e g in
+      let t = tagged_is at s n e xs v.value h q x.is v.is in
+      record { same = ap (map_res (tags_of lent)) t ∙ same-tags _ _ _ _ _ _ _ _ e (sym (layer-bits y z ∙ w)) ids c (both-plain _ _ (filled-plain lent l xs x.shown) v.shown); inside = r.inside }
 
 -- a way's head
 module _ (m : List ℕ) (at : ℕ) where
-  pub front-is : (g : QuickNumber) (h l : ℕ) → IfKnown g.known (Reads whole (noted_unsigned m at) (length m) (noted g.value true) g.next) → not g.known ≡ false → 2 ≤ length m - g.next → h ≡ get_or m g.next 0 → h < 256 → l ≡ get_or m (g.next + 1) 0 → l < 256 → FrontIs m at g.value g.next (h * 256 + l)
-  front-is g h l i j k q b q' b' =
-      let r = told g.known i j in
-      let n = r.inside in
+  pub front-is : (v n h l : ℕ) → Reads whole (noted_unsigned m at) (length m) (noted v true) n → 2 ≤ length m - n → h ≡ get_or m n 0 → h < 256 → l ≡ get_or m (n + 1) 0 → l < 256 → FrontIs m at v n (h * 256 + l)
+  front-is v n h l r k q b q' b' =
+      let i = r.inside in
       let w : (h + l * 256) % 256 * 256 + (h + l * 256) / 256 ≡ h * 256 + l = omega arith in
       record {
         sized = whole_is (noted_unsigned m at) r.same;
-        mapped = sym (number-here 2 m g.next (h * 256 + l) (lit≤ tt) n k (rw w at (pair16 m g.next h l (omega arith) q b q' b')));
+        mapped = sym (number-here 2 m n (h * 256 + l) (lit≤ tt) i k (rw w at (pair16 m n h l (omega arith) q b q' b')));
         inside = omega arith;
       }
 
-  pub front-inside : (g : QuickFront) → IfKnown g.known (FrontIs m at g.size g.start g.bitmap) → not g.known ≡ false → g.start + 2 ≤ length m
-  front-inside g i j = (told g.known i j).inside
-
-  pub front_fits : (g : QuickFront) → IfKnown g.known (FrontIs m at g.size g.start g.bitmap) → not g.known ≡ false → length m < 2 ^ 64 → Fits w64 (g.start + 2)
-  front_fits g i j b = omega (arith, (told g.known i j).inside)
+  pub front_fits : (v n b : ℕ) → FrontIs m at v n b → length m < 2 ^ 64 → Fits w64 (n + 2)
+  front_fits v n b f k = omega (arith, f.inside)
 
   pub head-is : (K : List Kind) (size start bitmap e : ℕ) (t : Tagged) → FrontIs m at size start bitmap → tagged K m (start + 2) ≡ ok t e → head false K m at ≡ ok (record { signature = none; size = size; start = start; bitmap = bitmap; tagged = t; behind = e; plain = t.plain }) e
   unfolding head head_rest debug_signature optional
   head-is K size start bitmap e t f h = rw (f.sized, f.mapped, h)
 
-  pub quick-head-is : (K : List Kind) (lent l : List ℕ) (g : QuickFront) (t : QuickTags) (p : ℕ) → IfKnown g.known (FrontIs m at g.size g.start g.bitmap) → not g.known ≡ false → IfKnown t.known (Reads (tags_of lent) (tagged K m (g.start + 2)) (length m) (record { layer = t.layer; ids = l; count = t.count; plain = true }) t.next) → not t.known ≡ false → p ≡ cut (g.start + g.size) → mag t.layer < 2 ^ 7
-      → Reads (head_of lent) (head false K m at) (length m) (record { past = p; bitmap = g.bitmap; tags = record { layer = to_z w8 (of_z w8 t.layer); ids = l; count = t.count; plain = true }; plain = true }) t.next
-  quick-head-is K lent l g t p i j k o c z =
-      let r = told t.known k o in
-      let x = stored (tags_of lent) (tagged K m (g.start + 2)) (record { layer = t.layer; ids = l; count = t.count; plain = true }) t.next r.same in
-      let h = head-is K g.size g.start g.bitmap t.next x.value (told g.known i j) x.is in
+  pub quick-head-is : (K : List Kind) (lent l : List ℕ) (size start bitmap count e p : ℕ) (y : ℤ) → FrontIs m at size start bitmap → Reads (tags_of lent) (tagged K m (start + 2)) (length m) (record { layer = y; ids = l; count = count; plain = true }) e → p ≡ cut (start + size) → mag y < 2 ^ 7
+      → Reads (head_of lent) (head false K m at) (length m) (record { past = p; bitmap = bitmap; tags = record { layer = to_z w8 (of_z w8 y); ids = l; count = count; plain = true }; plain = true }) e
+  quick-head-is K lent l size start bitmap count e p y f r c z =
+      let x = stored (tags_of lent) (tagged K m (start + 2)) (record { layer = y; ids = l; count = count; plain = true }) e r.same in
+      let h = head-is K size start bitmap e x.value f x.is in
       let pl = ap (λ (s : ShownTags). s.plain) x.shown in
-      record { same = ap (map_res (head_of lent)) h ∙ rw (x.shown, pl, layer-bits t.layer z, c); inside = r.inside }
+      record { same = ap (map_res (head_of lent)) h ∙ rw (x.shown, pl, layer-bits y z, c); inside = r.inside }
 
-pub ruleset quicks = (rules, eqb_yes, eqb_no, untold, number-one, number-two, told-inside, sized-is, value_none, value-sized, value-wide, letter-there, letter-past, ids_more, ids-done, ids-none, values-more, values-done, has_all, tags-is, front-is, front-inside, front_fits, told-all, quick-head-is)
+pub ruleset quicks = (rules, eqb_yes, eqb_no, number-one, number-two, reads-inside, sized-is, value_none, value-sized, value-wide, letter-there, letter-past, ids_more, ids-done, ids-none, values-more, values-done, tags-is, front-is, front_fits, quick-head-is)

@@ -1,16 +1,11 @@
--- What the quick readers say: where they know an answer, it is what the format's parsers give, and every number of it was plain; else nothing.
-use Rattle.std.specs.Prelude.{ℕ, ◌+◌, ◌≤◌, Bool, true, false, cond, ◌≡◌, List, eqb, ℤ, length}
+-- What the quick readers say: where they have an answer, it is what the format's parsers give, and every number of it was plain; else nothing.
+use Rattle.std.specs.Prelude.{ℕ, ◌+◌, ◌≤◌, Bool, true, cond, ◌≡◌, List, eqb, ℤ, length}
 use Rattle.parsing.specs.Parse.{Res, ok, map_res, Part}
 use Rattle.byte_source.specs.BigEndian.{big_endian}
 use Rattle.utils.specs.Vbe.{Noted, noted, values_of, all_plain, noted_unsigned, signed_of}
 use Rattle.arithmetic.specs.Cut.{cut}
 use Rattle.format.specs.Lent.{front}
 use Rattle.format.specs.Tile.{Tagged, Head}
-use Rattle.quick_head.specs.declared.QuickCoordinate.{QuickCoordinate}
-
-abbrev pub IfKnown : Bool → Type 0 → Type 0
-IfKnown true A = A
-IfKnown false A = Unit {0}
 
 -- a read that succeeded within a map of n bytes, by a view of its value
 pub record Reads {A B : Type 0} (view : A → B) (r : Res A) (n : ℕ) (v : B) (e : ℕ) : Type 0 where
@@ -64,7 +59,7 @@ pub record FrontIs (m : List ℕ) (at size start bitmap : ℕ) : Type 0 where
   pub inside : start + 2 ≤ length m
 
 -- what the bytes of a signed number say
-pub record SignedIs (v sign : ℕ) (Plain : Type 0) (e : ℕ) (r : QuickCoordinate) : Type 0 where
+pub record SignedIs (v sign : ℕ) (Plain : Type 0) (e : ℕ) (z : ℤ) (next : ℕ) : Type 0 where
   pub plain : Plain
-  pub value : r.value ≡ signed_of v sign
-  pub next : r.next ≡ e
+  pub value : z ≡ signed_of v sign
+  pub behind : next ≡ e

@@ -1,9 +1,8 @@
 // A way up to its tag values, and a point's numbers and tags, read straight to the caller's array: where numbers have one or two bytes
-// (coordinates up to four) and are plain, and nothing is refused. Anything else is not known here, and is left to the general readers.
-// `known` stands beside the values, and no Option around them: this path is the hot one, and is left as it was measured.
+// (coordinates up to four) and are plain, and nothing is refused. Anything else is None here, and is left to the general readers.
 #![tactic(auto)]
 
-ghost use Rattle.std.specs.Prelude.{◌≡◌, true, false, ◌+◌, ◌-◌, ◌/◌, ◌%◌, ◌≤◌, ◌<◌, ◌^◌, length, take};
+ghost use Rattle.std.specs.Prelude.{◌≡◌, true, false, ◌+◌, ◌-◌, ◌/◌, ◌%◌, ◌≤◌, ◌<◌, ◌^◌, length, take, IfSome, IsTrue, ◌↔◌};
 ghost use Rattle.parsing.specs.Parse.{many};
 ghost use Rattle.utils.specs.Vbe.{noted, noted_unsigned, signed_of, noted_signed, noted_coordinate};
 ghost use Rattle.tag.specs.Tag.{kind_of};
@@ -11,108 +10,61 @@ ghost use Rattle.tag.specs.Value.{value, sized};
 ghost use Rattle.format.specs.TagLists.{kinds_in};
 ghost use Rattle.format.specs.WayData.{node};
 ghost use Rattle.format.specs.Tile.{tag_id, kind_at, values, tagged, head};
-ghost use Rattle.quick_head.specs.Quick.{IfKnown, Reads, whole, is_plain, are_plain, width_of, filled, tags_of, head_of, FrontIs, SignedIs};
+ghost use Rattle.quick_head.specs.Quick.{Reads, whole, is_plain, are_plain, width_of, filled, tags_of, head_of, FrontIs, SignedIs};
 
+use types::TagRange;
 use utils::Microdegrees;
 
-#[derive(Clone, Copy)]
-pub struct QuickNumber {
-    pub value: u64,
-    pub next: usize,
-    pub known: bool,
-}
-
-fn no_number() -> QuickNumber
-    ensures { result.known ≡ false }
-{
-    QuickNumber {
-        value: 0,
-        next: 0,
-        known: false,
-    }
-}
-
-fn wide(x: u8) -> u64
-    ensures { (result ≡ x) × (result < 256) }
-{
-    x as u64
-}
-
-// A plain number of one or two bytes; of two, the second is not 0.
-pub fn quick_number(map: &[u8], at: usize) -> QuickNumber
-    ensures { IfKnown result.known (Reads whole (noted_unsigned map.now at) (length map.now) (noted result.value true) result.next) }
+// A plain number of one or two bytes, and the place behind it; of two, the second is not 0.
+#[tactic(auto, using(crate::proofs::QuickLaws::quicks))]
+pub fn quick_number(map: &[u8], at: usize) -> Option<(u64, usize)>
+    ensures { IfSome result (λ r. Reads whole (noted_unsigned map.now at) (length map.now) (noted r.0 true) r.1) }
 {
     let len = map.len();
     if len <= at {
-        return no_number();
+        return None;
     }
-    let a = wide(map[at]);
+    let a = u64::from(map[at]);
     if a < 128 {
-        return QuickNumber {
-            value: a,
-            next: at + 1,
-            known: true,
-        };
+        return Some((a, at + 1));
     }
     if len - at < 2 {
-        return no_number();
+        return None;
     }
-    let b = wide(map[at + 1]);
+    let b = u64::from(map[at + 1]);
     if b < 1 || 128 <= b {
-        return no_number();
+        return None;
     }
-    QuickNumber {
-        value: a % 128 + 128 * b,
-        next: at + 2,
-        known: true,
-    }
+    Some((a % 128 + 128 * b, at + 2))
 }
 
-#[derive(Clone, Copy)]
-pub struct QuickPlace {
-    pub next: usize,
-    pub known: bool,
-}
-
-fn no_place() -> QuickPlace
-    ensures { result.known ≡ false }
-{
-    QuickPlace {
-        next: 0,
-        known: false,
-    }
-}
-
-// `count` ids of `tags` tags, to the front of `ids`.
-fn quick_ids(map: &[u8], at: usize, tags: usize, count: usize, ids: &mut [u64; 15]) -> QuickPlace
+// `count` ids of `tags` tags, to the front of `ids`, and the place behind them.
+fn quick_ids(map: &[u8], at: usize, tags: usize, count: usize, ids: &mut [u64; 15]) -> Option<usize>
     requires { (count ≤ 15) × (at ≤ length map.now) }
-    ensures { IfKnown result.known (Reads (filled ids.old) (many (tag_id tags) count map.now at) (length map.now) (noted ids.new true) result.next) }
+    ensures { IfSome result (λ e. Reads (filled ids.old) (many (tag_id tags) count map.now at) (length map.now) (noted ids.new true) e) }
 {
     let mut next = at;
     for i in 0..count {
-        let got = quick_number(map, next);
-        if !got.known {
-            return no_place();
-        }
-        let id = got.value;
+        let (id, behind) = quick_number(map, next)?;
         if tags as u64 <= id {
-            return no_place();
+            return None;
         }
         ids[i] = id;
-        next = got.next;
+        next = behind;
     }
-    QuickPlace { next, known: true }
+    Some(next)
 }
 
 // The letter of a tag; the letters of all `tags` tags are there.
-fn letter_at(letters: &[u8], first: usize, tags: usize, k: u64) -> u8
-    requires { first + tags ≤ length letters.now }
-    ensures { kind_of result ≡ kind_at (kinds_in letters.now first tags) k }
+#[tactic(auto, using(crate::proofs::QuickLaws::quicks))]
+fn letter_at(letters: &[u8], tags: TagRange, k: u64) -> u8
+    requires { tags.first + tags.count ≤ length letters.now }
+    ensures { kind_of result ≡ kind_at (kinds_in letters.now tags.first tags.count) k }
 {
-    if tags as u64 <= k {
+    if tags.count as u64 <= k {
         return 0;
     }
-    letters[first + k as usize]
+    letters[tags.first + k as usize]
 }
 
 // The bytes of a value of a letter that is no s.
@@ -128,46 +80,34 @@ fn width(letter: u8) -> usize
 }
 
 // The place behind a length and that many bytes.
-fn quick_sized(map: &[u8], at: usize) -> QuickPlace
-    ensures { IfKnown result.known (Reads is_plain (sized map.now at) (length map.now) true result.next) }
+fn quick_sized(map: &[u8], at: usize) -> Option<usize>
+    ensures { IfSome result (λ e. Reads is_plain (sized map.now at) (length map.now) true e) }
 {
-    let got = quick_number(map, at);
-    if !got.known {
-        return no_place();
-    }
-    let start = got.next;
-    let size = got.value as usize;
+    let (size, start) = quick_number(map, at)?;
+    let size = size as usize;
     if map.len() - start < size {
-        return no_place();
+        return None;
     }
-    QuickPlace {
-        next: start + size,
-        known: true,
-    }
+    Some(start + size)
 }
 
 // The place behind a value by its letter.
-fn quick_value(map: &[u8], at: usize, letter: u8) -> QuickPlace
+#[tactic(auto, using(crate::proofs::QuickLaws::quicks))]
+fn quick_value(map: &[u8], at: usize, letter: u8) -> Option<usize>
     requires { at ≤ length map.now }
-    ensures { IfKnown result.known (Reads is_plain (value (kind_of letter) map.now at) (length map.now) true result.next) }
+    ensures { IfSome result (λ e. Reads is_plain (value (kind_of letter) map.now at) (length map.now) true e) }
 {
     if letter == 0 {
-        return QuickPlace {
-            next: at,
-            known: true,
-        };
+        return Some(at);
     }
     if letter == b's' {
         return quick_sized(map, at);
     }
     let n = width(letter);
     if map.len() - at < n {
-        return no_place();
+        return None;
     }
-    QuickPlace {
-        next: at + n,
-        known: true,
-    }
+    Some(at + n)
 }
 
 // The place behind the values of the first `count` ids.
@@ -175,152 +115,85 @@ fn quick_values(
     map: &[u8],
     at: usize,
     letters: &[u8],
-    first: usize,
-    tags: usize,
+    tags: TagRange,
     ids: &[u64; 15],
     count: usize,
-) -> QuickPlace
-    requires { (count ≤ 15) × (at ≤ length map.now) × (first + tags ≤ length letters.now) }
-    ensures { IfKnown result.known (Reads are_plain (values (kinds_in letters.now first tags) (take count ids.now) map.now at) (length map.now) true result.next) }
+) -> Option<usize>
+    requires { (count ≤ 15) × (at ≤ length map.now) × (tags.first + tags.count ≤ length letters.now) }
+    ensures { IfSome result (λ e. Reads are_plain (values (kinds_in letters.now tags.first tags.count) (take count ids.now) map.now at) (length map.now) true e) }
 {
     let mut next = at;
     for i in 0..count {
-        let letter = letter_at(letters, first, tags, ids[i]);
-        let got = quick_value(map, next, letter);
-        if !got.known {
-            return no_place();
-        }
-        next = got.next;
+        let letter = letter_at(letters, tags, ids[i]);
+        next = quick_value(map, next, letter)?;
     }
-    QuickPlace { next, known: true }
+    Some(next)
 }
 
+// Whether the letters of all `tags` tags are there.
+pub fn has_all(letters: &[u8], tags: TagRange) -> bool
+    ensures { IsTrue result ↔ (tags.first + tags.count ≤ length letters.now) }
+{
+    tags.first <= letters.len() && tags.count <= letters.len() - tags.first
+}
+
+// A layer and the number of tags, and the place behind the tags' values.
 #[derive(Clone, Copy)]
 pub struct QuickTags {
     pub count: usize,
     pub next: usize,
     pub layer: i8,
-    pub known: bool,
 }
 
-pub fn no_tags() -> QuickTags
-    ensures { result.known ≡ false }
-{
-    QuickTags {
-        count: 0,
-        next: 0,
-        layer: 0,
-        known: false,
-    }
-}
-
-// A way's layer and tags, whose ids go to the front of `ids`. The letters of all `tags` tags are there.
-fn quick_tags(
+// A way's or a point's layer and tags, whose ids go to the front of `ids`. Inlined, since a call of it costs a feature a tenth of its time.
+#[inline(always)]
+pub fn quick_tags(
     map: &[u8],
     at: usize,
     letters: &[u8],
-    first: usize,
-    tags: usize,
+    tags: TagRange,
     ids: &mut [u64; 15],
-) -> QuickTags
-    requires { first + tags ≤ length letters.now }
-    ensures { IfKnown result.known (Reads (tags_of ids.old) (tagged (kinds_in letters.now first tags) map.now at) (length map.now) (record { layer = result.layer; ids = ids.new; count = result.count; plain = true }) result.next) }
+) -> Option<QuickTags>
+    ensures { IfSome result (λ t. Reads (tags_of ids.old) (tagged (kinds_in letters.now tags.first tags.count) map.now at) (length map.now) (record { layer = t.layer; ids = ids.new; count = t.count; plain = true }) t.next) }
 {
+    if !has_all(letters, tags) {
+        return None;
+    }
     if map.len() <= at {
-        return no_tags();
+        return None;
     }
     let special = map[at];
     let count = (special % 16) as usize;
-    let got = quick_ids(map, at + 1, tags, count, ids);
-    if !got.known {
-        return no_tags();
-    }
-    let behind = quick_values(map, got.next, letters, first, tags, ids, count);
-    if !behind.known {
-        return no_tags();
-    }
-    QuickTags {
+    let behind = quick_ids(map, at + 1, tags.count, count, ids)?;
+    let next = quick_values(map, behind, letters, tags, ids, count)?;
+    Some(QuickTags {
         count,
-        next: behind.next,
+        next,
         layer: tagged::layer_of(special),
-        known: true,
-    }
-}
-
-// The same for points: a function that is called at one place alone is inlined there.
-pub fn quick_point_tags(
-    map: &[u8],
-    at: usize,
-    letters: &[u8],
-    first: usize,
-    tags: usize,
-    ids: &mut [u64; 15],
-) -> QuickTags
-    ensures { IfKnown result.known (Reads (tags_of ids.old) (tagged (kinds_in letters.now first tags) map.now at) (length map.now) (record { layer = result.layer; ids = ids.new; count = result.count; plain = true }) result.next) }
-{
-    if !has_all(letters, first, tags) {
-        return no_tags();
-    }
-    if map.len() <= at {
-        return no_tags();
-    }
-    let special = map[at];
-    let count = (special % 16) as usize;
-    let got = quick_ids(map, at + 1, tags, count, ids);
-    if !got.known {
-        return no_tags();
-    }
-    let behind = quick_values(map, got.next, letters, first, tags, ids, count);
-    if !behind.known {
-        return no_tags();
-    }
-    QuickTags {
-        count,
-        next: behind.next,
-        layer: tagged::layer_of(special),
-        known: true,
-    }
+    })
 }
 
 // What stands in front of a way's tags.
 #[derive(Clone, Copy)]
-pub struct QuickFront {
-    pub size: u64,
-    pub start: usize,
-    pub bitmap: u16,
-    pub known: bool,
+struct QuickFront {
+    size: u64,
+    start: usize,
+    bitmap: u16,
 }
 
-fn no_front() -> QuickFront
-    ensures { result.known ≡ false }
+fn quick_front(map: &[u8], at: usize) -> Option<QuickFront>
+    ensures { IfSome result (λ f. FrontIs map.now at f.size f.start f.bitmap) }
 {
-    QuickFront {
-        size: 0,
-        start: 0,
-        bitmap: 0,
-        known: false,
-    }
-}
-
-fn quick_front(map: &[u8], at: usize) -> QuickFront
-    ensures { IfKnown result.known (FrontIs map.now at result.size result.start result.bitmap) }
-{
-    let got = quick_number(map, at);
-    if !got.known {
-        return no_front();
-    }
-    let start = got.next;
+    let (size, start) = quick_number(map, at)?;
     if map.len() - start < 2 {
-        return no_front();
+        return None;
     }
-    let high = wide(map[start]);
-    let low = wide(map[start + 1]);
-    QuickFront {
-        size: got.value,
+    let bitmap = u16::from(map[start]) * 256 + u16::from(map[start + 1]);
+    Some(QuickFront {
+        size,
         start,
-        bitmap: (high * 256 + low) as u16,
-        known: true,
-    }
+        bitmap,
+    })
 }
 
 // A way up to its tag values: its bitmap, layer and number of tags, where declining it goes and where its body starts.
@@ -331,27 +204,6 @@ pub struct QuickHead {
     pub count: usize,
     pub bitmap: u16,
     pub layer: i8,
-    pub known: bool,
-}
-
-pub fn no_head() -> QuickHead
-    ensures { result.known ≡ false }
-{
-    QuickHead {
-        past: 0,
-        body: 0,
-        count: 0,
-        bitmap: 0,
-        layer: 0,
-        known: false,
-    }
-}
-
-// Whether the letters of all `tags` tags are there.
-pub fn has_all(letters: &[u8], first: usize, tags: usize) -> bool
-    ensures { IfKnown result (first + tags ≤ length letters.now) }
-{
-    first <= letters.len() && tags <= letters.len() - first
 }
 
 // In a map that is no debug map. The tags' ids go to the front of `ids`.
@@ -359,34 +211,24 @@ pub fn quick_head(
     map: &[u8],
     at: usize,
     letters: &[u8],
-    first: usize,
-    tags: usize,
+    tags: TagRange,
     ids: &mut [u64; 15],
-) -> QuickHead
-    ensures { IfKnown result.known (Reads (head_of ids.old) (head false (kinds_in letters.now first tags) map.now at) (length map.now) (record { past = result.past; bitmap = result.bitmap; tags = record { layer = result.layer; ids = ids.new; count = result.count; plain = true }; plain = true }) result.body) }
+) -> Option<QuickHead>
+    ensures { IfSome result (λ h. Reads (head_of ids.old) (head false (kinds_in letters.now tags.first tags.count) map.now at) (length map.now) (record { past = h.past; bitmap = h.bitmap; tags = record { layer = h.layer; ids = ids.new; count = h.count; plain = true }; plain = true }) h.body) }
 {
-    if !has_all(letters, first, tags) {
-        return no_head();
-    }
-    let front = quick_front(map, at);
-    if !front.known {
-        return no_head();
-    }
-    let got = quick_tags(map, front.start + 2, letters, first, tags, ids);
-    if !got.known {
-        return no_head();
-    }
-    QuickHead {
+    let front = quick_front(map, at)?;
+    let got = quick_tags(map, front.start + 2, letters, tags, ids)?;
+    Some(QuickHead {
         past: arithmetic::saturating_add_usize(front.start, front.size as usize),
         body: got.next,
         count: got.count,
         bitmap: front.bitmap,
         layer: got.layer,
-        known: true,
-    }
+    })
 }
 
 // The number of this magnitude, negative unless `sign` is 0.
+// `utils` and `way_data` have it too: it needs its `requires`, and so it cannot be a public function of one of them.
 fn signed_of(v: u64, sign: u64) -> i64
     requires { v < 2 ^ 63 }
     ensures { result ≡ signed_of v sign }
@@ -398,67 +240,42 @@ fn signed_of(v: u64, sign: u64) -> i64
     -magnitude
 }
 
-#[derive(Clone, Copy)]
-pub struct QuickCoordinate {
-    pub value: i64,
-    pub next: usize,
-    pub known: bool,
-}
-
-fn no_coordinate() -> QuickCoordinate
-    ensures { result.known ≡ false }
-{
-    QuickCoordinate {
-        value: 0,
-        next: 0,
-        known: false,
-    }
-}
-
 // A number of one byte; minus zero is not plain.
-fn quick_one(a: u64, at: usize) -> QuickCoordinate
+fn quick_one(a: u64, at: usize) -> Option<(i64, usize)>
     requires { at < 2 ^ 64 - 1 }
-    ensures { IfKnown result.known (SignedIs (a % 64) (a / 64) (a ≡ 64 → ⊥) (at + 1) result) }
+    ensures { IfSome result (λ r. SignedIs (a % 64) (a / 64) (a ≡ 64 → ⊥) (at + 1) r.0 r.1) }
 {
     if a == 64 {
-        return no_coordinate();
+        return None;
     }
-    QuickCoordinate {
-        value: signed_of(a % 64, a / 64),
-        next: at + 1,
-        known: true,
-    }
+    Some((signed_of(a % 64, a / 64), at + 1))
 }
 
 // A number of several bytes, if it is at least `least`.
-fn quick_last(v: u64, sign: u64, least: u64, next: usize) -> QuickCoordinate
+fn quick_last(v: u64, sign: u64, least: u64, next: usize) -> Option<(i64, usize)>
     requires { v < 2 ^ 63 }
-    ensures { IfKnown result.known (SignedIs v sign (least ≤ v) next result) }
+    ensures { IfSome result (λ r. SignedIs v sign (least ≤ v) next r.0 r.1) }
 {
     if v < least {
-        return no_coordinate();
+        return None;
     }
-    QuickCoordinate {
-        value: signed_of(v, sign),
-        next,
-        known: true,
-    }
+    Some((signed_of(v, sign), next))
 }
 
 // A plain coordinate of at most four bytes, where four are there. Of n bytes it is plain if it is at least half of 128 ^ (n - 1).
-fn quick_coordinate(map: &[u8], at: usize) -> QuickCoordinate
+fn quick_coordinate(map: &[u8], at: usize) -> Option<(i64, usize)>
     requires { at + 4 ≤ length map.now }
-    ensures { IfKnown result.known (Reads whole (noted_coordinate map.now at) (length map.now) (noted result.value true) result.next) }
+    ensures { IfSome result (λ r. Reads whole (noted_coordinate map.now at) (length map.now) (noted r.0 true) r.1) }
 {
-    let a = wide(map[at]);
+    let a = u64::from(map[at]);
     if a < 128 {
         return quick_one(a, at);
     }
-    let b = wide(map[at + 1]);
+    let b = u64::from(map[at + 1]);
     if b < 128 {
         return quick_last(a % 128 + 128 * (b % 64), b / 64, 64, at + 2);
     }
-    let c = wide(map[at + 2]);
+    let c = u64::from(map[at + 2]);
     if c < 128 {
         return quick_last(
             a % 128 + 128 * (b % 128) + 16384 * (c % 64),
@@ -467,7 +284,7 @@ fn quick_coordinate(map: &[u8], at: usize) -> QuickCoordinate
             at + 3,
         );
     }
-    let d = wide(map[at + 3]);
+    let d = u64::from(map[at + 3]);
     if d < 128 {
         return quick_last(
             a % 128 + 128 * (b % 128) + 16384 * (c % 128) + 2097152 * (d % 64),
@@ -476,74 +293,55 @@ fn quick_coordinate(map: &[u8], at: usize) -> QuickCoordinate
             at + 4,
         );
     }
-    no_coordinate()
+    None
 }
 
+// A position, and the place behind it.
 #[derive(Clone, Copy)]
 pub struct QuickNode {
     pub latitude: Microdegrees,
     pub longitude: Microdegrees,
     pub next: usize,
-    pub known: bool,
-}
-
-pub fn no_node() -> QuickNode
-    ensures { result.known ≡ false }
-{
-    QuickNode {
-        latitude: Microdegrees(0),
-        longitude: Microdegrees(0),
-        next: 0,
-        known: false,
-    }
 }
 
 // Two plain coordinates of at most four bytes each, where eight are there.
-pub fn quick_node(map: &[u8], at: usize) -> QuickNode
-    ensures { IfKnown result.known (Reads whole (node map.now at) (length map.now) (noted (record { latitude = result.latitude.0; longitude = result.longitude.0 }) true) result.next) }
+pub fn quick_node(map: &[u8], at: usize) -> Option<QuickNode>
+    ensures { IfSome result (λ n. Reads whole (node map.now at) (length map.now) (noted (record { latitude = n.latitude.0; longitude = n.longitude.0 }) true) n.next) }
 {
     let len = map.len();
     if len < at || len - at < 8 {
-        return no_node();
+        return None;
     }
-    let y = quick_coordinate(map, at);
-    if !y.known {
-        return no_node();
-    }
-    let then = y.next;
+    let (y, then) = quick_coordinate(map, at)?;
     if len - then < 4 {
-        return no_node();
+        return None;
     }
-    let x = quick_coordinate(map, then);
-    if !x.known {
-        return no_node();
-    }
-    QuickNode {
-        latitude: Microdegrees(y.value),
-        longitude: Microdegrees(x.value),
-        next: x.next,
-        known: true,
-    }
+    let (x, next) = quick_coordinate(map, then)?;
+    Some(QuickNode {
+        latitude: Microdegrees(y),
+        longitude: Microdegrees(x),
+        next,
+    })
 }
 
 // A plain signed number of one or two bytes.
-pub fn quick_signed(map: &[u8], at: usize) -> QuickCoordinate
-    ensures { IfKnown result.known (Reads whole (noted_signed map.now at) (length map.now) (noted result.value true) result.next) }
+pub fn quick_signed(map: &[u8], at: usize) -> Option<(i64, usize)>
+    ensures { IfSome result (λ r. Reads whole (noted_signed map.now at) (length map.now) (noted r.0 true) r.1) }
 {
     let len = map.len();
     if len <= at {
-        return no_coordinate();
+        return None;
     }
-    let a = wide(map[at]);
+    let a = u64::from(map[at]);
     if a < 128 {
         return quick_one(a, at);
     }
     if len - at < 2 {
-        return no_coordinate();
+        return None;
     }
-    let b = wide(map[at + 1]);
+    let b = u64::from(map[at + 1]);
     if b < 128 {
         return quick_last(a % 128 + 128 * (b % 64), b / 64, 64, at + 2);
     }
-    no_coordinate()
+    None
 }

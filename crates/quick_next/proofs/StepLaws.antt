@@ -1,27 +1,24 @@
 -- A head or a point that a quick read gave is the answer of the stream's next.
 use Prim.Native.Nat.{ℕ, ◌+◌, ◌-◌, ◌^◌, ◌≤◌, ◌<◌}
 use mathlib.Core.Path.{◌≡◌, refl, sym, ap, ◌∙◌}
-use mathlib.Core.Bool.{Bool, true, false, not, cond, ◌&&◌}
+use mathlib.Core.Bool.{Bool, true, false, not, ◌&&◌}
 use mathlib.Core.List.{List}
 use lib.Dec.{ltb}
 use lib.IntN.{ℤ}
 use lib.ListN.{length, replicate}
 use lib.Signed.{mag}
-use mir.Syntax.{w8, w32, w64}
+use mir.Syntax.{w8}
 use mir.Val.{to_z, of_z}
-use mir.Facts.{to_z-of_z}
 use borrow.Author.Rules.{rules}
-use borrow.Author.Tests.{not-true, not-false, lt-ltb, le-ltb}
-use Rattle.std.specs.Prelude.{Option, Some, None}
-use Rattle.byte_source.specs.declared.Span.{Span}
+use borrow.Author.Tests.{lt-ltb, le-ltb}
+use Rattle.std.specs.Prelude.{None, option_map}
 use Rattle.parsing.specs.Parse.{ok, Part, Maybe, none, some}
 use Rattle.arithmetic.specs.Cut.{cut}
 use Rattle.tag.specs.declared.Kind.{Kind}
 use Rattle.format.specs.Tile.{Point, Head, point, head}
 use Rattle.format.specs.Elevation.{low32}
 use Rattle.format.specs.Streamed.{streamed_maybe}
-use Rattle.types.specs.Types.{optional_span, position_of, node_position}
-use Rattle.types.specs.declared.Position.{Position}
+use Rattle.types.specs.Types.{optional_span, node_position}
 use Rattle.types.proofs.NotedLaws.{and-true}
 use Rattle.tagged.specs.TagIds.{filled_ids}
 use Rattle.tagged.proofs.LayerLaws.{layer-bits}
@@ -39,21 +36,16 @@ use Rattle.visit.specs.declared.Remaining.{Remaining}
 use Rattle.visit.specs.declared.WaitingWay.{WaitingWay}
 use Rattle.visit.specs.declared.Stream.{Stream}
 use Rattle.visit.specs.declared.Turn.TheVariants as turn
-use Rattle.quick_head.specs.Quick.{IfKnown, Reads, put, ShownHead, head_of}
+use Rattle.quick_head.specs.Quick.{Reads, put, ShownHead, head_of}
 use Rattle.quick_head.specs.declared.QuickHead.{QuickHead}
-use Rattle.quick_head.proofs.QuickLaws.{told, untold, stored}
-use Rattle.quick_point.specs.QuickPoint.{ShownText, shown_text, ShownElevation, shown_elevation, ShownPoint, point_of, point_in}
-use Rattle.quick_point.specs.declared.QuickText.{QuickText}
-use Rattle.quick_point.specs.declared.QuickElevation.{QuickElevation}
+use Rattle.quick_head.proofs.QuickLaws.{stored}
+use Rattle.quick_point.specs.QuickPoint.{shown_text, shown_elevation, ShownPoint, point_of, point_in}
 use Rattle.quick_point.specs.declared.QuickPoint.{QuickPoint}
-use Rattle.quick_next.specs.QuickNext.{is_quick, way_step, point_step, span_in, elevation_in, given_point}
+use Rattle.quick_next.specs.QuickNext.{is_quick, way_step, point_step, given_point}
 use Rattle.quick_next.specs.declared.PointStep.{PointStep}
 
 abbrev Shown : Type 0
 Shown = Step ShownAnswer TileState
-
-pub zeros-long : (l : List ℕ) → l ≡ replicate 15 0 → length l ≡ 15
-zeros-long l e = rw e
 
 -- whether to try
 module _ (l : TileLayout) (s : Stream) where
@@ -95,10 +87,10 @@ module _ (debug : Bool) (K K' : List Kind) (m : List ℕ) (s : Stream) (q : Rema
   unfolding filled_ids put
   head-shown a z = refl
 
-  pub way-is : (lent : List ℕ) → s.turn ≡ turn.Idle q → debug ≡ false → q.points ≤ 0 → 1 ≤ q.ways → lent ≡ replicate 15 0 → IfKnown h.known (Reads (head_of lent) (head false K' m q.way) (length m) (handed h ids) h.body) → not h.known ≡ false → mag h.layer < 2 ^ 7
-      → next_step (way_step (record { stream = record { turn = turn.Waits (record { ways = q.ways - 1; past = h.past; body = h.body; head_plain = true }); end = s.end }; count = h.count; bitmap = h.bitmap; layer = to_z w8 (of_z w8 h.layer); known = true }) ids) ≡ step
-  way-is lent e d i o w r k b =
-      let x = stored (head_of (replicate 15 0)) (head false K' m q.way) (handed h ids) h.body (told h.known (rw w at r) k).same in
+  pub way-is : (lent : List ℕ) → s.turn ≡ turn.Idle q → debug ≡ false → q.points ≤ 0 → 1 ≤ q.ways → lent ≡ replicate 15 0 → Reads (head_of lent) (head false K' m q.way) (length m) (handed h ids) h.body → mag h.layer < 2 ^ 7
+      → next_step (way_step (record { stream = record { turn = turn.Waits (record { ways = q.ways - 1; past = h.past; body = h.body; head_plain = true }); end = s.end }; count = h.count; bitmap = h.bitmap; layer = to_z w8 (of_z w8 h.layer) }) ids) ≡ step
+  way-is lent e d i o w r b =
+      let x = stored (head_of (replicate 15 0)) (head false K' m q.way) (handed h ids) h.body (rw w at r).same in
       let a = x.value in
       let is : head debug K' m q.way ≡ ok a h.body = rw d x.is in
       let z = s.end in
@@ -110,32 +102,24 @@ module _ (debug : Bool) (K K' : List Kind) (m : List ℕ) (s : Stream) (q : Rema
       ∙ ap (λ (y : ShownHead). way y (end_of z)) x.shown) in
       rw (layer-bits h.layer b) (sym same)
 
-pub ruleset ways = (rules, zeros-long, untold, way-is)
-
 -- a point, by what is shown of it
-abbrev span_by : ShownText → Option Span
-span_by t = cond t.present (Some (record { start = t.start; size = t.size })) None
-
-abbrev elevation_by : ShownElevation → Option ℤ
-elevation_by e = cond e.present (Some (low32 e.value)) None
-
 abbrev poi_by : ShownPoint → Poi
 poi_by p = record {
   signature = None;
   position = node_position p.position;
   layer = p.tags.layer;
   tag_ids = record { ids = p.tags.ids; count = p.tags.count };
-  name = span_by p.fields.name;
-  house_number = span_by p.fields.house;
-  elevation = elevation_by p.fields.elevation;
+  name = p.fields.name;
+  house_number = p.fields.house;
+  elevation = option_map low32 p.fields.elevation;
   plain = p.plain;
 }
 
-span-by : (n : Maybe Part) → optional_span (streamed_maybe n) ≡ span_by (shown_text n)
+span-by : (n : Maybe Part) → optional_span (streamed_maybe n) ≡ shown_text n
 span-by none = refl
 span-by (some p) = refl
 
-elevation-by : (e : Maybe ℤ) → optional_elevation e ≡ elevation_by (shown_elevation e)
+elevation-by : (e : Maybe ℤ) → optional_elevation e ≡ option_map low32 (shown_elevation e)
 elevation-by none = refl
 elevation-by (some z) = refl
 
@@ -143,28 +127,9 @@ point-by : (a : Point) → shown_point a ≡ poi_by (point_of (replicate 15 0) a
 unfolding filled_ids put
 point-by a = rw (span-by a.name, span-by a.house_number, elevation-by a.elevation) refl
 
--- as the code makes them
-pub span_none : (t : QuickText) → not t.present ≡ true → None ≡ span_in t
-span_none t e = rw (not-true t.present e)
-
-pub span-some : (t : QuickText) → not t.present ≡ false → Some (record { start = t.start; size = t.size }) ≡ span_in t
-span-some t e = rw (not-false t.present e)
-
-pub elevation-none : (e : QuickElevation) → not e.present ≡ true → None ≡ elevation_in e
-elevation-none e h = rw (not-true e.present h)
-
-pub elevation-some : (e : QuickElevation) (v : ℤ) → not e.present ≡ false → v ≡ low32 (to_z w64 (of_z w64 e.value)) → mag e.value < 2 ^ 63 → mag v < 2 ^ 31 → Some (to_z w32 (of_z w32 v)) ≡ elevation_in e
-elevation-some e v h k n m = rw (not-false e.present h, to_z-of_z {w = w32} {z = v} (record { sfits = m }), k, to_z-of_z {w = w64} {z = e.value} (record { sfits = n }))
-
-pub point-made : (p : QuickPoint) (s : Stream) (x : Position) (n h : Option Span) (e : Option ℤ) → x ≡ position_of p.node.latitude.0 p.node.longitude.0 → n ≡ span_in p.fields.name → h ≡ span_in p.fields.house → e ≡ elevation_in p.fields.elevation → mag p.tags.layer < 2 ^ 7
-    → record { «stream» = s; position = x; name = n; house_number = h; elevation = e; count = p.tags.count; layer = to_z w8 (of_z w8 p.tags.layer); known = true } ≡ given_point p s
-point-made p s x n h e a b c d f = rw (a, b, c, d, layer-bits p.tags.layer f)
-
-pub ruleset shows = (rules, span_none, span-some, elevation-none, elevation-some, point-made)
-
 module _ (debug : Bool) (K K' : List Kind) (m : List ℕ) (s : Stream) (q : Remaining) (g : QuickPoint) (ids : List ℕ) where
   abbrev behind : ℕ
-  behind = g.fields.elevation.next
+  behind = g.fields.next
 
   abbrev left : Stream
   left = record { turn = turn.Idle (record { points = q.points - 1; ways = q.ways; at = behind; way = q.way }); end = s.end }
@@ -172,10 +137,10 @@ module _ (debug : Bool) (K K' : List Kind) (m : List ℕ) (s : Stream) (q : Rema
   abbrev given : ShownPoint → tile.TileEnd → Shown
   given x z = plain (got_point (poi_by x)) (idle (q.points - 1) q.ways behind q.way z)
 
-  pub point-is : (lent : List ℕ) (p : PointStep) → s.turn ≡ turn.Idle q → debug ≡ false → 1 ≤ q.points → lent ≡ replicate 15 0 → IfKnown g.known (Reads (point_of lent) (point false K m q.at) (length m) (point_in g ids) behind) → not g.known ≡ false → p ≡ given_point g left
-      → IfKnown p.known (next_step (point_step p ids) ≡ shown_step (on_next (tile_format debug K K') m (state_of s)))
-  point-is lent p e d o w r k v =
-      let x = stored (point_of (replicate 15 0)) (point false K m q.at) (point_in g ids) behind (told g.known (rw w at r) k).same in
+  pub point-is : (lent : List ℕ) (p : PointStep) → s.turn ≡ turn.Idle q → debug ≡ false → 1 ≤ q.points → lent ≡ replicate 15 0 → Reads (point_of lent) (point false K m q.at) (length m) (point_in g ids) behind → p ≡ given_point g left
+      → next_step (point_step p ids) ≡ shown_step (on_next (tile_format debug K K') m (state_of s))
+  point-is lent p e d o w r v =
+      let x = stored (point_of (replicate 15 0)) (point false K m q.at) (point_in g ids) behind (rw w at r).same in
       let a = x.value in
       let is : point debug K m q.at ≡ ok a behind = rw d x.is in
       let z = s.end in
@@ -186,5 +151,3 @@ module _ (debug : Bool) (K K' : List Kind) (m : List ℕ) (s : Stream) (q : Rema
       ∙ ap (λ (y : tile.TileEnd). given (point_of (replicate 15 0) a) y) (same_end z a.plain pl)
       ∙ ap (λ (y : ShownPoint). given y (end_of z)) x.shown) in
       rw v (sym same)
-
-pub ruleset points = (rules, zeros-long, untold, point-is)

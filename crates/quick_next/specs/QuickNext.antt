@@ -1,5 +1,5 @@
 -- What a quick read hands out, as an answer of the stream's next.
-use Rattle.std.specs.Prelude.{ℕ, Bool, true, false, not, cond, ◌&&◌, List, ltb, ℤ, Option, Some, None, Ok}
+use Rattle.std.specs.Prelude.{ℕ, Bool, true, false, not, cond, ◌&&◌, List, ltb, None, Ok, option_map}
 use Rattle.format.specs.Elevation.{low32}
 use Rattle.types.specs.Types.{position_of}
 use Rattle.tile_layout.specs.declared.TileLayout.{TileLayout}
@@ -8,9 +8,6 @@ use Rattle.visit.specs.declared.Turn.TheVariants as turn
 use Rattle.visit.specs.declared.Stream.{Stream}
 use Rattle.visit.specs.Visit.{NextStep}
 use Rattle.visit.specs.declared.Given.TheVariants as given
-use Rattle.byte_source.specs.declared.Span.{Span}
-use Rattle.quick_point.specs.declared.QuickText.{QuickText}
-use Rattle.quick_point.specs.declared.QuickElevation.{QuickElevation}
 use Rattle.quick_point.specs.declared.QuickPoint.{QuickPoint}
 use Rattle.quick_next.specs.declared.WayStep.{WayStep}
 use Rattle.quick_next.specs.declared.PointStep.{PointStep}
@@ -46,20 +43,13 @@ point_step r ids = record {
 }
 
 -- a point that was read
-abbrev pub span_in : QuickText → Option Span
-span_in t = cond t.present (Some (record { start = t.start; size = t.size })) None
-
-abbrev pub elevation_in : QuickElevation → Option ℤ
-elevation_in e = cond e.present (Some (low32 e.value)) None
-
 abbrev pub given_point : QuickPoint → Stream → PointStep
 given_point p s = record {
   «stream» = s;
   position = position_of p.node.latitude.0 p.node.longitude.0;
-  name = span_in p.fields.name;
-  house_number = span_in p.fields.house;
-  elevation = elevation_in p.fields.elevation;
+  name = p.fields.name;
+  house_number = p.fields.house;
+  elevation = option_map low32 p.fields.elevation;
   count = p.tags.count;
   layer = p.tags.layer;
-  known = true;
 }

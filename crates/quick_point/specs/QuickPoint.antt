@@ -1,51 +1,35 @@
 -- A point as a quick read hands it out: its position in microdegrees, its tags, and the fields that its flags announce, as streamed. All of its
 -- numbers were plain.
-use Rattle.std.specs.Prelude.{ℕ, Bool, true, false, cond, List, ℤ, pos}
+use Rattle.std.specs.Prelude.{ℕ, Bool, true, cond, List, ℤ, Option, Some, None}
 use Rattle.parsing.specs.Parse.{Part, Maybe, none, some}
+use Rattle.byte_source.specs.declared.Span.{Span}
 use Rattle.utils.specs.Vbe.{Noted, noted}
 use Rattle.text.specs.Utf8.{valid}
 use Rattle.format.specs.WayData.{Node}
 use Rattle.format.specs.Tile.{maybe_value, maybe_plain, PointFields, Point}
 use Rattle.quick_head.specs.Quick.{ShownTags, tags_of}
-use Rattle.quick_point.specs.declared.QuickText.{QuickText}
-use Rattle.quick_point.specs.declared.QuickElevation.{QuickElevation}
 use Rattle.quick_point.specs.declared.QuickFields.{QuickFields}
 use Rattle.quick_point.specs.declared.QuickPoint.{QuickPoint}
 
-pub record ShownText : Type 0 where
-  pub present : Bool
-  pub start : ℕ
-  pub size : ℕ
-
 -- a text that is not valid UTF-8 is empty
-abbrev pub shown_text : Maybe Part → ShownText
-shown_text none = record { present = false; start = 0; size = 0 }
-shown_text (some p) = record { present = true; start = p.start; size = cond (valid p.bytes) p.size 0 }
+abbrev pub shown_text : Maybe Part → Option Span
+shown_text none = None
+shown_text (some p) = Some (record { start = p.start; size = cond (valid p.bytes) p.size 0 })
 
-abbrev pub text_of : Maybe (Noted Part) → Noted ShownText
+abbrev pub text_of : Maybe (Noted Part) → Noted (Option Span)
 text_of t = noted (shown_text (maybe_value t)) (maybe_plain t)
 
-abbrev pub text_in : QuickText → ShownText
-text_in t = record { present = t.present; start = t.start; size = t.size }
+abbrev pub shown_elevation : Maybe ℤ → Option ℤ
+shown_elevation none = None
+shown_elevation (some z) = Some z
 
-pub record ShownElevation : Type 0 where
-  pub present : Bool
-  pub value : ℤ
-
-abbrev pub shown_elevation : Maybe ℤ → ShownElevation
-shown_elevation none = record { present = false; value = pos 0 }
-shown_elevation (some z) = record { present = true; value = z }
-
-abbrev pub elevation_of : Maybe (Noted ℤ) → Noted ShownElevation
+abbrev pub elevation_of : Maybe (Noted ℤ) → Noted (Option ℤ)
 elevation_of e = noted (shown_elevation (maybe_value e)) (maybe_plain e)
 
-abbrev pub elevation_in : QuickElevation → ShownElevation
-elevation_in e = record { present = e.present; value = e.value }
-
 pub record ShownFields : Type 0 where
-  pub name : ShownText
-  pub house : ShownText
-  pub elevation : ShownElevation
+  pub name : Option Span
+  pub house : Option Span
+  pub elevation : Option ℤ
 
 abbrev pub shown_fields : Maybe Part → Maybe Part → Maybe ℤ → ShownFields
 shown_fields n h e = record { name = shown_text n; house = shown_text h; elevation = shown_elevation e }
@@ -54,7 +38,7 @@ abbrev pub fields_of : PointFields → Noted ShownFields
 fields_of f = noted (shown_fields f.name f.house_number f.elevation) f.plain
 
 abbrev pub fields_in : QuickFields → ShownFields
-fields_in f = record { name = text_in f.name; house = text_in f.house; elevation = elevation_in f.elevation }
+fields_in f = record { name = f.name; house = f.house; elevation = f.elevation }
 
 pub record ShownPoint : Type 0 where
   pub position : Node

@@ -56,6 +56,8 @@ pub fn seek_to<'s, 'a>(r: &'s mut Reader<'a>, at: usize)
     r.at = at;
 }
 
+// Each read is a method of the Rust's ByteSource under its name: a call and a step. Only the call differs, and what its contract says: one
+// function for all would take the read with its view and parser, and each of these would stay to give it.
 pub fn read_u8<'s, 'a>(r: &'s mut Reader<'a>) -> Read<u8>
     ensures { (read_res result ≡ read_at byte r.old) × (r.new ≡ moved_to r.old (next_of r.old.at result)) }
 {

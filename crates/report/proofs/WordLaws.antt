@@ -1,6 +1,6 @@
 -- Laws of words and digests.
-use Rattle.std.proofs.Common.{◌≡◌, ℕ, zero, suc, ◌+◌, ◌-◌, ◌%◌, ◌^◌, ◌<◌, ◌≤◌, min, true, false, not, T, List, length, get_or, drop, set, ℤ, pos, negsuc, ◌-ℤ◌, nat_abs, refl, ap, ◌∙◌, add-one, arith, drop_of_length-le, drop-cons, to_z-of_z, w8, w32, w64, Fits, SFits, to_z, of_z, rules, le-ltb, lt-ltb, leb-false}
-use lib.Ieee.{Float, nan, inf, fin, binary64, ne, eq, is_nan, nan_bits}
+use Rattle.std.proofs.Common.{◌≡◌, ℕ, ◌+◌, ◌-◌, ◌%◌, ◌<◌, ◌≤◌, Bool, true, false, not, ◌&&◌, ◌*◌, List, get_or, set, refl, ap, ◌∙◌, add-one, rules, le-ltb, lt-ltb, eq-eqb}
+use lib.Ieee.{Float, nan, inf, fin, up, down, binary64, ne, eq, is_nan, nan_bits}
 use lib.Ieee.Bits.{nan_bits_above}
 use Rattle.report.specs.Words.{pushed, mixed, mixed_upto}
 use Rattle.report.specs.declared.Words.{Words}
@@ -22,12 +22,14 @@ module _ (l : List ℕ) (i d h : ℕ) (e : h ≡ mixed_upto d l i) where
   unfolding mixed_upto
   mix-more y q = rw (add-one i) (q ∙ ap (λ x. mixed x (get_or l i 0)) e)
 
--- a float that equals itself is a number
-pub no_nan : (x : Float) → ne x x ≡ false → T (not (is_nan x))
+-- a float differs from itself exactly if it is a NaN
+pub differs : (x : Float) → ne x x ≡ is_nan x
 unfolding ne eq is_nan
-no_nan nan e = let z : ◌≡◌ {A = ℕ} 0 1 = cc in absurd (omega arith)
-no_nan (inf s) e = tt
-no_nan (fin s m k) e = tt
+differs nan = refl
+differs (inf true) = refl
+differs (inf false) = refl
+differs (fin true m e) = ap (λ (b : Bool). not (b && true)) (eq-eqb (m * up e * down e) _ refl)
+differs (fin false m e) = ap (λ (b : Bool). not (b && true)) (eq-eqb (m * up e * down e) _ refl)
 
 -- patterns of floats
 pub pattern-nan : (n : ℕ) → 9218868437227405312 < n % 9223372036854775808 → nan_bits binary64 n ≡ true

@@ -15,6 +15,7 @@ use std::io;
 use std::io::Write;
 
 // An answer: 0 and its values, or a refusal's number and its values. No answer that is printed has more than 40 words.
+// An array with a count: a Vec may run out of memory at each word, and each function that answers words would have to say so.
 #[derive(Clone, Copy)]
 pub struct Words {
     pub words: [u64; 40],
@@ -45,6 +46,9 @@ pub fn push(to: Words, word: u64) -> Words
         count: at + 1,
     }
 }
+
+// A digest of nothing.
+pub const EMPTY: u64 = 14695981039346656037;
 
 // A word mixed into a digest.
 pub fn mix(digest: u64, word: u64) -> u64
@@ -152,10 +156,10 @@ pub fn sign(v: i64) -> u64
 pub fn float_bits(x: f64) -> u64
     ensures { result ≡ bits_of x }
 {
-    if x != x {
+    if x.is_nan() {
         return 9221120237041090560;
     }
-    f64::to_bits(x)
+    x.to_bits()
 }
 
 // The float of a bit pattern.
@@ -163,7 +167,7 @@ pub fn float_of(bits: u64) -> f64
     ensures { result ≡ float_of bits }
 {
     if 9218868437227405312 < bits % 9223372036854775808 {
-        return 0.0 / 0.0;
+        return f64::NAN;
     }
     f64::from_bits(bits)
 }

@@ -6,6 +6,7 @@ use mathlib.Core.List.{List}
 use Prim.Native.Nat.{ℕ, ◌<◌}
 use native.Mathlib.Omega.{arith}
 use Rattle.std.specs.Prelude.{Result, Ok, Err}
+use Rattle.std.proofs.lemmas.Bool.{not-true, not-false}
 use Rattle.error.specs.declared.Refusal.{Refusal}
 use Rattle.format.specs.Lent.{Reply}
 use Rattle.format.specs.Tile.{Point, Head, Body}
@@ -46,14 +47,6 @@ StoredAnswer = Answer Point Head Body tile.TileEnd
 
 abbrev StoredStep : Type 0
 StoredStep = Step StoredAnswer TileState
-
-pub not-true : (c : Bool) → not c ≡ true → c ≡ false
-not-true true e = absurd (false≢true e)
-not-true false e = refl
-
-pub not-false : (c : Bool) → not c ≡ false → c ≡ true
-not-false true e = refl
-not-false false e = absurd (false≢true (sym e))
 
 -- whether an answer is a refusal
 abbrev stops : {P H B E : Type 0} → Answer P H B E → Bool

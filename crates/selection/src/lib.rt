@@ -1,13 +1,13 @@
 // Which ways a window and rules select: requests 10 and 9. What a stream does that goes by them is in specs/; exports has the call.
 #![tactic(auto)]
 
-ghost use Rattle.std.specs.Prelude.{◌≡◌, min, length};
+ghost use Rattle.std.specs.Prelude.{◌≡◌, min};
 ghost use Rattle.selection.specs.Selects.{in_window, by_rules, selects};
 
 use tagged::TagIds;
 
 // Which ways are selected: where `by_window`, those that share a cell with `mask`; where `by_rules`, those that the checked table shows at
-// `zoom`.
+// `zoom`. No Options: these ask more of callers, who may hand in any mask beside `by_window` false.
 #[derive(Clone, Copy)]
 pub struct Selection {
     pub by_window: bool,
@@ -23,13 +23,6 @@ fn in_window(selection: Selection, bitmap: u16) -> bool
     !selection.by_window || window::shares_cell(bitmap, selection.mask)
 }
 
-// How many of the ids count: no more than there are.
-fn in_row(count: usize, ids: [u64; 15]) -> usize
-    ensures { result ≡ min count (length ids) }
-{
-    count.min(ids.len())
-}
-
 // Whether the rules leave a way with these tags.
 fn by_rules(selection: Selection, classes: &[u8], tags: TagIds) -> bool
     ensures { result ≡ by_rules selection classes.now tags }
@@ -37,7 +30,7 @@ fn by_rules(selection: Selection, classes: &[u8], tags: TagIds) -> bool
     if !selection.by_rules {
         return true;
     }
-    let count = in_row(tags.count, tags.ids);
+    let count = tags.count.min(tags.ids.len());
     showing::shows(classes, selection.zoom, &tags.ids[..count])
 }
 

@@ -28,34 +28,30 @@ pub enum RulesRefusal {
     Short(usize),
 }
 
-// The first cells that are named twice, and not at all; where there is none, the end of the cells looked at.
+// The first cells that are named twice, and not at all; where there is none, the end of the cells looked at, and no Option: the definition
+// `first_from` gives that end.
 #[derive(Clone, Copy)]
 struct Faults {
     overlap: usize,
     gap: usize,
 }
 
-fn wide(x: u8) -> usize
-    ensures { (result ≡ x) × (result < 256) }
-{
-    x as usize
-}
-
-// Rule k of the table.
+// Rule k of the table. The loops below go by k and not by chunks of four bytes: the definitions speak of rule k, and a chunk would still have
+// to be found as one.
 fn rule_at(rules: &[u8], k: usize) -> Rule
     requires { k < length rules.now / 4 }
     ensures value { result ≡ rule_at rules.now k }
     ensures small { Small result }
 {
     let at = 4 * k;
-    let a = wide(rules[at]);
-    let b = wide(rules[at + 1]);
-    let c = wide(rules[at + 2]);
+    let a = rules[at] as usize;
+    let b = rules[at + 1] as usize;
+    let c = rules[at + 2] as usize;
     let d = rules[at + 3];
     Rule {
         id: a * 256 + b,
         lowest: c / 8,
-        highest: c % 8 * 4 + wide(d) / 64,
+        highest: c % 8 * 4 + d as usize / 64,
         class: d % 64,
     }
 }
@@ -104,9 +100,8 @@ fn count_cells(counts: &mut [u8], start: usize, end: usize)
 
 // Counts one more of each cell of the stretch that the rule names. A rule of another stretch is passed over by one test, which is what
 // makes many passes cheap.
-fn count_rule(counts: &mut [u8], stretch: usize, rule: Rule)
-    requires small { Small rule }
-    requires counts_len { length counts.old ≡ 8192 }
+fn count_rule(counts: &mut [u8; 8192], stretch: usize, rule: Rule)
+    requires { Small rule }
     ensures { Changed one_more rule (8192 * stretch) counts.old counts.new }
 {
     if rule.id / 256 != stretch {
@@ -117,11 +112,9 @@ fn count_rule(counts: &mut [u8], stretch: usize, rule: Rule)
 }
 
 // Counts, cut at 2, how many rules name each cell of the stretch.
-fn count_rules(rules: &[u8], counts: &mut [u8], stretch: usize)
-    requires counts_len { length counts.old ≡ 8192 }
-    requires by_index { (j : ℕ) → j < length counts.old → get_or counts.old j 0 ≡ 0 }
-    ensures counts_len_unchanged { length counts.new ≡ length counts.old }
-    ensures counted { Counted rules.now (length rules.now / 4) (8192 * stretch) counts.new }
+fn count_rules(rules: &[u8], counts: &mut [u8; 8192], stretch: usize)
+    requires { (j : ℕ) → j < length counts.old → get_or counts.old j 0 ≡ 0 }
+    ensures { Counted rules.now (length rules.now / 4) (8192 * stretch) counts.new }
 {
     let n = rules.len() / 4;
     for k in 0..n {
@@ -144,8 +137,7 @@ fn first_none(counts: &[u8]) -> usize
 }
 
 // The faults of the stretch's first n cells.
-fn faults_of(rules: &[u8], counts: &mut [u8], stretch: usize, n: usize) -> Faults
-    requires counts_len { length counts.old ≡ 8192 }
+fn faults_of(rules: &[u8], counts: &mut [u8; 8192], stretch: usize, n: usize) -> Faults
     requires by_index { (j : ℕ) → j < length counts.old → get_or counts.old j 0 ≡ 0 }
     requires n_bound { n ≤ 8192 }
     requires stretch_bound { stretch ≤ 65536 }

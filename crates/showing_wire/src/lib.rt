@@ -45,6 +45,6 @@ pub fn put_checked(got: Result<(), RulesRefusal>, words: &mut [u64; 6]) -> u64
 pub fn put_shown(shown: bool, words: &mut [u64; 7]) -> u64
     ensures { wire result (words.new ∷ []) [] [] ≡ shown_wire (lending (words.old ∷ []) [] []) shown }
 {
-    words[6] = wire::bit(shown);
+    words[6] = u64::from(shown);
     0
 }

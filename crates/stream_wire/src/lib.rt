@@ -25,7 +25,7 @@ fn turn_in(words: [u64; 8]) -> Turn
             ways: words[2],
             past: words[1] as usize,
             body: words[3] as usize,
-            head_plain: wire::truth_of(words[4]),
+            head_plain: 0 < words[4],
         });
     }
     Turn::Idle(Remaining {
@@ -42,8 +42,8 @@ pub fn stream_in(words: [u64; 8]) -> Stream
     let turn = turn_in(words);
     let end = TileEnd {
         sub_file: words[6] as usize,
-        is_water: wire::truth_of(words[5]),
-        plain: wire::truth_of(words[7]),
+        is_water: 0 < words[5],
+        plain: 0 < words[7],
     };
     Stream { turn, end }
 }
@@ -53,9 +53,9 @@ pub fn selection_in(words: [u64; 4]) -> Selection
     ensures { result ≡ selection_in words }
 {
     Selection {
-        by_window: wire::truth_of(words[0]),
+        by_window: 0 < words[0],
         mask: (words[1] % 65536) as u16,
-        by_rules: wire::truth_of(words[2]),
+        by_rules: 0 < words[2],
         zoom: (words[3] % 256) as u8,
     }
 }
@@ -88,8 +88,8 @@ fn put_stream(stream: Stream, state: &mut [u64; 8])
     ensures { state.new ≡ sets state.old 0 (stream_words stream) }
 {
     let end = stream.end;
-    let water = wire::bit(end.is_water);
-    let plain = wire::bit(end.plain);
+    let water = u64::from(end.is_water);
+    let plain = u64::from(end.plain);
     let turn = stream.turn;
     match turn {
         Turn::Idle(r) => {
@@ -103,7 +103,7 @@ fn put_stream(stream: Stream, state: &mut [u64; 8])
             state[7] = plain;
         }
         Turn::Waits(w) => {
-            let head = wire::bit(w.head_plain);
+            let head = u64::from(w.head_plain);
             state[0] = 1;
             state[1] = w.past as u64;
             state[2] = w.ways;
@@ -134,7 +134,7 @@ fn put_signs(layer: i8, elevation: Option<i32>, signed_words: &mut [i64; 2])
     ensures { signed_words.new ≡ sets signed_words.old 0 (layer ∷ (metre_words elevation).metres ∷ []) }
 {
     let elevation = wire::metre_words(elevation);
-    signed_words[0] = wire::wide_i8(layer);
+    signed_words[0] = i64::from(layer);
     signed_words[1] = elevation.metres;
 }
 
@@ -154,7 +154,7 @@ fn put_point(
     let elevation = wire::metre_words(poi.elevation);
     let position = poi.position;
     let tags = poi.tag_ids;
-    let plain = wire::bit(poi.plain);
+    let plain = u64::from(poi.plain);
     words[6] = 0;
     words[7] = tags.count as u64;
     words[8] = signature.present;
@@ -185,8 +185,8 @@ fn put_head(
     ensures { wire 0 (words.new ∷ ids.new ∷ []) signed_words.new [] ≡ put_head head (lending (words.old ∷ ids.old ∷ []) signed_words.old []) }
 {
     let tags = head.tag_ids;
-    let layer = wire::wide_i8(head.layer);
-    let plain = wire::bit(head.plain);
+    let layer = i64::from(head.layer);
+    let plain = u64::from(head.plain);
     words[6] = 1;
     words[7] = tags.count as u64;
     words[18] = head.bitmap as u64;
@@ -205,7 +205,7 @@ pub fn put_way_step(
 )
     ensures { (ids before : List ℕ) (place : List Float) → wire 0 (words.new ∷ ids ∷ state.new ∷ []) signed_words.new place ≡ next_wire (lending (words.old ∷ before ∷ state.old ∷ []) signed_words.old place) (way_step step ids) }
 {
-    let layer = wire::wide_i8(step.layer);
+    let layer = i64::from(step.layer);
     words[6] = 1;
     words[7] = step.count as u64;
     words[18] = step.bitmap as u64;
@@ -252,8 +252,8 @@ pub fn put_point_step(
 fn put_end(end: TileEnd, words: &mut [u64; 22])
     ensures { wire 0 (words.new ∷ []) [] [] ≡ put_end end (lending (words.old ∷ []) [] []) }
 {
-    let water = wire::bit(end.is_water);
-    let plain = wire::bit(end.plain);
+    let water = u64::from(end.is_water);
+    let plain = u64::from(end.plain);
     words[6] = 2;
     words[19] = end.sub_file as u64;
     words[20] = water;
@@ -299,7 +299,7 @@ fn put_body(body: StreamedBody, words: &mut [u64; 19], degrees: &mut [f64; 2])
     let house = wire::span_words(body.house_number);
     let reference = wire::span_words(body.reference);
     let label = wire::place_words(body.label_position);
-    let plain = wire::bit(body.plain);
+    let plain = u64::from(body.plain);
     words[6] = body.blocks;
     words[7] = body.nodes;
     words[8] = name.present;

@@ -1,16 +1,19 @@
 -- Laws of a tag's key, value and letter, by the tests that the code makes.
-use Prim.Native.Nat.{ℕ, suc, ◌+◌, ◌-◌, ◌<◌, ◌≤◌, ◌^◌}
+use Prim.Native.Nat.{ℕ, suc, ◌+◌, ◌-◌, ◌<◌, ◌≤◌}
 use native.Mathlib.Numerals.{add-one}
 use native.Mathlib.Omega.{arith}
 use mathlib.Core.Path.{◌≡◌, refl, sym, ap, ◌∙◌}
 use mathlib.Core.List.{List, [], ◌∷◌}
 use mathlib.Core.Bool.{Bool, true, false, cond}
-use lib.Dec.{eqb}
+use lib.Dec.{eqb, ltb}
 use lib.ListN.{length, take, drop, get_or, drop_of_length-le, length-drop}
-use lib.Seq.{length-take-le, take_all}
+use lib.Seq.{take_all}
 use borrow.Author.Rules.{rules}
 use Rattle.parsing.proofs.Steps.{eqb_yes, eqb_no}
-use borrow.Author.Tests.{eq-eqb, ne_eqb}
+use borrow.Author.Tests.{ltb-true, ltb-false}
+use Rattle.std.specs.Prelude.{Option, Some, None}
+use Rattle.std.specs.List.{position_or_len}
+use Rattle.std.proofs.lemmas.List.Recursion.{is_position_or_len}
 use Rattle.arithmetic.specs.Cut.{cut}
 use Rattle.text.specs.Utf8.{code_points, replaced}
 use Rattle.text.specs.Hash.{hash}
@@ -22,18 +25,24 @@ use Rattle.tag.specs.declared.Kind.{Kind}
 use Rattle.tag.specs.Tag.{equals_at, value_of, new_tag, tag_of, key_bytes, mark, letter_after, kind_of, kind}
 use Rattle.tag.proofs.RawLaws.{key-raw, value-raw, kind-raw}
 
--- the first `=`, from a place on
-pub equals-here : (s : List ℕ) (at t : ℕ) → at < length s → get_or s at 0 ≡ 61 → at + equals_at (drop at s) ≡ t → at ≡ t
+-- the first `=` as `position` finds it
+pub equals-is : (s : List ℕ) → equals_at s ≡ position_or_len (λ b. eqb b 61) s
 unfolding equals_at
-equals-here s at t h e f = omega (arith, rw (drop_here s at (get_or s at 0) h refl, eq-eqb (get_or s at 0) 61 e) at f)
+equals-is s = is_position_or_len equals_at (λ b. eqb b 61) refl (λ b r. ap (λ (n : ℕ). cond (eqb b 61) 0 n) (omega arith)) s
 
-pub equals-more : (s : List ℕ) (at t : ℕ) → at < length s → (get_or s at 0 ≡ 61 → ⊥) → at + equals_at (drop at s) ≡ t → at + 1 + equals_at (drop (at + 1) s) ≡ t
-unfolding equals_at
-equals-more s at t h e f = omega (arith, rw (drop_here s at (get_or s at 0) h refl, ne_eqb (get_or s at 0) 61 e) at f)
+pub found_at : (k n at : ℕ) (r : Option ℕ) → r ≡ cond (ltb k n) (Some k) None → r ≡ Some at → (at ≡ k) × (k < n)
+found_at k n at r e h = by (ltb k n) refl (sym e ∙ h)
+  where
+    by : (b : Bool) → ltb k n ≡ b → cond b (Some k) None ≡ Some at → (at ≡ k) × (k < n)
+    by true t q = (cc, ltb-true k n t)
+    by false t q = cc
 
-pub equals-end : (s : List ℕ) (at t : ℕ) → length s ≤ at → at + equals_at (drop at s) ≡ t → at ≡ t
-unfolding equals_at
-equals-end s at t h f = omega (arith, rw (drop_of_length-le s h) at f)
+pub found_none : (k n : ℕ) (r : Option ℕ) → r ≡ cond (ltb k n) (Some k) None → r ≡ None → n ≤ k
+found_none k n r e h = by (ltb k n) refl (sym e ∙ h)
+  where
+    by : (b : Bool) → ltb k n ≡ b → cond b (Some k) None ≡ None → n ≤ k
+    by true t q = cc
+    by false t q = ltb-false k n t
 
 -- the letter, from a place on
 drop-two : (s : List ℕ) (at : ℕ) → at + 1 < length s → drop at s ≡ get_or s at 0 ∷ get_or s (at + 1) 0 ∷ drop (at + 2) s
@@ -72,28 +81,6 @@ letter-end s at t n l h f = sym (short (drop at s) (rw length-drop (omega arith)
 pub letter-none : (s : List ℕ) (n : ℕ) → n ≡ length s → n < 3 → 0 ≡ letter_after s
 letter-none s n l h = sym (short s (omega arith))
 
-pub equals-le : (s : List ℕ) → equals_at s ≤ length s
-unfolding equals_at
-equals-le [] = omega arith
-equals-le (b ∷ s) = go (eqb b 61) (equals-le s)
-  where
-    go : (x : Bool) → equals_at s ≤ length s → cond x 0 (suc (equals_at s)) ≤ suc (length s)
-    go true h = omega arith
-    go false h = omega arith
-
--- the place of the split
-pub split-in : (s : List ℕ) (n : ℕ) → n ≡ equals_at s → n ≤ length s
-split-in s n e = rw e (equals-le s)
-
-pub split-count : (s : List ℕ) (n : ℕ) → n ≡ equals_at s → n ≡ length (take n s)
-split-count s n e = sym (length-take-le n s (split-in s n e))
-
-pub split-more : (s : List ℕ) (n : ℕ) → n ≡ equals_at s → (n ≡ length s → ⊥) → n + 1 ≤ length s
-split-more s n e h = omega (arith, equals-le s)
-
-pub split-fits : (s : List ℕ) (n : ℕ) → n ≡ equals_at s → (n ≡ length s → ⊥) → length s < 2 ^ 64 → n + 1 < 2 ^ 64
-split-fits s n e h l = omega (arith, equals-le s)
-
 -- the tag of a key and a value
 pub tag-new : (k v : List ℕ) (kl vl kc vc : ℕ) → kl ≡ cut (length k) → vl ≡ cut (length v) → kc ≡ hash (code_points k) → vc ≡ hash (code_points v)
     → ◌≡◌ {A = Tag} (record { key_len = kl; value_len = vl; key_code = kc; value_code = vc }) (new_tag k v)
@@ -115,11 +102,17 @@ module _ (s : List ℕ) (n : ℕ) (r : Tag) (e : n ≡ equals_at s) where
       let all : take (length s - m) (drop m s) ≡ drop m s = take_all (length s - m) (drop m s) (omega (arith, length-drop m s)) in
       rw (key-raw s, value-raw s, ← h, ← e) (rw all at q)
 
-  pub tag-key : n ≡ length s → r ≡ new_tag (replaced (take n s)) (replaced (take (length s - n) (drop n s))) → r ≡ tag_of s
-  tag-key h q = split-up n (drop_of_length-le s {i = n} (omega arith) ∙ sym (drop_of_length-le s {i = suc (equals_at s)} (omega arith))) q
-
   pub tag-both : r ≡ new_tag (replaced (take n s)) (replaced (take (length s - (n + 1)) (drop (n + 1) s))) → r ≡ tag_of s
   tag-both q = split-up (n + 1) (rw (e, add-one (equals_at s))) q
+
+module _ (s : List ℕ) (r : Option ℕ) (t : Tag) (e : r ≡ cond (ltb (position_or_len (λ b. eqb b 61) s) (length s)) (Some (position_or_len (λ b. eqb b 61) s)) None) where
+  pub tag-at : (at : ℕ) → r ≡ Some at → t ≡ new_tag (replaced (take at s)) (replaced (take (length s - (at + 1)) (drop (at + 1) s))) → t ≡ tag_of s
+  tag-at at h q = tag-both s at t ((found_at _ _ _ _ e h).0 ∙ sym (equals-is s)) q
+
+  pub tag-none : r ≡ None → t ≡ new_tag (replaced s) (replaced []) → t ≡ tag_of s
+  tag-none h q =
+      let z : length s ≤ equals_at s = omega (arith, found_none _ _ _ e h, equals-is s) in
+      rw (key-raw s, value-raw s, take_all (equals_at s) s z, drop_of_length-le s {i = suc (equals_at s)} (omega arith)) q
 
 -- the kind, by the stored letter
 pub kind-stored : (s : List ℕ) (l : ℕ) (k : Kind) → l ≡ letter_after s → k ≡ kind_of l → k ≡ kind (replaced s)
@@ -129,21 +122,12 @@ pub ruleset tags = (
   rules,
   eqb_yes,
   eqb_no,
-  equals-here,
-  equals-more,
-  equals-end,
   letter-here,
   letter-more,
   letter-end,
   letter-none,
-  split-in,
-  split-count,
-  split-more,
-  split-fits,
   tag-new,
   key-short,
   code_at,
-  tag-key,
-  tag-both,
   kind-stored,
 )

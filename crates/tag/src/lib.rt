@@ -6,7 +6,7 @@ ghost use Rattle.byte_source.specs.Answers.{read_by};
 ghost use Rattle.utils.specs.Answers.{noted_part};
 ghost use Rattle.text.specs.Utf8.{code_points, replaced};
 ghost use Rattle.text.specs.Hash.{hash};
-ghost use Rattle.tag.specs.Tag.{equals_at, new_tag, tag_of, key_bytes, mark, letter_after, letter_of, kind_of, kind};
+ghost use Rattle.tag.specs.Tag.{new_tag, tag_of, key_bytes, mark, letter_after, letter_of, kind_of, kind};
 ghost use Rattle.tag.specs.Value.{value, sized};
 
 use byte_source::{Read, Span};
@@ -35,28 +35,14 @@ impl Tag {
     }
 }
 
-// The place of the first `=`, or the length.
-fn equals_at(text: &[u8]) -> usize
-    ensures { result ≡ equals_at text.now }
-{
-    for (at, &b) in text.iter().enumerate() {
-        if b == b'=' {
-            return at;
-        }
-    }
-    text.len()
-}
-
 // Splits a stored text at its first `=`; without one the value is empty.
 pub fn parse_tag(text: &[u8]) -> Tag
     ensures { result ≡ tag_of text.now }
 {
-    let split = equals_at(text);
-    if split == text.len() {
-        return Tag::new(&text[..split], &text[split..]);
+    match text.iter().position(|&b| b == b'=') {
+        Some(split) => Tag::new(&text[..split], &text[split + 1..]),
+        None => Tag::new(text, &[]),
     }
-    let from = split + 1;
-    Tag::new(&text[..split], &text[from..])
 }
 
 // The key of a tag that is made of a feature's text.
@@ -81,7 +67,8 @@ fn key_len(key: TextKey) -> usize
     }
 }
 
-// The key's hash, computed beforehand.
+// The key's hash, computed beforehand. With the length as a pair it would have a contract of two parts, which `text_tag` takes apart again: no
+// plainer.
 pub fn key_code(key: TextKey) -> u64
     ensures { result ≡ hash (code_points (key_bytes key)) }
 {
@@ -111,7 +98,7 @@ fn is_mark(b: u8, d: u8) -> bool
     b == b'=' && d == b'%'
 }
 
-// The byte behind the first `=%`, or 0.
+// The byte behind the first `=%`, or 0, and no Option: `kind_of` takes a letter, so that an Option would be made a 0 again.
 fn letter_after(text: &[u8]) -> u8
     ensures { result ≡ letter_after text.now }
 {
@@ -140,7 +127,7 @@ pub enum Kind {
     Float,
     // s: a length and that many bytes
     Text,
-    // any other letter, or none
+    // any other letter, or none: a case and no Option, since a value of this kind is read too, as 0 bytes
     Nothing,
 }
 

@@ -13,7 +13,7 @@ use Rattle.text.specs.declared.Sequence.TheVariants.{Char, Ill}
 use Rattle.text.specs.Utf8.{sequence_at, size_of, code_of, written_of, sequence_bytes, valid, sequences, codes_of, code_points, bytes_of_all, replaced}
 use Rattle.text.specs.Writing.{Writing, place_behind, writing}
 use Rattle.arithmetic.proofs.CutLaws.{cut_fits, cut-add, cut_small}
-use Rattle.text.proofs.Utf8Laws.{sequences-here, sequences-end, sequence-some, sequence-fits, drop_here, texts}
+use Rattle.text.proofs.Utf8Laws.{sequences-here, sequences-end, sequence-some, sequence-fits, texts}
 use Rattle.text.proofs.ReplacedLaws.{valid-kept, replaced-most}
 
 -- what is left, from a place on

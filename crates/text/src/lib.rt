@@ -37,7 +37,7 @@ fn code_of(sequence: Sequence) -> u64
     }
 }
 
-// The number of bytes that a sequence has in the replaced text.
+// The number of bytes that a sequence has in the replaced text. One function for this and `size_of` would take which of the two is meant.
 fn written_of(sequence: Sequence) -> usize
     ensures { result ≡ written_of sequence }
 {
@@ -45,12 +45,6 @@ fn written_of(sequence: Sequence) -> usize
         Sequence::Char(_, n) => n,
         Sequence::Ill(_) => 3,
     }
-}
-
-fn wide(x: u8) -> u32
-    ensures { result ≡ x }
-{
-    x as u32
 }
 
 // `n` bytes gave `c`; `more` follow, from `at` on, the first of them from `low` to `high`.
@@ -64,7 +58,7 @@ fn follow_at(text: &[u8], at: usize, more: u32, low: u32, high: u32, c: u32, n: 
     if text.len() <= at {
         return Sequence::Ill(n);
     }
-    let b = wide(text[at]);
+    let b = text[at] as u32;
     if b < low {
         return Sequence::Ill(n);
     }
@@ -87,7 +81,7 @@ fn by_table(text: &[u8], at: usize) -> Sequence
     requires { at < length text.now }
     ensures { result ≡ sequence_at text.now at }
 {
-    let b = wide(text[at]);
+    let b = text[at] as u32;
     match b {
         0x00..=0x7F => Sequence::Char(b, 1),
         0xC2..=0xDF => follow_at(text, at + 1, 1, 0x80, 0xBF, b - 0xC0, 1),
@@ -108,7 +102,7 @@ fn sequence_at(text: &[u8], at: usize) -> Sequence
     requires { at < length text.now }
     ensures { result ≡ sequence_at text.now at }
 {
-    let b = wide(text[at]);
+    let b = text[at] as u32;
     if b < 128 {
         return Sequence::Char(b, 1);
     }

@@ -29,7 +29,8 @@ use Rattle.std.specs.Prelude.{Result, Ok, Err}
 use Rattle.std.specs.Result.{IsErr, IsErrAnd}
 use Rattle.byte_source.proofs.ReadLaws.{met}
 use Rattle.agreement.proofs.Stored as held
-use Rattle.tile.specs.Tile.{shown_tile, shown_from, stored_at, collect_at, places_at, feature_places, listed, tile_res, TileIs, summary_of, rows_of_tile, row_points, row_ways, view_or, TileLists, lent_tile, CollectIs, has_room, too_short, rows_read, RowsPut, PlacesPut}
+use Rattle.index.specs.Answers.{lent_answer}
+use Rattle.tile.specs.Tile.{shown_tile, shown_from, stored_at, collect_at, places_at, feature_places, listed, TileIs, summary_of, rows_of_tile, row_points, row_ways, view_or, TileLists, lent_tile, CollectIs, has_room, too_short, rows_read, RowsPut, PlacesPut}
 use Rattle.tile.specs.declared.Tile.{Tile}
 use Rattle.tile.specs.declared.TileSummary.{TileSummary}
 use Rattle.tile.proofs.RowLaws.{head-table}
@@ -212,7 +213,7 @@ long-enough stored t places lent r left q h i =
     let a = i ∙ is-listed stored t places lent q (le-leb (length places) (length lent) h) in
     (go r (ap (λ (x : Replied (List ℕ) (Res Tile)). x.answer) a), ap (λ (x : Replied (List ℕ) (Res Tile)). x.lists) a)
   where
-    go : (x : Result Tile LentRefusal) → tile_res x ≡ answer t → x ≡ Ok t
+    go : (x : Result Tile LentRefusal) → lent_answer x ≡ answer t → x ≡ Ok t
     go (Ok y) e = ap Ok (ok-val e)
     go (Err y) e = no_ok e
 

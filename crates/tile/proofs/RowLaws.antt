@@ -3,7 +3,7 @@ use Prim.Native.Nat.{ℕ, zero, suc, ◌+◌, ◌-◌, ◌≤◌, ◌<◌}
 use native.Mathlib.Numerals.{add-one}
 use native.Mathlib.Nat.{zero-add}
 use native.Mathlib.Omega.{arith}
-use mathlib.Core.Path.{◌≡◌, refl, sym, ap, ◌∙◌}
+use mathlib.Core.Path.{◌≡◌, refl, sym, ap, subst, ◌∙◌}
 use mathlib.Core.Bool.{Bool, true, false, ◌&&◌, cond}
 use mathlib.Core.List.{List, [], ◌∷◌, ◌++◌}
 use mathlib.Core.List.{map as mapped}
@@ -33,7 +33,8 @@ use Rattle.utils.specs.declared.Noted.{Noted as Held}
 use Rattle.utils.specs.Answers.{noted_by}
 use Rattle.types.specs.Types.{maybe_part}
 use Rattle.types.proofs.NotedLaws.{values_length, values-snoc}
-use Rattle.types.proofs.FillLaws.{map-append, fill_more}
+use Rattle.types.proofs.FillLaws.{map-append, fill_more as noted_more}
+use Rattle.std.proofs.lemmas.List.Edits.{fill_more}
 use Rattle.zoom_table.specs.Blocks.{zoom_row, stored_row, empty_row, filled_rows, rows_of}
 use Rattle.zoom_table.specs.declared.ZoomRow.{ZoomRow}
 use Rattle.zoom_table.specs.declared.ZoomTable.{ZoomTable}
@@ -134,7 +135,7 @@ put-noted f l xs r = rw (values-snoc xs r, ← (values_length xs)) (put-more f l
 module _ (m : List ℕ) (i at n : ℕ) (l l₀ : List ℕ) (f : Row → ℕ) (h : map_res (λ rows. sets l₀ 0 (mapped f (values_of rows))) (many row i m at) ≡ ok l n) where
   pub row_put : (v : Held ZoomRow) (e : ℕ) → ok (noted_by stored_row v) e ≡ row m n → map_res (λ rows. sets l₀ 0 (mapped f (values_of rows))) (many row (i + 1) m at) ≡ ok (set l i (f (stored_row v.value))) e
   row_put v e q =
-      fill_more (λ rows. sets l₀ 0 (mapped f (values_of rows))) (λ r. f r.value) (i + 1) (λ xs r _. put-noted f l₀ xs r) row m i at n l e (f (stored_row v.value)) h (ap (map_res (λ r. f r.value)) (sym q)) (omega arith)
+      noted_more (λ rows. sets l₀ 0 (mapped f (values_of rows))) (λ r. f r.value) (i + 1) (λ xs r _. put-noted f l₀ xs r) row m i at n l e (f (stored_row v.value)) h (ap (map_res (λ r. f r.value)) (sym q)) (omega arith)
 
 -- what no read gives
 put-none : (stored : Res (List Row)) (x : Refusal) (p w p' w' : List ℕ) → refused x ≡ stored → RowsPut stored p w p' w'
@@ -151,13 +152,25 @@ zero_more : (n : ℕ) → (empty_head (suc n)).table ≡ (empty_head n).table ++
 zero_more zero = refl
 zero_more (suc n) = ap (λ l. record { points = 0; ways = 0 } ∷ l) (zero_more n)
 
-pub zero-put : (f : Row → ℕ) (l l₀ : List ℕ) (i : ℕ) → l ≡ sets l₀ 0 (mapped f (empty_head i).table) → f (record { points = 0; ways = 0 }) ≡ 0 → set l i 0 ≡ sets l₀ 0 (mapped f (empty_head (i + 1)).table)
+zero-put : (f : Row → ℕ) (l l₀ : List ℕ) (i : ℕ) → l ≡ sets l₀ 0 (mapped f (empty_head i).table) → f (record { points = 0; ways = 0 }) ≡ 0 → set l i 0 ≡ sets l₀ 0 (mapped f (empty_head (i + 1)).table)
 zero-put f l l₀ i e h =
     ap (λ x. set x i 0) e ∙ ap (set (sets l₀ 0 (mapped f (empty_head i).table)) i) (sym h)
     ∙ ap (λ k. set (sets l₀ 0 (mapped f (empty_head i).table)) k (f (record { points = 0; ways = 0 }))) (sym (length-replicate i _))
     ∙ sym (put-more f l₀ (empty_head i).table (record { points = 0; ways = 0 }))
     ∙ ap (λ t. sets l₀ 0 (mapped f t)) (sym (zero_more i))
     ∙ ap (λ k. sets l₀ 0 (mapped f (empty_head k).table)) (sym (add-one i))
+
+pub zero-filled : (f : Row → ℕ) (l : List ℕ) (n : ℕ) → n ≤ length l → f (record { points = 0; ways = 0 }) ≡ 0 → replicate n 0 ++ drop n l ≡ sets l 0 (mapped f (empty_head n).table)
+zero-filled f l zero b h = refl
+zero-filled f l (suc n) b h =
+    subst (λ (k : ℕ). replicate k 0 ++ drop k l ≡ sets l 0 (mapped f (empty_head k).table)) (add-one n)
+    (sym (fill_more n 0 l (omega arith)) ∙ zero-put f _ l n (zero-filled f l n (omega arith) h) h)
+
+pub zeros-there : (n : ℕ) (p w a b : List ℕ) → n ≤ length p → n ≤ length w → a ≡ replicate n 0 → b ≡ replicate n 0 → RowsPut (answer (empty_head n).table) p w (a ++ drop n p) (b ++ drop n w)
+zeros-there n p w a b h k d e = record {
+  points = λ rows y z. ap (λ x. x ++ drop n p) d ∙ zero-filled (λ r. r.points) p n h refl ∙ ap (put_points p) (ok-val z);
+  ways = λ rows y z. ap (λ x. x ++ drop n w) e ∙ zero-filled (λ r. r.ways) w n k refl ∙ ap (put_ways w) (ok-val z);
+}
 
 module _ (empty debug : Bool) (low high : ℕ) (m : List ℕ) (at : ℕ) (p w p' w' : List ℕ) where
   pub zeros-put : (k : ℕ) → empty ≡ true → k ≡ high - low + 1 → RowsPut (answer (empty_head k).table) p w p' w' → RowsPut (rows_read empty debug low high m at) p w p' w'

@@ -1,10 +1,10 @@
 -- A collected tile (document 01, "The stream and the collected tile": "Collecting decodes every row and answers the zoom table,
 -- first-way offset, feature counts, and (added) whether every stored size is the decoded length"; request 6 adds whether every number was
 -- plain, request 8 where each feature starts). The machine is `collect` of crate agreement.
-use Rattle.std.specs.Prelude.{ℕ, zero, suc, ◌+◌, Bool, true, ◌&&◌, ◌≡◌, List, [], ◌∷◌, ◌++◌, map as mapped, leb, length, take, Result, Ok, Err}
+use Rattle.std.specs.Prelude.{ℕ, zero, suc, ◌+◌, Bool, true, ◌&&◌, ◌≡◌, List, [], ◌∷◌, ◌++◌, map as mapped, leb, length, take, Result, Ok}
 use Rattle.std.proofs.lemmas.List.Edits.{sets}
 use Rattle.parsing.specs.Parse.{Res, ok, no, Parser, ◌>>=◌, return, pick, and_then, map_res, many, end_of, list_of, Maybe}
-use Rattle.error.specs.Refusals.{lent_refused, lengths}
+use Rattle.error.specs.Refusals.{lengths}
 use Rattle.error.specs.declared.LentRefusal.{LentRefusal}
 use Rattle.error.specs.declared.LentRefusal.TheVariants.{Short}
 use Rattle.error.specs.declared.Refusal.{Refusal}
@@ -17,6 +17,7 @@ use Rattle.format.specs.Rows.{rows_of_interval, interval_table, empty_head, mark
 use Rattle.format.specs.Tile.{Row, TileHead, debug_signature, point, Head, head}
 use Rattle.tag.specs.declared.Kind.{Kind}
 use Rattle.types.specs.Types.{optional_span}
+use Rattle.index.specs.Answers.{lent_answer}
 use Rattle.zoom_table.specs.Blocks.{filled_rows}
 use Rattle.zoom_table.specs.declared.ZoomRow.{ZoomRow}
 use Rattle.agreement.specs.Format.{Format}
@@ -75,13 +76,9 @@ listing = record {
 abbrev pub listed : Res Tile → (places lent : List ℕ) → Replied (List ℕ) (Res Tile)
 listed stored places lent = deliver_to listing (λ t. t) (λ _. places) stored lent
 
-abbrev pub tile_res : Result Tile LentRefusal → Res Tile
-tile_res (Ok t) = answer t
-tile_res (Err r) = lent_refused r
-
 -- the answer to a call that collects, where the definitions say `stored` and `places`, and the list after the call
 abbrev pub TileIs : (stored : Res Tile) → (places lent : List ℕ) → Result Tile LentRefusal → (left : List ℕ) → Type 0
-TileIs stored places lent r left = ◌≡◌ {A = Replied (List ℕ) (Res Tile)} (record { answer = tile_res r; lists = left }) (listed stored places lent)
+TileIs stored places lent r left = ◌≡◌ {A = Replied (List ℕ) (Res Tile)} (record { answer = lent_answer r; lists = left }) (listed stored places lent)
 
 -- The same without an array: what is said of a tile besides its rows,
 abbrev pub summary_of : Tile → TileSummary
@@ -105,10 +102,6 @@ row_points l = mapped (λ (r : ZoomRow). r.points) l
 abbrev pub row_ways : List ZoomRow → List ℕ
 row_ways l = mapped (λ (r : ZoomRow). r.ways) l
 
-abbrev pub summary_res : Result TileSummary LentRefusal → Res TileSummary
-summary_res (Ok s) = answer s
-summary_res (Err r) = lent_refused r
-
 -- what is made of the value, or what there was before a refusal
 abbrev pub view_or : {A C : Type 0} → (A → C) → C → Res A → C
 view_or view empty (ok a e) = view a
@@ -125,7 +118,7 @@ lent_tile p w l = record { points = p; ways = w; places = l }
 
 -- the answer and the lists after the call; entries behind the rows and places keep their values, and with a refusal all do
 pub record CollectIs (stored : Res Tile) (places : List ℕ) (lent : TileLists) (r : Result TileSummary LentRefusal) (left : TileLists) : Type 0 where
-  pub answer : summary_res r ≡ map_res summary_of (listed stored places lent.places).answer
+  pub answer : lent_answer r ≡ map_res summary_of (listed stored places lent.places).answer
   pub points : left.points ≡ view_or (λ t. sets lent.points 0 (row_points (rows_of_tile t))) lent.points (listed stored places lent.places).answer
   pub ways : left.ways ≡ view_or (λ t. sets lent.ways 0 (row_ways (rows_of_tile t))) lent.ways (listed stored places lent.places).answer
   pub list : left.places ≡ (listed stored places lent.places).lists

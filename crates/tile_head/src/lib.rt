@@ -30,16 +30,19 @@ pub struct TileHead {
 fn head_signature(map: &[u8], at: usize, debug: bool) -> Read<Option<Span>>
     ensures { read_by (maybe_part map.now) result ≡ of_head where_read (debug_signature debug) map.now at }
 {
-    fields::read_signature(map, at, debug).map_err(|r| error::in_tile_head(r, at as u64))
+    fields::read_signature(map, at, debug).map_err(|r| error::cut_off_as(
+        r,
+        Refusal::TileHeadCutOff(at as u64),
+    ))
 }
 
 // A number of a tile's head.
 fn head_number(map: &[u8], at: usize) -> Read<Noted<u64>>
     ensures { read_by noted_held result ≡ of_head where_byte noted_unsigned map.now at }
 {
-    utils::read_vbe_u_int(map, at).map_err(|r| error::in_tile_head(
+    utils::read_vbe_u_int(map, at).map_err(|r| error::cut_off_as(
         r,
-        zoom_table::missing_byte(map, at),
+        Refusal::TileHeadCutOff(zoom_table::missing_byte(map, at)),
     ))
 }
 
@@ -60,7 +63,8 @@ fn no_features() -> TileHead
 }
 
 // The head of a tile of the levels from min to max, with the sums up to a zoom, and the place behind it. A reversed interval is
-// refused before any byte is read. A tile that its index marks empty has no bytes.
+// refused before any byte is read. A tile that its index marks empty has no bytes. The fields of a FoundTile are parameters, as the
+// definition takes them: a contract that names each is no plainer.
 #[tactic(auto, using(crate::proofs::HeadLaws::heads), unfolding(format::specs::Tile::tile_head))]
 pub fn read_tile_head(
     map: &[u8],

@@ -9,6 +9,7 @@ use Rattle.tag_table.specs.Tables.{kinds_by}
 use Rattle.agreement.specs.Format.{Format}
 use Rattle.agreement.specs.TileFormat.{tile_format}
 use Rattle.tile_layout.specs.declared.TileLayout.{TileLayout}
+use Rattle.tile_layout.specs.declared.TileFormat.{TileFormat}
 
 -- of the listed tag strings the point tags' are the first, and the way tags' stand behind them
 abbrev pub layout_with : (flags : ℕ) (points ways : TagTable) → TileLayout
@@ -29,6 +30,10 @@ pub record TileKinds : Type 0 where
 
 abbrev pub kinds_of : TileLayout → (letters : List ℕ) → TileKinds
 kinds_of l letters = record { debug = l.debug; points = kinds_by letters l.poi_tags; ways = kinds_by letters l.way_tags }
+
+-- the same of a format that is handed in
+abbrev pub tile_kinds : TileFormat → TileKinds
+tile_kinds f = kinds_of f.layout f.letters.now
 
 abbrev pub format_of : TileKinds → Format
 format_of k = tile_format k.debug k.points k.ways

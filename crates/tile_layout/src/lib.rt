@@ -14,6 +14,20 @@ pub struct TileLayout {
     pub debug: bool,
 }
 
+// What says how a tile's features are read: their layout, and the letter of each listed tag's inline value, as opening listed them.
+#[derive(Clone, Copy)]
+pub struct TileFormat<'a> {
+    pub layout: TileLayout,
+    pub letters: &'a [u8],
+}
+
+// The lists that opening filled: where the text of each tag starts, and the letter of its inline value.
+#[derive(Clone, Copy)]
+pub struct TagLists<'a> {
+    pub starts: &'a [u64],
+    pub letters: &'a [u8],
+}
+
 // By the header's flags (80 is a debug map) and tag tables.
 pub fn layout_with(flags: u8, poi_tags: TagTable, way_tags: TagTable) -> TileLayout
     ensures { result ≡ layout_with flags poi_tags way_tags }

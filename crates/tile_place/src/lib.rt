@@ -12,7 +12,7 @@ use error::Refusal;
 use types::{Grid, ZoomInterval};
 
 // `at` is the tile's first byte; 2^64 - 1 stands for any place behind it, and is behind every map's end too. A tile that its index
-// marks empty has no bytes, and 0 stands there.
+// marks empty has no bytes, and 0 stands there: no Option, since its head, which says that it has no features, ends at that 0.
 #[derive(Clone, Copy)]
 pub struct FoundTile {
     pub at: u64,
@@ -96,7 +96,9 @@ fn place_in(
     place_of(map, debug, interval, tile as u32, tiles)
 }
 
-// Refused in this order: sub file (8), grid (14), tile (8), the map's end in its entry and in the next one (19), interval (13).
+// Refused in this order: sub file (8), grid (14), tile (8), the map's end in its entry and in the next one (19), interval (13). Here and in the
+// calls on a tile (`open`, `read_tile`, `collect`, `wanted`) `found`, `grid` and `tile` are parameters, as C hands them in: a struct of them
+// would be made for one call and taken apart here.
 #[tactic(auto, using(index::proofs::AnswerLaws::reads), unfolding(format::specs::Index::locate))]
 pub fn find_tile(
     map: &[u8],

@@ -3,11 +3,11 @@
 
 ghost use Rattle.std.specs.Prelude.{◌≡◌};
 ghost use Rattle.byte_source.specs.Answers.{read_res};
-ghost use Rattle.tile_layout.specs.TileLayout.{kinds_of};
+ghost use Rattle.tile_layout.specs.TileLayout.{tile_kinds};
 ghost use Rattle.tile_walk.specs.TileWalk.{plain_of, said_way, said_ways};
 
 use byte_source::Read;
-use tile_layout::TileLayout;
+use tile_layout::TileFormat;
 
 // Of ways: whether every stored size is the decoded length, and whether every number was plain.
 #[derive(Clone, Copy)]
@@ -17,15 +17,10 @@ pub struct WaysSaid {
 }
 
 // n points: whether every number of theirs was plain.
-pub fn measure_points(
-    map: &[u8],
-    at: usize,
-    n: u64,
-    layout: TileLayout,
-    letters: &[u8],
-) -> Read<bool>
-    ensures { read_res result ≡ plain_of (kinds_of layout letters.now) map.now n at }
+pub fn measure_points(map: &[u8], at: usize, n: u64, format: TileFormat<'_>) -> Read<bool>
+    ensures { read_res result ≡ plain_of (tile_kinds format.entry) map.now n at }
 {
+    let TileFormat { layout, letters } = format;
     let mut all = true;
     let mut next = at;
     for _ in 0..n {
@@ -37,9 +32,10 @@ pub fn measure_points(
 }
 
 // One way: its decoded length is counted from its data start, as its stored size is.
-pub fn measure_way(map: &[u8], at: usize, layout: TileLayout, letters: &[u8]) -> Read<WaysSaid>
-    ensures { read_res result ≡ said_way (kinds_of layout letters.now) map.now at }
+pub fn measure_way(map: &[u8], at: usize, format: TileFormat<'_>) -> Read<WaysSaid>
+    ensures { read_res result ≡ said_way (tile_kinds format.entry) map.now at }
 {
+    let TileFormat { layout, letters } = format;
     let (head, start) = way_head::read_way_head(map, at, layout.debug, letters, layout.way_tags)?;
     let (body, behind) = way::measure_way_body(map, start)?;
     let said = WaysSaid {
@@ -50,20 +46,14 @@ pub fn measure_way(map: &[u8], at: usize, layout: TileLayout, letters: &[u8]) ->
 }
 
 // n ways. A loop of its own: one for both, by a closure, would need the parser and its view beside it.
-pub fn measure_ways(
-    map: &[u8],
-    at: usize,
-    n: u64,
-    layout: TileLayout,
-    letters: &[u8],
-) -> Read<WaysSaid>
-    ensures { read_res result ≡ said_ways (kinds_of layout letters.now) map.now n at }
+pub fn measure_ways(map: &[u8], at: usize, n: u64, format: TileFormat<'_>) -> Read<WaysSaid>
+    ensures { read_res result ≡ said_ways (tile_kinds format.entry) map.now n at }
 {
     let mut exact = true;
     let mut plain = true;
     let mut next = at;
     for _ in 0..n {
-        let (one, after) = measure_way(map, next, layout, letters)?;
+        let (one, after) = measure_way(map, next, format)?;
         exact &= one.exact;
         plain &= one.plain;
         next = after;

@@ -93,6 +93,7 @@ pub struct MapHeader {
     pub created_by: Option<Span>,
     pub poi_tags: TagTable,
     pub way_tags: TagTable,
+    // an array, since the header is handed out by value and there is no heap
     pub zoom_interval_configuration: [ZoomInterval; 255],
 }
 

@@ -36,12 +36,6 @@ struct Groups {
     weight: u64,
 }
 
-fn wide(x: u8) -> u64
-    ensures { result ≡ x }
-{
-    x as u64
-}
-
 // The last byte's data is its remainder by `last`.
 fn read_groups(map: &[u8], at: usize, last: u64) -> Read<Groups>
     requires { (0 < last) × (last ≤ 128) }
@@ -56,7 +50,7 @@ fn read_groups(map: &[u8], at: usize, last: u64) -> Read<Groups>
         if map.len() <= at + i {
             return Err(Refusal::Source);
         }
-        let b = wide(map[at + i]);
+        let b = map[at + i] as u64;
         if b < 128 {
             let groups = Groups {
                 magnitude: v + w * (b % last),
@@ -94,7 +88,7 @@ pub fn read_vbe_u_int(map: &[u8], at: usize) -> Read<Noted<u64>>
     if map.len() <= at {
         return Err(Refusal::Source);
     }
-    let b = wide(map[at]);
+    let b = map[at] as u64;
     if b < 128 {
         let number = Noted {
             value: b,
@@ -157,7 +151,7 @@ pub fn read_vbe_s_int(map: &[u8], at: usize) -> Read<Noted<i64>>
     if map.len() <= at {
         return Err(Refusal::Source);
     }
-    let b = wide(map[at]);
+    let b = map[at] as u64;
     if b < 128 {
         let number = Noted {
             value: signed_of(b % 64, b / 64),

@@ -10,14 +10,14 @@ ghost use Rattle.format.specs.BodyLists.{body_lists};
 ghost use Rattle.format.specs.Tile.{body};
 ghost use Rattle.agreement.specs.Stream.{idle, waits, on_next, on_accept, on_decline};
 ghost use Rattle.agreement.specs.TileFormat.{note_plain, note_body, whole_body};
-ghost use Rattle.tile_layout.specs.TileLayout.{kinds_of, format_of};
+ghost use Rattle.tile_layout.specs.TileLayout.{tile_kinds, format_of};
 ghost use Rattle.visit.specs.Visit.{end_of, state_of, open_tile, opened_at, open_res, shown_step, answered_of, next_of, next_step, accept_of, accept_step, streamed_body, streamed_head, decline_step};
 
 use byte_source::Span;
 use error::{LentRefusal, Refusal};
 use poi::Poi;
 use tagged::TagIds;
-use tile_layout::TileLayout;
+use tile_layout::{TileFormat, TileLayout};
 use tile_place::FoundTile;
 use types::{Grid, Position, ZoomInterval};
 use way::WayBody;
@@ -151,14 +151,14 @@ fn kept_if_refused<T, E>(got: Result<(T, Stream), E>, before: Stream) -> Answere
 
 fn next_point(
     map: &[u8],
-    layout: TileLayout,
-    letters: &[u8],
+    format: TileFormat<'_>,
     rest: Remaining,
     end: TileEnd,
 ) -> Result<(Given, Stream), Refusal>
     requires { 0 < rest.points }
-    ensures { next_of result (idle rest.points rest.ways rest.at rest.way (end_of end)) ≡ shown_step (on_next (format_of (kinds_of layout letters.now)) map.now (idle rest.points rest.ways rest.at rest.way (end_of end))) }
+    ensures { next_of result (idle rest.points rest.ways rest.at rest.way (end_of end)) ≡ shown_step (on_next (format_of (tile_kinds format.entry)) map.now (idle rest.points rest.ways rest.at rest.way (end_of end))) }
 {
+    let TileFormat { layout, letters } = format;
     let (poi, at) = poi::read_poi(map, rest.at, layout.debug, letters, layout.poi_tags)?;
     let turn = Turn::Idle(Remaining {
         points: rest.points - 1,
@@ -173,14 +173,14 @@ fn next_point(
 
 fn next_way(
     map: &[u8],
-    layout: TileLayout,
-    letters: &[u8],
+    format: TileFormat<'_>,
     rest: Remaining,
     end: TileEnd,
 ) -> Result<(Given, Stream), Refusal>
     requires { (rest.points ≤ 0) × (0 < rest.ways) }
-    ensures { next_of result (idle rest.points rest.ways rest.at rest.way (end_of end)) ≡ shown_step (on_next (format_of (kinds_of layout letters.now)) map.now (idle rest.points rest.ways rest.at rest.way (end_of end))) }
+    ensures { next_of result (idle rest.points rest.ways rest.at rest.way (end_of end)) ≡ shown_step (on_next (format_of (tile_kinds format.entry)) map.now (idle rest.points rest.ways rest.at rest.way (end_of end))) }
 {
+    let TileFormat { layout, letters } = format;
     let tags = layout.way_tags;
     let (head, body) = way_head::read_way_head(map, rest.way, layout.debug, letters, tags)?;
     let past = arithmetic::saturating_add_usize(head.start, head.size as usize);
@@ -197,18 +197,17 @@ fn next_way(
 // While no way waits: a point, then a way's head, at last the end.
 fn next_idle(
     map: &[u8],
-    layout: TileLayout,
-    letters: &[u8],
+    format: TileFormat<'_>,
     rest: Remaining,
     end: TileEnd,
 ) -> Result<(Given, Stream), Refusal>
-    ensures { next_of result (idle rest.points rest.ways rest.at rest.way (end_of end)) ≡ shown_step (on_next (format_of (kinds_of layout letters.now)) map.now (idle rest.points rest.ways rest.at rest.way (end_of end))) }
+    ensures { next_of result (idle rest.points rest.ways rest.at rest.way (end_of end)) ≡ shown_step (on_next (format_of (tile_kinds format.entry)) map.now (idle rest.points rest.ways rest.at rest.way (end_of end))) }
 {
     if 0 < rest.points {
-        return next_point(map, layout, letters, rest, end);
+        return next_point(map, format, rest, end);
     }
     if 0 < rest.ways {
-        return next_way(map, layout, letters, rest, end);
+        return next_way(map, format, rest, end);
     }
     let turn = Turn::Idle(rest);
     Ok((Given::End(end), Stream { turn, end }))
@@ -216,13 +215,8 @@ fn next_idle(
 
 // The next point; after the last point the next way's head, which then waits; at last the end, again and again. 16 while a way waits.
 // Inline values are skipped by the listed letters.
-pub fn next(
-    map: &[u8],
-    layout: TileLayout,
-    letters: &[u8],
-    stream: Stream,
-) -> Answered<Result<Given, Refusal>>
-    ensures { next_step result ≡ shown_step (on_next (format_of (kinds_of layout letters.now)) map.now (state_of «stream»)) }
+pub fn next(map: &[u8], format: TileFormat<'_>, stream: Stream) -> Answered<Result<Given, Refusal>>
+    ensures { next_step result ≡ shown_step (on_next (format_of (tile_kinds format.entry)) map.now (state_of «stream»)) }
 {
     let Turn::Idle(rest) = stream.turn else {
         return Answered {
@@ -230,10 +224,11 @@ pub fn next(
             stream,
         };
     };
-    kept_if_refused(next_idle(map, layout, letters, rest, stream.end), stream)
+    kept_if_refused(next_idle(map, format, rest, stream.end), stream)
 }
 
 // The body of the way that waits, and the stream behind it.
+// Here and below each list is a parameter: of a struct of &muts every function would have to promise, too, that its fields are the same lists.
 fn accept_way(
     map: &[u8],
     way: WaitingWay,

@@ -10,14 +10,14 @@ ghost use Rattle.types.specs.Types.{grid_of};
 ghost use Rattle.index.specs.Answers.{interval_found, answer_res};
 ghost use Rattle.agreement.specs.Stream.{idle};
 ghost use Rattle.agreement.specs.TileFormat.{TileEnd};
-ghost use Rattle.tile_layout.specs.TileLayout.{kinds_of, format_of};
+ghost use Rattle.tile_layout.specs.TileLayout.{tile_kinds, format_of};
 ghost use Rattle.visit.specs.Visit.{opened_at};
 ghost use Rattle.wanted.specs.Taken.{accepts, taken_way, taken_ways};
 ghost use Rattle.wanted.specs.Wanted.{greatest, point_text, wanted_state, wanted_after, wanted_tile, body_figures, one_way, all_ways, joined, span_size, figures_of};
 
 use byte_source::{Read, Span};
 use error::Refusal;
-use tile_layout::TileLayout;
+use tile_layout::TileFormat;
 use tile_place::FoundTile;
 use types::{Grid, ZoomInterval};
 use visit::Remaining;
@@ -43,12 +43,6 @@ struct WayFigures {
     text: u64,
 }
 
-fn larger(a: u64, b: u64) -> u64
-    ensures { result ≡ max a b }
-{
-    a.max(b)
-}
-
 // The stored size of a text; 0 where there is none.
 fn text_size(text: Option<Span>) -> u64
     ensures { result ≡ span_size text }
@@ -60,25 +54,23 @@ fn text_size(text: Option<Span>) -> u64
 }
 
 // One point: its longer text, and the place behind it.
-fn point_text(map: &[u8], at: usize, layout: TileLayout, letters: &[u8]) -> Read<u64>
-    ensures { read_res result ≡ map_res point_text ((format_of (kinds_of layout letters.now)).point map.now at) }
+fn point_text(map: &[u8], at: usize, format: TileFormat<'_>) -> Read<u64>
+    ensures { read_res result ≡ map_res point_text ((format_of (tile_kinds format.entry)).point map.now at) }
 {
+    let TileFormat { layout, letters } = format;
     let (poi, next) = poi::read_poi(map, at, layout.debug, letters, layout.poi_tags)?;
-    Ok((
-        larger(text_size(poi.name), text_size(poi.house_number)),
-        next,
-    ))
+    Ok((text_size(poi.name).max(text_size(poi.house_number)), next))
 }
 
 // n points.
-fn points_text(map: &[u8], at: usize, n: u64, layout: TileLayout, letters: &[u8]) -> Read<u64>
-    ensures { read_res result ≡ map_res (greatest point_text) (many (format_of (kinds_of layout letters.now)).point n map.now at) }
+fn points_text(map: &[u8], at: usize, n: u64, format: TileFormat<'_>) -> Read<u64>
+    ensures { read_res result ≡ map_res (greatest point_text) (many (format_of (tile_kinds format.entry)).point n map.now at) }
 {
     let mut longest = 0;
     let mut next = at;
-    for i in 0..n {
-        let (text, after) = point_text(map, next, layout, letters)?;
-        longest = larger(longest, text);
+    for _ in 0..n {
+        let (text, after) = point_text(map, next, format)?;
+        longest = longest.max(text);
         next = after;
     }
     Ok((longest, next))
@@ -107,12 +99,12 @@ fn no_figures() -> WayFigures
 fn body_figures(body: WayBody) -> WayFigures
     ensures { result ≡ figures_of body }
 {
-    let longer = larger(text_size(body.name), text_size(body.house_number));
+    let longer = text_size(body.name).max(text_size(body.house_number));
     WayFigures {
         ways: 1,
         blocks: body.blocks,
         nodes: body.nodes,
-        text: larger(longer, text_size(body.reference)),
+        text: longer.max(text_size(body.reference)),
     }
 }
 
@@ -123,9 +115,9 @@ fn both_figures(a: WayFigures, b: WayFigures) -> WayFigures
 {
     WayFigures {
         ways: a.ways + b.ways,
-        blocks: larger(a.blocks, b.blocks),
-        nodes: larger(a.nodes, b.nodes),
-        text: larger(a.text, b.text),
+        blocks: a.blocks.max(b.blocks),
+        nodes: a.nodes.max(b.nodes),
+        text: a.text.max(b.text),
     }
 }
 
@@ -138,15 +130,10 @@ fn measure_body(map: &[u8], at: usize) -> Read<WayFigures>
 }
 
 // One way. The body of a declined one is not read: its data start plus stored size lead past it.
-fn measure_way(
-    map: &[u8],
-    at: usize,
-    accepted: bool,
-    layout: TileLayout,
-    letters: &[u8],
-) -> Read<WayFigures>
-    ensures { read_res result ≡ map_res (one_way (kinds_of layout letters.now)) (taken_way (format_of (kinds_of layout letters.now)) accepted map.now at) }
+fn measure_way(map: &[u8], at: usize, accepted: bool, format: TileFormat<'_>) -> Read<WayFigures>
+    ensures { read_res result ≡ map_res (one_way (tile_kinds format.entry)) (taken_way (format_of (tile_kinds format.entry)) accepted map.now at) }
 {
+    let TileFormat { layout, letters } = format;
     let (head, start) = way_head::read_way_head(map, at, layout.debug, letters, layout.way_tags)?;
     if accepted {
         return measure_body(map, start);
@@ -160,17 +147,16 @@ fn measure_ways(
     map: &[u8],
     at: usize,
     n: u64,
-    layout: TileLayout,
-    letters: &[u8],
+    format: TileFormat<'_>,
     decisions: &[u8],
 ) -> Read<WayFigures>
-    ensures { read_res result ≡ map_res (all_ways (kinds_of layout letters.now)) (taken_ways (format_of (kinds_of layout letters.now)) decisions.now 0 n map.now at) }
+    ensures { read_res result ≡ map_res (all_ways (tile_kinds format.entry)) (taken_ways (format_of (tile_kinds format.entry)) decisions.now 0 n map.now at) }
 {
     let mut all = no_figures();
     let mut next = at;
     for i in 0..n {
         let accepted = is_accepted(decisions, i);
-        let (one, after) = measure_way(map, next, accepted, layout, letters)?;
+        let (one, after) = measure_way(map, next, accepted, format)?;
         all = both_figures(all, one);
         next = after;
     }
@@ -180,21 +166,20 @@ fn measure_ways(
 // What remains of a stream where no way waits.
 fn wanted_of(
     map: &[u8],
-    layout: TileLayout,
-    letters: &[u8],
+    format: TileFormat<'_>,
     rest: Remaining,
     decisions: &[u8],
 ) -> Result<WantedFigures, Refusal>
-    ensures { (z : TileEnd) → answer_res result ≡ wanted_state (kinds_of layout letters.now) decisions.now map.now (idle rest.points rest.ways rest.at rest.way z) }
+    ensures { (z : TileEnd) → answer_res result ≡ wanted_state (tile_kinds format.entry) decisions.now map.now (idle rest.points rest.ways rest.at rest.way z) }
 {
-    let (text, _) = points_text(map, rest.at, rest.points, layout, letters)?;
-    let (all, _) = measure_ways(map, rest.way, rest.ways, layout, letters, decisions)?;
+    let (text, _) = points_text(map, rest.at, rest.points, format)?;
+    let (all, _) = measure_ways(map, rest.way, rest.ways, format, decisions)?;
     Ok(WantedFigures {
         points: rest.points,
         ways: all.ways,
         blocks: all.blocks,
         nodes: all.nodes,
-        text: larger(text, all.text),
+        text: text.max(all.text),
     })
 }
 
@@ -202,18 +187,17 @@ fn wanted_of(
 fn wanted_at(
     map: &[u8],
     place: FoundTile,
-    layout: TileLayout,
-    letters: &[u8],
+    format: TileFormat<'_>,
     zoom: u8,
     decisions: &[u8],
 ) -> Result<WantedFigures, Refusal>
-    ensures { answer_res result ≡ wanted_after layout letters.now decisions.now map.now (opened_at layout.debug 0 zoom place map.now) }
+    ensures { answer_res result ≡ wanted_after format.entry.layout format.entry.letters.now decisions.now map.now (opened_at format.entry.layout.debug 0 zoom place map.now) }
 {
     let (head, at) = tile_head::read_tile_head(
         map,
         place.at as usize,
         place.empty,
-        layout.debug,
+        format.layout.debug,
         place.min_zoom,
         place.max_zoom,
         zoom,
@@ -226,7 +210,7 @@ fn wanted_at(
         at,
         way,
     };
-    wanted_of(map, layout, letters, rest, decisions)
+    wanted_of(map, format, rest, decisions)
 }
 
 // The figures of a tile's stream at a zoom, where byte j of the decisions decides way j: 0 declines it, any other accepts it, and behind
@@ -234,16 +218,15 @@ fn wanted_at(
 // head as `visit::open` does, and not by it: with one caller, that is inlined where streams are opened.
 pub fn wanted(
     map: &[u8],
-    layout: TileLayout,
-    letters: &[u8],
+    format: TileFormat<'_>,
     found: Option<ZoomInterval>,
     grid: Grid,
     tile: usize,
     zoom: u8,
     decisions: &[u8],
 ) -> Result<WantedFigures, Refusal>
-    ensures { answer_res result ≡ wanted_tile layout letters.now (interval_found found) (grid_of grid) tile zoom decisions.now map.now }
+    ensures { answer_res result ≡ wanted_tile format.entry.layout format.entry.letters.now (interval_found found) (grid_of grid) tile zoom decisions.now map.now }
 {
-    let place = tile_place::find_tile(map, layout.debug, found, grid, tile)?;
-    wanted_at(map, place, layout, letters, zoom, decisions)
+    let place = tile_place::find_tile(map, format.layout.debug, found, grid, tile)?;
+    wanted_at(map, place, format, zoom, decisions)
 }

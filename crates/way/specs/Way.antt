@@ -8,7 +8,8 @@ use Rattle.format.specs.Tile.{Body, double_delta}
 use Rattle.types.specs.Types.{optional_span, optional_position}
 use Rattle.way_fields.specs.declared.WayFields.{WayFields}
 use Rattle.way_measure.specs.declared.Sizes.{Sizes}
-use Rattle.way_data.specs.Reply.{lent_by, lent}
+use Rattle.byte_source.specs.Answers.{lent_res}
+use Rattle.way_data.specs.Reply.{lent}
 use Rattle.way.specs.declared.WayBody.{WayBody}
 
 -- a way's fields, with the sizes of its data
@@ -39,4 +40,4 @@ body_of b = record {
 
 -- an answer of the code, with the lists after the call
 abbrev pub body_reply : Result (WayBody × ℕ) LentRefusal → List ℕ → List Float → List Float → Reply (Res WayBody)
-body_reply r counts lats lons = record { answer = lent_by (λ b. b) r; lists = lent counts lats lons }
+body_reply r counts lats lons = record { answer = lent_res r; lists = lent counts lats lons }

@@ -55,6 +55,7 @@ pub fn measure_way_body(map: &[u8], at: usize) -> Read<WayBody>
 }
 
 // The body of a way, decoded whole; then its node counts, latitudes and longitudes go to the fronts of the lists.
+// Each list is a parameter: of a struct of &muts every function would have to promise, too, that its fields are the same lists.
 pub fn read_way_body(
     map: &[u8],
     at: usize,

@@ -1,9 +1,9 @@
 -- Document 01, "The stream and the collected tile": a way body is decoded whole, then its node counts, latitudes and longitudes go to
 -- the front of three lent lists.
-use Rattle.std.specs.Prelude.{ℕ, Bool, List, Float, Result, Ok, Err}
-use Rattle.parsing.specs.Parse.{Res, ok}
-use Rattle.error.specs.Refusals.{lent_refused}
+use Rattle.std.specs.Prelude.{ℕ, Bool, List, Float, Result}
+use Rattle.parsing.specs.Parse.{Res}
 use Rattle.error.specs.declared.LentRefusal.{LentRefusal}
+use Rattle.byte_source.specs.Answers.{lent_res}
 use Rattle.format.specs.Lent.{LentLists, Reply, deliver}
 use Rattle.utils.specs.Vbe.{Noted, values_of}
 use Rattle.format.specs.WayData.{Node, concat}
@@ -18,11 +18,6 @@ lent counts lats lons = record { counts = counts; latitudes = lats; longitudes =
 abbrev pub read_way_data : Bool → Res (List (Noted (List (List Node)))) → List ℕ → List Float → List Float → Reply (Res Sizes)
 read_way_data double r counts lats lons = deliver way_sizes (λ d. way_lists double (concat (values_of d))) r (lent counts lats lons)
 
--- an answer of the code: a value, seen as the format has it, with the place behind it, or why there is none
-abbrev pub lent_by : {A C : Type 0} → (A → C) → Result (A × ℕ) LentRefusal → Res C
-lent_by view (Ok (a, n)) = ok (view a) n
-lent_by view (Err r) = lent_refused r
-
--- with the lists after the call
+-- an answer of the code, with the lists after the call
 abbrev pub reply : Result (Sizes × ℕ) LentRefusal → List ℕ → List Float → List Float → Reply (Res Sizes)
-reply r counts lats lons = record { answer = lent_by (λ s. s) r; lists = lent counts lats lons }
+reply r counts lats lons = record { answer = lent_res r; lists = lent counts lats lons }

@@ -140,6 +140,7 @@ fn known_node(map: &[u8], at: usize) -> (Node, usize)
 }
 
 // The nodes behind the first.
+// Here and below each list is a parameter: of a struct of &muts every function would have to promise, too, that its fields are the same lists.
 fn write_later(
     map: &[u8],
     at: usize,
@@ -258,7 +259,7 @@ fn write_data_block(
     write_blocks(map, place, n, double, counts, latitudes, longitudes)
 }
 
-// The second pass.
+// The second pass. One function for this and `write_blocks` would take the step with its contract of two numbers and three lists: no plainer.
 fn write_way_data(
     map: &[u8],
     from: Progress,
@@ -293,9 +294,7 @@ fn too_short(s: Sizes) -> LentRefusal
         list1: s.blocks,
         list2: s.nodes,
         list3: s.nodes,
-        list4: 0,
-        list5: 0,
-        buffer: 0,
+        ..Lengths::NONE
     })
 }
 

@@ -36,7 +36,7 @@ struct Announced {
     plain: bool,
 }
 
-// Latitude, then longitude, in degrees.
+// Latitude, then longitude, in degrees. One function for this and `read_noted_text` would take a reader with its view and parser: no plainer.
 fn read_label(map: &[u8], at: usize, flag: bool) -> Read<Noted<Option<Position>>>
     ensures { read_by noted_held result ≡ map_res label_of (optional flag node map.now at) }
 {

@@ -37,7 +37,7 @@ pub fn read_way_head(
     let (signature, at) = fields::read_signature(map, at, debug)?;
     let (size, start) = utils::read_vbe_u_int(map, at)?;
     let (bitmap, next) = byte_source::read_u16_be(map, start)?;
-    let (tagged, next) = tagged::read_tagged(map, next, letters, tags)?;
+    let (tagged, body) = tagged::read_tagged(map, next, letters, tags)?;
     let head = WayHead {
         signature,
         size: size.value,
@@ -47,5 +47,5 @@ pub fn read_way_head(
         tag_ids: tagged.tag_ids,
         plain: size.plain & tagged.plain,
     };
-    Ok((head, next))
+    Ok((head, body))
 }

@@ -10,11 +10,12 @@ pub struct ListPlan {
     pub blocks: usize,
 }
 
-// What is planned of a way's body. If one of the first three lists is too short, all three stay as they are, and the initial positions
+// What is planned of a way's body; with no plan nothing is written. If one of the first three lists is too short, all three stay as they are, and the initial positions
 // are found in what they hold: a caller tests the room first. A list of initial positions that is too short stays as it is.
+// Each list is a parameter: of a struct of &muts every function would have to promise, too, that its fields are the same lists.
 pub fn write_lists(
     map: &[u8],
-    plan: ListPlan,
+    plan: Option<ListPlan>,
     node_counts: &mut [u64],
     latitudes: &mut [f64],
     longitudes: &mut [f64],
@@ -23,6 +24,9 @@ pub fn write_lists(
 )
     ensures { ListsWritten map.now plan node_counts.old latitudes.old longitudes.old initial_latitudes.old initial_longitudes.old node_counts.new latitudes.new longitudes.new initial_latitudes.new initial_longitudes.new }
 {
+    let Some(plan) = plan else {
+        return;
+    };
     // a body that is refused writes nothing
     let _ = way::read_way_body(map, plan.start, node_counts, latitudes, longitudes);
     let n = plan.blocks.min(node_counts.len());

@@ -3,10 +3,10 @@
 // k / columns.
 #![tactic(auto)]
 
-ghost use Rattle.std.specs.Prelude.{◌≡◌, ◌%◌, ◌^◌, ◌≤◌, ◌<◌, pos, nat_abs, ◌+ℤ◌, ◌-ℤ◌};
+ghost use Rattle.std.specs.Prelude.{◌≡◌, ◌%◌, ◌^◌, ◌≤◌, ◌<◌, pos, ◌+ℤ◌};
 ghost use Rattle.byte_source.specs.BigEndian.{twos_complement};
 ghost use Rattle.format.specs.Index.{width, row_major};
-ghost use Rattle.index.specs.Asked.{Ordered, Inside};
+ghost use Rattle.index.specs.Asked.{Inside};
 ghost use Rattle.types.specs.Types.{grid_of};
 ghost use Rattle.index.specs.Answers.{maybe_by, answer_by, answer_res};
 ghost use Rattle.window.specs.Window.{first_of, count_of, columns_of, rows_of, mask_of, touched_tile, window_count, window_tile, shares_cell};
@@ -45,12 +45,7 @@ struct Ends {
 fn bias(v: i64) -> u64
     ensures { result ≡ biased (2 ^ 63) v }
 {
-    if v < 0 {
-        let n = (-1 - v) as u64;
-        return 9223372036854775807 - n;
-    }
-    let n = v as u64;
-    9223372036854775808 + n
+    v.abs_diff(i64::MIN)
 }
 
 // A tile's number plus 2^61, a quarter of 2^63: so it compares with the quotients.
@@ -64,7 +59,7 @@ fn tile_bias(v: i32) -> u64
 fn unbias(n: u64) -> i32
     ensures { result ≡ twos_complement (n % 2 ^ 32) }
 {
-    byte_source::to_i32((n % 4294967296) as u32)
+    ((n % 4294967296) as u32).cast_signed()
 }
 
 // The first column or row that is in the grid and touched, if one is,
@@ -185,23 +180,15 @@ fn axis_tile(grid_low: i32, grid_high: i32, low: i64, high: i64, i: u64) -> i32
     unbias(first + i)
 }
 
-// From low up to high. This and row_major stand beside index's: shared they were public, and a public function has no `requires` (project
-// rule); one that tests the grid again for each tile is no plainer.
-fn steps(low: i32, high: i32) -> u64
-    requires { Ordered low high }
-    ensures { (result ≡ nat_abs (high -ℤ low)) × (result < 2 ^ 32) }
-{
-    (high as i64 - low as i64) as u64
-}
-
-// Of a tile in the grid.
+// Of a tile in the grid. It stands beside index's: shared it were public, and a public function has no `requires` (project rule); one that
+// tests the grid again for each tile is no plainer.
 fn row_major(grid: Grid, x: i32, y: i32) -> usize
     requires { Inside (grid_of grid) x y }
     ensures { result ≡ row_major (grid_of grid) x y }
 {
-    let row = steps(grid.y_min, y);
-    let column = steps(grid.x_min, x);
-    let last = steps(grid.x_min, grid.x_max);
+    let row = y.abs_diff(grid.y_min) as u64;
+    let column = x.abs_diff(grid.x_min) as u64;
+    let last = grid.x_max.abs_diff(grid.x_min) as u64;
     (row * (last + 1) + column) as usize
 }
 

@@ -35,8 +35,8 @@ pub fn put_window_tile(
             0
         }
         Ok(Some(t)) => {
-            let column = wire::wide_i32(t.x);
-            let row = wire::wide_i32(t.y);
+            let column = i64::from(t.x);
+            let row = i64::from(t.y);
             column_row[0] = column;
             column_row[1] = row;
             words[6] = 1;

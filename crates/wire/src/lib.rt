@@ -2,11 +2,9 @@
 // all 0.
 #![tactic(auto)]
 
-ghost use Rattle.std.specs.Prelude.{◌≡◌, cond, ◌<◌, ◌^◌, set};
-ghost use Rattle.std.specs.Int.Signed.{mag};
+ghost use Rattle.std.specs.Prelude.{◌≡◌, ◌<◌, set};
 ghost use Rattle.std.proofs.lemmas.List.Edits.{sets};
 ghost use Rattle.error.specs.Refusals.{number_of, values_of, lent_number, lent_values};
-ghost use Rattle.wire.specs.Wire.{truth};
 ghost use Rattle.wire.specs.Elevation.{metre_words};
 ghost use Rattle.wire.specs.Verdicts.{value_list, span_words, place_words};
 
@@ -137,31 +135,7 @@ pub fn metre_words(elevation: Option<i32>) -> MetreWords
         },
         Some(m) => MetreWords {
             present: 1,
-            metres: wide_i32(m),
+            metres: i64::from(m),
         },
     }
-}
-
-pub fn bit(b: bool) -> u64
-    ensures { result ≡ cond b 1 0 }
-{
-    u64::from(b)
-}
-
-pub fn truth_of(word: u64) -> bool
-    ensures { result ≡ truth word }
-{
-    0 < word
-}
-
-pub fn wide_i8(x: i8) -> i64
-    ensures { (result ≡ x) × (mag result < 2 ^ 63) }
-{
-    x as i64
-}
-
-pub fn wide_i32(x: i32) -> i64
-    ensures { (result ≡ x) × (mag result < 2 ^ 63) }
-{
-    x as i64
 }

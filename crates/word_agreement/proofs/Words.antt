@@ -28,7 +28,8 @@ use Rattle.types.specs.declared.MapHeader.{MapHeader}
 use Rattle.types.specs.declared.HeaderFields.{HeaderFields}
 use Rattle.types.specs.declared.IntervalTable.{IntervalTable}
 use Rattle.header.specs.HeaderView.{header_fields, map_header}
-use Rattle.opening.specs.Opening.{lent_res, OpenIs}
+use Rattle.byte_source.specs.Answers.{lent_res}
+use Rattle.opening.specs.Opening.{OpenIs}
 use Rattle.opening.proofs.OpenedLaws.{OpenedWith, opened_with}
 use Rattle.header.proofs.HeaderLaws.{intervals-back}
 use Rattle.index.specs.Answers.{interval_found, answer_by}

@@ -17,7 +17,7 @@ use byte_source::Read;
 use error::Refusal;
 use types::{IntervalTable, ZoomInterval};
 
-// Up to 255 intervals, filled from the front.
+// Up to 255 intervals, filled from the front. An array with a count, since it is handed out by value and there is no heap.
 #[derive(Clone, Copy)]
 pub struct ZoomIntervals {
     pub intervals: [ZoomInterval; 255],

@@ -22,7 +22,7 @@ pub struct ZoomRow {
     pub ways: u64,
 }
 
-// Rows from the front, zeros behind them.
+// Rows from the front, zeros behind them. An array with a count, since it is handed out by value and there is no heap.
 #[derive(Clone, Copy)]
 pub struct ZoomTable {
     pub rows: [ZoomRow; 256],
@@ -173,15 +173,18 @@ pub fn missing_byte(map: &[u8], at: usize) -> u64
 pub fn read_zoom_table(map: &[u8], at: usize, min: u8, max: u8) -> Read<ZoomTable>
     ensures { read_res result ≡ map_res rows_of (map_res values_of (interval_table min max map.now at)) }
 {
-    read_table_numbers(map, at, min, max).map_err(|r| error::in_tile_head(r, missing_byte(map, at)))
+    read_table_numbers(map, at, min, max).map_err(|r| error::cut_off_as(
+        r,
+        Refusal::TileHeadCutOff(missing_byte(map, at)),
+    ))
 }
 
 // The sums of a zoom table, and the place behind it. A map that ends in it is refused with 20.
 pub fn sum_zoom_table(map: &[u8], at: usize, min: u8, max: u8, zoom: u8) -> Read<Noted<Sums>>
     ensures { read_by noted_held result ≡ map_res (noted_sums min max zoom) (interval_table min max map.now at) }
 {
-    sum_table_numbers(map, at, min, max, zoom).map_err(|r| error::in_tile_head(
+    sum_table_numbers(map, at, min, max, zoom).map_err(|r| error::cut_off_as(
         r,
-        missing_byte(map, at),
+        Refusal::TileHeadCutOff(missing_byte(map, at)),
     ))
 }

@@ -8,4 +8,4 @@ returns-then-refused-ne0 c =
 
 pub returns : goal.returns
 returns c =
-    skip-crosses _ _ _ _ _ _ _ _ _ _ _ _ c.mapsforge_stream_decline-refused.ensures c.sized-counted.ensures.1 (omega (arith, c.if-refused-ne0.false)) _ _ _ _ _ _ c.mapsforge_stream_next-number.ensures _ _ c.put_back.ensures
+    skip-crosses _ _ _ _ _ _ _ _ _ _ _ _ c.mapsforge_stream_decline-refused.ensures (omega arith) (omega (arith, c.if-refused-ne0.false)) _ _ _ _ _ _ c.mapsforge_stream_next-number.ensures _ _ c.put_back.ensures

@@ -7,7 +7,7 @@ returns-in_err-measured c =
     let p = err_from_is_err_and c.from_residual.result c.from_residual.ensures.1 in
     rw (p.1, p.2)
     (refused_as
-    c.args.debug c.args.starts.now c.args.letters.now c.args.tags c.args.map.now c.args.at
+    c.args.debug c.args.lists.starts.now c.args.lists.letters.now c.args.tags c.args.map.now c.args.at
     c.args.node_counts.now c.args.latitudes.now c.args.longitudes.now c.args.initial_latitudes.now c.args.initial_longitudes.now c.args.buffer.now
     _ c.in_err-measured.ensures)
 
@@ -17,7 +17,7 @@ write_texts-requires c = ids-in _ _ _ _ _ _ _ _ _ c.in_ok-measured.ensures
 pub returns : goal.returns
 returns c =
     way-fetched
-    c.args.debug c.args.starts.now c.args.letters.now c.args.tags c.args.map.now c.args.at
+    c.args.debug c.args.lists.starts.now c.args.lists.letters.now c.args.tags c.args.map.now c.args.at
     c.args.node_counts.now c.args.latitudes.now c.args.longitudes.now c.args.initial_latitudes.now c.args.initial_longitudes.now c.args.buffer.now
     c.in_ok-measured.measured
     c.in_ok-measured.next

@@ -3,6 +3,6 @@ use mathlib.Core.Path.{◌≡◌}
 use Rattle.format.specs.IntervalTable.{rows_signed}
 use Rattle.opening.proofs.check_signatures.Given as goal
 
-abbrev pub invariant-loop-i : goal.invariant-loop-i
-invariant-loop-i l =
-    rows_signed (l.fn.table.count - l.i) l.map l.at ≡ rows_signed l.fn.table.count l.map l.fn.table.start
+abbrev pub invariant-loop : goal.invariant-loop
+invariant-loop l =
+    rows_signed (l.fn.table.count - l.counter) l.map l.at ≡ rows_signed l.fn.table.count l.map l.fn.table.start

@@ -9,4 +9,4 @@ use Rattle.quick_head.proofs.quick_values.Given as goal
 
 abbrev pub invariant-loop-i : goal.invariant-loop-i
 invariant-loop-i l =
-    (l.next ≤ length l.map) × (map_res are_plain (values (kinds_in l.letters l.first l.tags) (drop l.i (take l.count l.ids)) l.map l.next) ≡ map_res are_plain (values (kinds_in l.letters l.first l.tags) (take l.count l.ids) l.map l.at))
+    (l.next ≤ length l.map) × (map_res are_plain (values (kinds_in l.letters l.tags.first l.tags.count) (drop l.i (take l.count l.ids)) l.map l.next) ≡ map_res are_plain (values (kinds_in l.letters l.tags.first l.tags.count) (take l.count l.ids) l.map l.at))

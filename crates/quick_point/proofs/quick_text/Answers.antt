@@ -5,4 +5,4 @@ pub returns-then-not-flag : goal.returns-then-not-flag
 returns-then-not-flag c = search texts
 
 pub returns : goal.returns
-returns c = search texts
+returns c = search (texts, c.in_ok-size.ensures)

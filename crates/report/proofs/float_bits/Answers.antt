@@ -1,5 +1,9 @@
-use Rattle.report.proofs.WordLaws.{no_nan}
+use Rattle.std.proofs.Common.{sym, ◌∙◌}
+use Rattle.report.proofs.WordLaws.{differs}
 use Rattle.report.proofs.float_bits.Goals as goal
 
-pub float_to_bits-result : goal.float_to_bits-result
-float_to_bits-result c = no_nan _ c.if-x.false
+pub returns-then-is_nan : goal.returns-then-is_nan
+returns-then-is_nan c = rw (differs c.args.x ∙ sym c.is_nan.ensures.value ∙ c.if-is_nan.true)
+
+pub returns : goal.returns
+returns c = rw (differs c.args.x ∙ sym c.is_nan.ensures.value ∙ c.if-is_nan.false)

@@ -10,8 +10,8 @@ overflow_add-result-2 c = let b : c.first_none.result ≤ c.args.n = found_le _ 
 
 pub returns-clause-overlap_value : goal.returns-clause-overlap_value
 returns-clause-overlap_value c =
-    twice_found _ (8192 * c.args.stretch) _ _ (omega arith) c.count_rules.ensures.counted _ c.first_twice.ensures
+    twice_found _ (8192 * c.args.stretch) _ _ (omega arith) c.count_rules.ensures _ c.first_twice.ensures
 
 pub returns-clause-gap_value : goal.returns-clause-gap_value
 returns-clause-gap_value c =
-    none_found _ (8192 * c.args.stretch) _ _ (omega arith) c.count_rules.ensures.counted _ c.first_none.ensures
+    none_found _ (8192 * c.args.stretch) _ _ (omega arith) c.count_rules.ensures _ c.first_none.ensures

@@ -1,20 +1,17 @@
-use Rattle.tag.proofs.TagLaws.{tags}
+use Rattle.std.proofs.Common.{rules, nat_eq}
+use Rattle.std.proofs.lemmas.Iterator.{YieldsList-from_slice}
+use Rattle.std.proofs.lemmas.Iterator.Search.{position_from_yields_List}
+use Rattle.tag.proofs.TagLaws.{tag-at, tag-none}
 use Rattle.tag.proofs.parse_tag.Goals as goal
 
-pub returns-then-split-text : goal.returns-then-split-text
-returns-then-split-text c = search tags
+pub returns-in-Some : goal.returns-in-Some
+returns-in-Some c =
+    tag-at _ _ _
+    (position_from_yields_List (λ n. nat_eq n 61) _ _ _ c.position.ensures.ran (YieldsList-from_slice c.args.text.now cc) (λ x b q k. search rules))
+    _ c.in-Some.is c.new.ensures
 
-pub overflow_add-from : goal.overflow_add-from
-overflow_add-from c = search tags
-
-pub slice_bounds-new-end-2 : goal.slice_bounds-new-end-2
-slice_bounds-new-end-2 c = search tags
-
-pub slice_bounds-new-count-2 : goal.slice_bounds-new-count-2
-slice_bounds-new-count-2 c = search tags
-
-pub slice_bounds-new-start-2 : goal.slice_bounds-new-start-2
-slice_bounds-new-start-2 c = search tags
-
-pub returns : goal.returns
-returns c = search tags
+pub returns-in-None : goal.returns-in-None
+returns-in-None c =
+    tag-none _ _ _
+    (position_from_yields_List (λ n. nat_eq n 61) _ _ _ c.position.ensures.ran (YieldsList-from_slice c.args.text.now cc) (λ x b q k. search rules))
+    c.in-None.is c.new-in-None.ensures

@@ -1,9 +1,9 @@
-use mathlib.Core.Path.{refl}
-use Rattle.tile.proofs.RowLaws.{zero-put}
+use Rattle.std.proofs.Common.{replicate, arith, ap, ◌∙◌}
+use Rattle.tile.proofs.RowLaws.{zeros-there}
 use Rattle.tile.proofs.put_zeros.Goals as goal
 
-pub loop-i-preserved : goal.loop-i-preserved
-loop-i-preserved c = (
-  zero-put (λ r. r.points) _ _ _ c.loop-i.invariant.0 refl,
-  zero-put (λ r. r.ways) _ _ _ c.loop-i.invariant.1 refl,
-)
+pub returns : goal.returns
+returns c =
+    zeros-there c.args.count c.args.points.now c.args.ways.now _ _ (omega arith) (omega arith)
+    (c.fill.ensures.after (λ y e. e) ∙ ap (λ n. replicate n 0) (omega arith))
+    (c.fill-2.ensures.after (λ y e. e) ∙ ap (λ n. replicate n 0) (omega arith))

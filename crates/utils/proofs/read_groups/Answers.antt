@@ -1,4 +1,4 @@
-use Rattle.std.proofs.Common.{◌≡◌, ◌+◌, ◌-◌, ◌<◌, sym, arith}
+use Rattle.std.proofs.Common.{◌≡◌, ◌+◌, ◌-◌, ◌<◌, refl, sym, arith}
 use Rattle.utils.proofs.VbeLaws.{groups-past, room-first, above-none, fits-group, fits_sum, fits-weight, room_next, loop-none, loop-past, loop-last, loop-more}
 use Rattle.utils.proofs.read_groups.Goals as goal
 
@@ -24,7 +24,7 @@ overflow_add-groups c =
     fits_sum _ _ _ _ _ c.loop-i.invariant.0 h c.requires.0 c.requires.1
 
 pub returns-then-b-lt128 : goal.returns-then-b-lt128
-returns-then-b-lt128 c = loop-last _ _ _ _ _ _ _ c.loop-i.invariant.1 _ (omega arith) (omega arith) c.wide-b.ensures c.if-b-lt128.true
+returns-then-b-lt128 c = loop-last _ _ _ _ _ _ _ c.loop-i.invariant.1 _ (omega arith) (omega arith) refl c.if-b-lt128.true
 
 pub overflow_mul-v : goal.overflow_mul-v
 overflow_mul-v c =
@@ -45,7 +45,7 @@ loop-i-preserved c =
     let f : c.args.at + (c.loop-i.i + 1) ≡ c.args.at + c.loop-i.i + 1 = omega arith in
     rw (e, f) (
       room_next _ _ _ _ c.loop-i.invariant.0 (omega arith),
-      loop-more _ _ _ _ _ _ _ c.loop-i.invariant.1 _ (omega arith) (omega arith) c.wide-b.ensures (omega arith),
+      loop-more _ _ _ _ _ _ _ c.loop-i.invariant.1 _ (omega arith) (omega arith) refl (omega arith),
     )
 
 pub returns : goal.returns

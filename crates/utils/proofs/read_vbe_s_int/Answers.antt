@@ -1,4 +1,4 @@
-use Rattle.std.proofs.Common.{arith}
+use Rattle.std.proofs.Common.{refl, arith}
 use Rattle.utils.proofs.VbeLaws.{ones, signed-one}
 use Rattle.utils.proofs.read_vbe_s_int.Goals as goal
 
@@ -7,4 +7,4 @@ returns-then-map-at c = search ones
 
 pub returns-then-b-lt128 : goal.returns-then-b-lt128
 returns-then-b-lt128 c =
-    signed-one c.args.map.now c.args.at c.wide-b.result _ _ (omega arith) c.wide-b.ensures c.if-b-lt128.true c.signed_of.type_inv c.signed_of.ensures c.plain_signed.ensures
+    signed-one c.args.map.now c.args.at _ _ _ (omega arith) refl c.if-b-lt128.true c.signed_of.type_inv c.signed_of.ensures c.plain_signed.ensures

@@ -1,5 +1,0 @@
-use Rattle.byte_source.proofs.ByteLaws.{parts}
-use Rattle.byte_source.proofs.be32.Goals as goal
-
-pub returns : goal.returns
-returns c = search parts

@@ -1,5 +1,0 @@
-use Rattle.quick_head.proofs.QuickLaws.{quicks}
-use Rattle.quick_head.proofs.quick_point_tags.Goals as goal
-
-pub returns : goal.returns
-returns c = search quicks
