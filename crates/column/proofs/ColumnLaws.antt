@@ -34,8 +34,8 @@ pub column-no : (d : Float) (zoom : ℕ) → 63 < zoom → no 18 [] ≡ column d
 unfolding column
 column-no d zoom h = rw (lt-leb zoom 63 h)
 
-pub column-ok : (d : Float) (zoom : ℕ) (n : Float) (z : ℤ) → zoom ≤ 63 → n ≡ as_float (2 ^ zoom) → z ≡ to_signed 31 (div binary64 (mul binary64 n (add binary64 d (of_bits binary64 4640537203540230144))) (of_bits binary64 4645040803167600640)) → ok (to_z w32 (of_z w32 z)) 0 ≡ column d zoom
+pub column-ok : (d : Float) (zoom : ℕ) (n : Float) (z : ℤ) → zoom ≤ 63 → n ≡ as_float (2 ^ zoom) → z ≡ to_signed 31 (div binary64 (mul binary64 n (add binary64 d (of_bits binary64 4640537203540230144))) (of_bits binary64 4645040803167600640)) → ok z 0 ≡ column d zoom
 unfolding column column_of
-column-ok d zoom n z h e g = rw (le-leb zoom 63 h, kept _ z g, e, degrees-180, degrees-360)
+column-ok d zoom n z h e g = rw (le-leb zoom 63 h, g, e, degrees-180, degrees-360)
 
 pub ruleset columns = (rules, tiles-at, longitude-no, longitude-ok, column-no, column-ok)

@@ -2,6 +2,7 @@
 #![tactic(auto)]
 
 ghost use Rattle.std.specs.Prelude.{◌≡◌, ◌^◌, ◌≤◌};
+ghost use Rattle.std.specs.Float.Ieee as Ieee;
 ghost use Rattle.column.specs.Column.{as_float, longitude, column, longitude_res, column_res};
 
 use error::Refusal;
@@ -28,6 +29,15 @@ pub fn tilex2long(x: u32, zoom: u8) -> Result<Degrees, Refusal>
     Ok(Degrees(x as f64 / zoom_tiles(zoom) * 360.0 - 180.0))
 }
 
+// A float cut to 32 bits: toward zero, 0 for a NaN, and the ends saturate. It names one call of the library, in which two edits plant
+// their slip.
+#[tactic(auto, using(crate::proofs::ColumnLaws::kept))]
+fn to_i32(x: f64) -> i32
+    ensures { result ≡ Ieee.to_signed 31 x }
+{
+    std::num::saturating_f64_to_i32(x)
+}
+
 // The column that a longitude lies in.
 pub fn tile_column(degrees: Degrees, zoom: u8) -> Result<i32, Refusal>
     ensures { column_res result ≡ column degrees.0 zoom }
@@ -35,7 +45,5 @@ pub fn tile_column(degrees: Degrees, zoom: u8) -> Result<i32, Refusal>
     if MAX_ZOOM < zoom {
         return Err(Refusal::ZoomTooLarge);
     }
-    let column = zoom_tiles(zoom) * (degrees.0 + 180.0) / 360.0;
-    // toward zero, 0 for a NaN, and the ends saturate
-    Ok(std::num::saturating_f64_to_i32(column))
+    Ok(to_i32(zoom_tiles(zoom) * (degrees.0 + 180.0) / 360.0))
 }

@@ -229,6 +229,9 @@ module _ (s : List ℕ) (at n : ℕ) (k : (i : ℕ) → Fits w8 (get_or s i 0)) 
       let p7 = pass-next (i + 6) (i + 7) (i + 8) (i + 7) (l - 6 + (get_or s (i + 2) 0 / 128 + get_or s (i + 3) 0 / 128 + get_or s (i + 4) 0 / 128 + get_or s (i + 5) 0 / 128 + get_or s (i + 6) 0 / 128 + get_or s (i + 7) 0 / 128)) (l - 7 + (get_or s (i + 2) 0 / 128 + get_or s (i + 3) 0 / 128 + get_or s (i + 4) 0 / 128 + get_or s (i + 5) 0 / 128 + get_or s (i + 6) 0 / 128 + get_or s (i + 7) 0 / 128 + get_or s (i + 8) 0 / 128)) (omega arith) (omega arith) (omega arith) (omega arith) (omega arith) e6.1 p6 in
       pass-next (i + 7) (i + 8) (i + 9) (i + 8) (l - 7 + (get_or s (i + 2) 0 / 128 + get_or s (i + 3) 0 / 128 + get_or s (i + 4) 0 / 128 + get_or s (i + 5) 0 / 128 + get_or s (i + 6) 0 / 128 + get_or s (i + 7) 0 / 128 + get_or s (i + 8) 0 / 128)) (l - 8 + (get_or s (i + 2) 0 / 128 + get_or s (i + 3) 0 / 128 + get_or s (i + 4) 0 / 128 + get_or s (i + 5) 0 / 128 + get_or s (i + 6) 0 / 128 + get_or s (i + 7) 0 / 128 + get_or s (i + 8) 0 / 128 + get_or s (i + 9) 0 / 128)) (omega arith) (omega arith) (omega arith) (omega arith) (omega arith) e7.1 p7
 
+  pub open-small : (i : ℕ) → open_in s i ≤ 8
+  open-small i = omega (arith, k (i + 2), k (i + 3), k (i + 4), k (i + 5), k (i + 6), k (i + 7), k (i + 8), k (i + 9))
+
 -- by the code's tests
 module _ (s : List ℕ) (i : ℕ) where
   pub start-next : get_or s (i + 1) 0 < 128 → i + 2 ≡ start_of s i

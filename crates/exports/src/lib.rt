@@ -291,6 +291,10 @@ fn try_quick(
 ) -> bool
     ensures { QuickOf result (Crosses (next_wire (lending (words.old ∷ ids.old ∷ state.old ∷ []) signed_words.old degrees.old)) (NextOf map.now format.entry.letters.now format.entry.layout «stream») (wire 0 (words.new ∷ ids.new ∷ state.new ∷ []) signed_words.new degrees.new)) (wire 0 (words.new ∷ ids.new ∷ state.new ∷ []) signed_words.new degrees.new ≡ lending (words.old ∷ ids.old ∷ state.old ∷ []) signed_words.old degrees.old) }
 {
+    if let Some(end) = quick_next::end_step(stream) {
+        stream_wire::put_end_step(end, stream, state, words);
+        return true;
+    }
     if !quick_next::is_quick(format.layout, stream) {
         return false;
     }

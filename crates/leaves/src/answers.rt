@@ -43,6 +43,8 @@ fn stored_text(map: &[u8], span: Span, at: usize) -> Words {
     report::push(words, at as u64)
 }
 
+// Out of line: else the room for its replaced text, 1.1 MB, would be made for each record.
+#[inline(never)]
 fn text_at_start(map: &[u8]) -> Result<Words, Refusal> {
     let (span, at) = utils::read_vbe_u(map, 0)?;
     Ok(stored_text(map, span, at))

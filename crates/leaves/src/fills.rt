@@ -13,7 +13,8 @@ fn text_of_front(map: &mut [u8], prefix: &[u8], fill: usize) -> Words {
     answers::answer(b't', &map[..size])
 }
 
-// The input is the number of filling bytes, and then the prefix.
+// The input is the number of filling bytes, and then the prefix. Out of line: else each record would take the room of its map, 1.1 MB.
+#[inline(never)]
 pub(crate) fn filled_text(input: &[u8]) -> Words {
     let Ok((fill, at)) = byte_source::read_u32_be(input, 0) else {
         return report::no_words();

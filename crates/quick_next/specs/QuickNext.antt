@@ -6,6 +6,7 @@ use Rattle.tile_layout.specs.declared.TileLayout.{TileLayout}
 use Rattle.visit.specs.declared.Turn.{Turn}
 use Rattle.visit.specs.declared.Turn.TheVariants as turn
 use Rattle.visit.specs.declared.Stream.{Stream}
+use Rattle.visit.specs.declared.TileEnd.{TileEnd}
 use Rattle.visit.specs.Visit.{NextStep}
 use Rattle.visit.specs.declared.Given.TheVariants as given
 use Rattle.quick_point.specs.declared.QuickPoint.{QuickPoint}
@@ -26,6 +27,10 @@ way_step r ids = record {
   answer = Ok (given.Way (record { bitmap = r.bitmap; layer = r.layer; tag_ids = record { ids = ids; count = r.count }; plain = true }));
   stream = r.stream;
 }
+
+-- what the end says, of a stream that stays as it is
+abbrev pub end_step : TileEnd → Stream → NextStep
+end_step e s = record { answer = Ok (given.End e); stream = s }
 
 abbrev pub point_step : PointStep → (ids : List ℕ) → NextStep
 point_step r ids = record {

@@ -2,17 +2,17 @@
 // visit says what comes next.
 #![tactic(auto)]
 
-ghost use Rattle.std.specs.Prelude.{◌≡◌, IfSome};
+ghost use Rattle.std.specs.Prelude.{◌≡◌, IfSome, List, ℕ};
 ghost use Rattle.agreement.specs.Stream.{on_next};
-ghost use Rattle.tile_layout.specs.TileLayout.{tile_kinds, format_of};
+ghost use Rattle.tile_layout.specs.TileLayout.{TileKinds, tile_kinds, format_of};
 ghost use Rattle.visit.specs.Visit.{state_of, shown_step, next_step};
-ghost use Rattle.quick_next.specs.QuickNext.{is_quick, given_point, way_step, point_step};
+ghost use Rattle.quick_next.specs.QuickNext.{is_quick, given_point, way_step, point_step, end_step};
 
 use byte_source::Span;
 use quick_point::QuickPoint;
 use tile_layout::{TileFormat, TileLayout};
 use types::Position;
-use visit::{Remaining, Stream, Turn, WaitingWay};
+use visit::{Remaining, Stream, TileEnd, Turn, WaitingWay};
 
 // A way's head but for its tag ids, and the stream in which the way then waits. Every number was plain.
 #[derive(Clone, Copy)]
@@ -49,6 +49,20 @@ pub fn is_quick(layout: TileLayout, stream: Stream) -> bool
         return true;
     }
     0 < rest.ways
+}
+
+// What the end says, where nothing remains: read off the stream, whatever the map and its tags. By itself, so that it is written as it stands; with
+// a point and a head beside it the compiler would make room for theirs.
+pub fn end_step(stream: Stream) -> Option<TileEnd>
+    ensures { (l : TileKinds) (m : List ℕ) → IfSome result (λ e. next_step (end_step e «stream») ≡ shown_step (on_next (format_of l) m (state_of «stream»))) }
+{
+    let Turn::Idle(rest) = stream.turn else {
+        return None;
+    };
+    if 0 < rest.points || 0 < rest.ways {
+        return None;
+    }
+    Some(stream.end)
 }
 
 // The next way's head, after the last point. Its tag ids go to the front of `ids`, with zeros behind them; if there is no answer, anything

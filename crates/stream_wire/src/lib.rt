@@ -1,11 +1,11 @@
 // What a stream answers, as words for programs in other languages. An answer writes its own words; the others keep their values.
 #![tactic(auto)]
 
-ghost use Rattle.std.specs.Prelude.{◌≡◌, List, [], ◌∷◌, ℕ, Float};
+ghost use Rattle.std.specs.Prelude.{◌≡◌, List, [], ◌∷◌, ℕ, ℤ, Float};
 ghost use Rattle.std.proofs.lemmas.List.Edits.{sets};
 ghost use Rattle.wire.specs.Wire.{wire, lending};
 ghost use Rattle.wire.specs.Elevation.{metre_words};
-ghost use Rattle.quick_next.specs.QuickNext.{way_step, point_step};
+ghost use Rattle.quick_next.specs.QuickNext.{way_step, point_step, end_step};
 ghost use Rattle.stream_wire.specs.Streams.{stream_words, turn_in, stream_in, selection_in, goes_past, opened_wire, put_point, put_head, put_end, put_body, next_wire, accept_wire, decline_wire};
 
 use error::{LentRefusal, Refusal};
@@ -194,6 +194,14 @@ fn put_head(
     signed_words[0] = layer;
     let row = tags.ids;
     *ids = row;
+}
+
+// The end, and the stream as it stays.
+pub fn put_end_step(said: TileEnd, stream: Stream, state: &mut [u64; 8], words: &mut [u64; 22])
+    ensures { (ids : List ℕ) (signs : List ℤ) (place : List Float) → wire 0 (words.new ∷ ids ∷ state.new ∷ []) signs place ≡ next_wire (lending (words.old ∷ ids ∷ state.old ∷ []) signs place) (end_step said «stream») }
+{
+    put_end(said, words);
+    put_stream(stream, state);
 }
 
 // A way's head that a quick read gave, but for its tag ids, and the state in which it waits.

@@ -7,7 +7,7 @@ use mathlib.Core.List.{List, [], ◌∷◌}
 use mathlib.Core.Bool.{Bool, true, false, cond}
 use lib.Dec.{eqb, ltb}
 use lib.ListN.{length, take, drop, get_or, drop_of_length-le, length-drop}
-use lib.Seq.{take_all}
+use lib.Seq.{length-take-le, take_all}
 use borrow.Author.Rules.{rules}
 use Rattle.parsing.proofs.Steps.{eqb_yes, eqb_no}
 use borrow.Author.Tests.{ltb-true, ltb-false}
@@ -43,6 +43,22 @@ found_none k n r e h = by (ltb k n) refl (sym e ∙ h)
     by : (b : Bool) → ltb k n ≡ b → cond b (Some k) None ≡ None → n ≤ k
     by true t q = cc
     by false t q = ltb-false k n t
+
+-- the place of the first `=`, or of the end, is no further than the end
+pub equals-le : (s : List ℕ) → equals_at s ≤ length s
+unfolding equals_at
+equals-le [] = omega arith
+equals-le (b ∷ s) = go (eqb b 61) (equals-le s)
+  where
+    go : (x : Bool) → equals_at s ≤ length s → cond x 0 (suc (equals_at s)) ≤ suc (length s)
+    go true h = omega arith
+    go false h = omega arith
+
+pub split-in : (s : List ℕ) (n : ℕ) → n ≡ equals_at s → n ≤ length s
+split-in s n e = rw e (equals-le s)
+
+pub split-count : (s : List ℕ) (n : ℕ) → n ≡ equals_at s → n ≡ length (take n s)
+split-count s n e = sym (length-take-le n s (split-in s n e))
 
 -- the letter, from a place on
 drop-two : (s : List ℕ) (at : ℕ) → at + 1 < length s → drop at s ≡ get_or s at 0 ∷ get_or s (at + 1) 0 ∷ drop (at + 2) s

@@ -1,5 +1,5 @@
 -- Laws of the characters of a text, of the length of the replaced text, and of writing it.
-use Rattle.std.proofs.Common.{◌≡◌, ℕ, ◌+◌, ◌-◌, ◌/◌, ◌^◌, ◌<◌, ◌≤◌, Bool, true, false, leb, List, [], ◌∷◌, ◌++◌, length, take, drop, set, sym, refl, ap, ◌∙◌, add-one, arith, length-append, length-drop, length-set, length-take, drop-drop, le-leb, leb-false, leb-true}
+use Rattle.std.proofs.Common.{◌≡◌, ℕ, zero, suc, ◌+◌, ◌-◌, ◌/◌, ◌^◌, ◌<◌, ◌≤◌, Bool, true, false, leb, List, [], ◌∷◌, ◌++◌, length, get_or, take, drop, set, sym, refl, ap, ◌∙◌, add-one, sub-one, arith, length-append, length-drop, length-set, length-take, drop-drop, le-leb, leb-false, leb-true}
 use native.Mathlib.Numerals.{add-two}
 use lib.Seq.{sets, length-sets, take-length}
 use borrow.Author.Tests.{lt-leb}
@@ -13,7 +13,7 @@ use Rattle.text.specs.declared.Sequence.TheVariants.{Char, Ill}
 use Rattle.text.specs.Utf8.{sequence_at, size_of, code_of, written_of, sequence_bytes, valid, sequences, codes_of, code_points, bytes_of_all, replaced}
 use Rattle.text.specs.Writing.{Writing, place_behind, writing}
 use Rattle.arithmetic.proofs.CutLaws.{cut_fits, cut-add, cut_small}
-use Rattle.text.proofs.Utf8Laws.{sequences-here, sequences-end, sequence-some, sequence-fits, texts}
+use Rattle.text.proofs.Utf8Laws.{sequences-here, sequences-end, sequence-some, sequence-fits, drop_here, texts}
 use Rattle.text.proofs.ReplacedLaws.{valid-kept, replaced-most}
 
 -- what is left, from a place on
@@ -107,6 +107,24 @@ module _ (s : List ℕ) (start len : ℕ) where
 
   pub room-start : start ≤ len → leb (length (replaced s)) (len - start) ≡ leb (place_behind s start) len
   room-start h = leb-sub start (length (replaced s)) len h
+
+-- a byte copied, and what is left
+copy_step : (s l t : List ℕ) (a b left : ℕ) → 0 < left → a + left ≤ length s → sets l b (take left (drop a s)) ≡ t → sets (set l b (get_or s a 0)) (b + 1) (take (left - 1) (drop (a + 1) s)) ≡ t
+copy_step s l t a b zero z h f = absurd (omega arith)
+copy_step s l t a b (suc left) z h f =
+    let d : drop a s ≡ get_or s a 0 ∷ drop (a + 1) s = drop_here s a (get_or s a 0) (omega arith) refl in
+    rw (add-one b, sub-one (suc left)) (rw d at f)
+
+module _ (s l t : List ℕ) (from to n i : ℕ) where
+  pub copy_more : i < n → from + n ≤ length s → sets l (to + i) (take (n - i) (drop (from + i) s)) ≡ t → sets (set l (to + i) (get_or s (from + i) 0)) (to + (i + 1)) (take (n - (i + 1)) (drop (from + (i + 1)) s)) ≡ t
+  copy_more h k f =
+      let a : from + (i + 1) ≡ from + i + 1 = omega arith in
+      let b : to + (i + 1) ≡ to + i + 1 = omega arith in
+      let c : n - (i + 1) ≡ n - i - 1 = omega arith in
+      rw (a, b, c) (copy_step s l t (from + i) (to + i) (n - i) (omega arith) (omega arith) f)
+
+  pub copy-end : n ≤ i → sets l (to + i) (take (n - i) (drop (from + i) s)) ≡ t → l ≡ t
+  copy-end h f = let e : n - i ≡ 0 = omega arith in rw e at f
 
 -- a sequence written
 module _ (s : List ℕ) (at n to to' : ℕ) (p : Sequence) (e : p ≡ sequence_at s at) (q : n ≡ size_of p) (h : at < length s) (g : to' ≡ to + written_of p) where
@@ -232,6 +250,8 @@ pub ruleset writes = (
   start-past,
   room-ample,
   room-start,
+  copy_more,
+  copy-end,
   write-more,
   write-on,
   write_kept,

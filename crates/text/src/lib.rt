@@ -191,12 +191,15 @@ fn replaced_fits(text: &[u8], start: usize, len: usize) -> bool
     true
 }
 
-// `n` bytes of the text, from `from` on, written to the buffer from `to` on.
+// `n` bytes of the text, from `from` on, written to the buffer from `to` on. Byte for byte: `copy_from_slice` calls memmove, which
+// programs that link the library would have to bring.
 fn copy(text: &[u8], from: usize, n: usize, buffer: &mut [u8], to: usize)
     requires { (from + n ≤ length text.now) × (to + n ≤ length buffer.old) }
     ensures { buffer.new ≡ sets buffer.old to (take n (drop from text.now)) }
 {
-    buffer[to..to + n].copy_from_slice(&text[from..from + n]);
+    for i in 0..n {
+        buffer[to + i] = text[from + i];
+    }
 }
 
 // A sequence of the text, from `at` on, written to the buffer from `to` on; the place behind it.

@@ -225,6 +225,16 @@ pub record GivenAs (stored : Res Tile) (places : List ℕ) (lent : TileLists) (v
   pub points : left.points ≡ sets lent.points 0 (row_points (rows_of_tile tile))
   pub ways : left.ways ≡ sets lent.ways 0 (row_ways (rows_of_tile tile))
 
+-- what collecting refuses, reading the whole tile refuses too
+pub read_is : (stored : Res Tile) (places : List ℕ) (lent : TileLists) (r : LentRefusal) (left : TileLists) → CollectIs stored places lent (Err r) left → TileIs stored places lent.places (Err r) left.places
+read_is stored places lent r left i =
+    ap (λ x. record { answer = x; lists = left.places }) (go (listed stored places lent.places).answer i.answer)
+    ∙ ap (λ (x : List ℕ). record { answer = (listed stored places lent.places).answer; lists = x }) i.list
+  where
+    go : (t : Res Tile) → ◌≡◌ {A = Res TileSummary} (lent_answer (Err r)) (map_res summary_of t) → ◌≡◌ {A = Res Tile} (lent_answer (Err r)) t
+    go (ok v n) q = no_ok q
+    go (no n v) q = cc
+
 pub given-as : (stored : Res Tile) (places : List ℕ) (lent : TileLists) (v : TileSummary) (left : TileLists) → CollectIs stored places lent (Ok v) left → GivenAs stored places lent v left
 given-as stored places lent v left i =
     let t = held.stored summary_of v 0 (listed stored places lent.places).answer i.answer in

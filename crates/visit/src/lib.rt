@@ -194,27 +194,8 @@ fn next_way(
     Ok((Given::Way(streamed_head(head)), Stream { turn, end }))
 }
 
-// While no way waits: a point, then a way's head, at last the end.
-fn next_idle(
-    map: &[u8],
-    format: TileFormat<'_>,
-    rest: Remaining,
-    end: TileEnd,
-) -> Result<(Given, Stream), Refusal>
-    ensures { next_of result (idle rest.points rest.ways rest.at rest.way (end_of end)) ≡ shown_step (on_next (format_of (tile_kinds format.entry)) map.now (idle rest.points rest.ways rest.at rest.way (end_of end))) }
-{
-    if 0 < rest.points {
-        return next_point(map, format, rest, end);
-    }
-    if 0 < rest.ways {
-        return next_way(map, format, rest, end);
-    }
-    let turn = Turn::Idle(rest);
-    Ok((Given::End(end), Stream { turn, end }))
-}
-
 // The next point; after the last point the next way's head, which then waits; at last the end, again and again. 16 while a way waits.
-// Inline values are skipped by the listed letters.
+// Inline values are skipped by the listed letters. The end is answered here: handed up with the others it would be copied with room for a point.
 pub fn next(map: &[u8], format: TileFormat<'_>, stream: Stream) -> Answered<Result<Given, Refusal>>
     ensures { next_step result ≡ shown_step (on_next (format_of (tile_kinds format.entry)) map.now (state_of «stream»)) }
 {
@@ -224,7 +205,16 @@ pub fn next(map: &[u8], format: TileFormat<'_>, stream: Stream) -> Answered<Resu
             stream,
         };
     };
-    kept_if_refused(next_idle(map, format, rest, stream.end), stream)
+    if 0 < rest.points {
+        return kept_if_refused(next_point(map, format, rest, stream.end), stream);
+    }
+    if 0 < rest.ways {
+        return kept_if_refused(next_way(map, format, rest, stream.end), stream);
+    }
+    Answered {
+        answer: Ok(Given::End(stream.end)),
+        stream,
+    }
 }
 
 // The body of the way that waits, and the stream behind it.

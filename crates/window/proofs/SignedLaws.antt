@@ -36,6 +36,10 @@ order half (pos a) (negsuc b) f g = sym (lt-leb (half + a) (half - 1 - b) (omega
 order half (negsuc a) (pos b) f g = sym (le-leb (half - 1 - a) (half + b) (omega arith))
 order half (negsuc a) (negsuc b) f g = leb-same b a (half - 1 - a) (half - 1 - b) (λ h. omega arith) (λ h. omega arith)
 
+pub biased-small : (half : ℕ) (a : ℤ) → mag a < half → biased half a < half + half
+biased-small half (pos a) f = omega arith
+biased-small half (negsuc a) f = omega arith
+
 pub quarter-biased : (z : ℤ) → mag z < 2 ^ 63 → biased (2 ^ 63) z / 4 ≡ biased (2 ^ 61) (quarter z)
 quarter-biased (pos n) h = omega arith
 quarter-biased (negsuc n) h = omega arith
