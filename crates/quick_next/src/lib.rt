@@ -1,5 +1,5 @@
-// The stream's next by the quick readers, where they have the answer: a point or a way's head of a map that is no debug map. Where they have none, crate
-// visit says what comes next.
+// The stream's next by the quick readers, where they have the answer: a point or a way's head of a map that is no debug map, and the end of any tile.
+// Where they have none, crate visit says what comes next.
 #![tactic(auto)]
 
 ghost use Rattle.std.specs.Prelude.{◌≡◌, IfSome, List, ℕ};
